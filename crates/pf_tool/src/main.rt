@@ -1,0 +1,4 @@
+//! The program `pf_tool`.
+#![tactic(auto)]
+
+fn main() {}
