@@ -1,1 +1,4 @@
+//! AES-128 and AES-128-GCM with a zero IV.
 #![tactic(auto)]
+
+mod vectors;

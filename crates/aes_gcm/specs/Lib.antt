@@ -1,0 +1,5 @@
+pub mod Field
+pub mod Cipher
+pub mod Ghash
+pub mod Gcm
+pub mod Vectors
