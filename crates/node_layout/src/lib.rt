@@ -1,6 +1,11 @@
 //! The layout of a protected file of version 1.0: the metadata node, and the path that it holds.
 #![tactic(auto)]
 
+mod bytes;
+mod damage;
+mod metadata;
 mod path;
 
+pub use damage::{Damage, Kind};
+pub use metadata::{MetaPlain, MetaSecret, PlainFault, SecretFault};
 pub use path::PathText;

@@ -53,6 +53,17 @@ impl PathText {
         &self.field[..count]
     }
 
+    /// The path as text.
+    pub fn as_str(&self) -> &str
+        ensures same { result.now ≡ self.now }
+        ensures is_path { IsPath self.now }
+    {
+        match str::from_utf8(self.bytes()) {
+            Ok(text) => text,
+            Err(_) => unreachable!(),
+        }
+    }
+
     // The path that this field holds. `None` where it holds none.
     pub(crate) fn from_field(field: &[u8; 768]) -> Option<PathText>
         ensures is_field { IsSome result ↔ IsPathField field.now }
