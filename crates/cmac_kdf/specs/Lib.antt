@@ -1,2 +1,3 @@
 pub mod Cmac
 pub mod MetadataKey
+pub mod Vectors

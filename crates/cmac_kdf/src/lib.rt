@@ -3,6 +3,7 @@
 
 mod chain;
 mod metadata;
+mod vectors;
 
 pub use chain::cmac;
 pub use metadata::metadata_key;
