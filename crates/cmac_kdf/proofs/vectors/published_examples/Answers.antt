@@ -11,3 +11,7 @@ returns-clause-empty c = refl
 pub returns-clause-block : goal.returns-clause-block
 unfolding cipher after_round round_key schedule sub_byte affine inverse power times cmac first_subkey second_subkey
 returns-clause-block c = refl
+
+pub returns-clause-part : goal.returns-clause-part
+unfolding cipher after_round round_key schedule sub_byte affine inverse power times cmac first_subkey second_subkey
+returns-clause-part c = refl
