@@ -4,8 +4,10 @@
 mod bytes;
 mod damage;
 mod metadata;
+mod opening;
 mod path;
 
 pub use damage::{Damage, Kind};
 pub use metadata::{MetaPlain, MetaSecret, PlainFault, SecretFault};
+pub use opening::open_meta;
 pub use path::PathText;
