@@ -6,5 +6,4 @@ pub fn published_examples()
     ensures empty { EmptyTagged }
     ensures block { BlockTagged }
     ensures part { PartTagged }
-{
-}
+{}
