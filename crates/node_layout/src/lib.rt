@@ -6,6 +6,8 @@ mod damage;
 mod metadata;
 mod opening;
 mod path;
+#[cfg(test)]
+mod tests;
 
 pub use damage::{Damage, Kind};
 pub use metadata::{MetaPlain, MetaSecret, PlainFault, SecretFault};
