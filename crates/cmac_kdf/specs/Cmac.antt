@@ -1,5 +1,5 @@
 -- CMAC of SP 800-38B over AES-128, with the whole last block as the tag.
-use Rattle.std.specs.Prelude.{ℕ, ◌-◌, ◌*◌, ◌/◌, ◌%◌, ◌^◌, ◌==◌, bit_xor, nat_lt, List, [], ◌∷◌, ◌++◌, length, drop, fold, replicate, if◌then◌else◌}
+use Rattle.std.specs.Prelude.{ℕ, ◌-◌, ◌*◌, ◌/◌, ◌%◌, ◌^◌, ◌==◌, bit_xor, nat_lt, List, ◌∷◌, ◌++◌, length, drop, fold, replicate, if◌then◌else◌}
 use Rattle.std.specs.Int.{to_be_bytes, from_be_bytes, w128}
 use Rattle.std.specs.Simd.{first_chunks}
 use Rattle.aes_gcm.specs.Cipher.{cipher, xor_bytes}

@@ -1,10 +1,10 @@
 -- A path in its field, and the path that a field holds.
-use Rattle.std.proofs.Common.{◌≡◌, ◌≢◌, ◌==◌, ◌⊎◌, ℕ, zero, suc, ◌+◌, ◌-◌, ◌<◌, ◌≤◌, Bool, true, false, List, [], ◌∷◌, ◌++◌, length, get_or, take, drop, replicate, refl, sym, ap, subst, ◌∙◌, arith, rules, All}
+use Rattle.std.proofs.Common.{◌≡◌, ◌≢◌, ◌==◌, ℕ, ◌-◌, ◌<◌, ◌≤◌, false, List, [], ◌∷◌, ◌++◌, length, get_or, take, drop, replicate, refl, sym, ap, subst, ◌∙◌, arith, All}
 use Rattle.std.specs.List.{before_first, position_or_len}
 use Rattle.std.specs.Str.{IsUtf8}
-use Rattle.std.proofs.lemmas.List.{length-append, length-replicate, get_or_append_left, get_or-append_right, get_or-replicate, get_or_past, take_at, drop_at, take-append-drop, take_rest, length-drop, length-take, length-take-le, get_or-drop, get_or-take, same_lists}
-use Rattle.std.proofs.lemmas.List.Elements.{All-replicate, All-take, All-tail, All-head, All-from_get_or}
-use Rattle.std.proofs.lemmas.List.Sums.{position_or_len_is, fails_before_first, prefix_len-le-length}
+use Rattle.std.proofs.lemmas.List.{length-append, length-replicate, get_or_append_left, get_or-append_right, get_or-replicate, take_at, drop_at, take-append-drop, take_rest, length-drop, length-take, get_or-take}
+use Rattle.std.proofs.lemmas.List.Elements.{All-replicate, All-tail, All-head, All-from_get_or}
+use Rattle.std.proofs.lemmas.List.Sums.{position_or_len_is, fails_before_first}
 use Rattle.std.proofs.lemmas.List.Folds.{length-prefix_len}
 use Rattle.std.proofs.lemmas.Bool.Decides.{nat_tests}
 use Rattle.node_layout.specs.Metadata.{IsPath, IsPathField, path_field}

@@ -1,11 +1,11 @@
 -- The text of an encrypted part, by its places.
-use Rattle.std.proofs.Common.{◌≡◌, ℕ, ◌+◌, ◌-◌, ◌<◌, ◌≤◌, ◌^◌, List, [], ◌∷◌, ◌++◌, length, get_or, take, drop, replicate, refl, sym, ap, subst, ◌∙◌, arith, rules, append_assoc, w64, ⊎_elim}
+use Rattle.std.proofs.Common.{◌≡◌, ℕ, ◌+◌, ◌-◌, ◌<◌, ◌≤◌, List, ◌++◌, length, get_or, take, drop, replicate, refl, sym, ap, ◌∙◌, arith, append_assoc, w64, ⊎_elim}
 use Rattle.std.proofs.lemmas.Bool.{cases_lt}
 use Rattle.std.specs.Int.{to_le_bytes, from_le_bytes}
 use Rattle.std.proofs.Math.Seq.{take-add}
 use Rattle.std.proofs.lemmas.List.{length-append, length-replicate, length-take-le, length-take, length-drop, get_or-take, get_or-drop, get_or_past, take_at, drop_at, take_all}
 use Rattle.std.proofs.lemmas.Nat.{from_le_bytes-to_le_bytes_8}
-use Rattle.node_layout.specs.Metadata.{IsPath, path_field, IsMetaText, meta_text}
+use Rattle.node_layout.specs.Metadata.{IsPath, path_field, IsMetaText}
 use Rattle.node_layout.specs.Faults.{size_at}
 
 -- the length of a piece within a list
@@ -35,13 +35,13 @@ replaced xs a a' b b' c d e h is same = cc
 -- what the tests of a reader show
 pub IsMetaText-from_fields : (part path : List ℕ) (size : ℕ) → length part ≡ 3880 → IsPath path → take 768 part ≡ path_field path → to_le_bytes w64 size ≡ take 8 (drop 768 part) → size ≤ 4294967296 → IsMetaText part path size (take 16 (drop 776 part)) (take 16 (drop 792 part)) (take 3072 (drop 808 part))
 IsMetaText-from_fields part path size l is field number le = record {
-    path_is = is;
-    not_large = le;
-    root_key_length = length-piece 776 16 part (omega arith);
-    root_tag_length = length-piece 792 16 part (omega arith);
-    first_length = length-piece 808 3072 part (omega arith);
-    text_is = replaced part (take 768 part) (path_field path) (take 8 (drop 768 part)) (to_le_bytes w64 size) _ _ _ (in_fields part l) field number;
-  }
+  path_is = is;
+  not_large = le;
+  root_key_length = length-piece 776 16 part (omega arith);
+  root_tag_length = length-piece 792 16 part (omega arith);
+  first_length = length-piece 808 3072 part (omega arith);
+  text_is = replaced part (take 768 part) (path_field path) (take 8 (drop 768 part)) (to_le_bytes w64 size) _ _ _ (in_fields part l) field number;
+}
 
 pub length-path_field : (path : List ℕ) → IsPath path → length (path_field path) ≡ 768
 length-path_field path h = let long = h.not_long in omega (arith, length-append path (replicate (768 - length path) 0), length-replicate {A = ℕ} (768 - length path) 0)

@@ -18,7 +18,9 @@ pub fn open_meta(user: &[u8; 16], node: &[u8; 4096]) -> Result<MetaSecret, Kind>
     ensures opened { IfOk result (OpensTo user.now node.now) }
     ensures refused { IfErr result (IsOpenFault user.now node.now) }
 {
-    let key = Key::new(&metadata_key(user, &array_at(node, 10)));
+    let nonce = array_at(node, 10);
+    let derived = metadata_key(user, &nonce);
+    let key = Key::new(&derived);
     let tag = array_at(node, 42);
     let mut part: [u8; 3880] = array_at(node, 59);
     if !open_in_place(&key, &[], &mut part, &tag) {

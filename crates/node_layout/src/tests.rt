@@ -8,6 +8,7 @@ use std::process::Abort;
 use std::str;
 
 const USER: [u8; 16] = [7; 16];
+
 const NONCE: [u8; 32] = [9; 32];
 
 fn is_path(bytes: &[u8]) -> bool {
@@ -65,7 +66,11 @@ fn each_byte_of_magic_and_version_counts(rt: HostRuntime) {
     for at in 0..8 {
         let mut node = node_of(&[5; 16], &[0; 3880]);
         node[at] ^= 1;
-        assert_eq!(rt; MetaPlain::read(&node), Err(PlainFault::NotProtected), "at {at}");
+        assert_eq!(rt;
+            MetaPlain::read(&node),
+            Err(PlainFault::NotProtected),
+            "at {at}"
+        );
     }
     for (at, major, minor) in [(8usize, 2, 0), (9, 1, 2)] {
         let mut node = node_of(&[5; 16], &[0; 3880]);
@@ -102,9 +107,16 @@ fn fault_of(path: &[u8], size: u64) -> Option<SecretFault>
 fn a_text_needs_a_padded_path_and_a_size_within_the_limit(rt: HostRuntime) {
     assert_eq!(rt; fault_of(b"dir/note", 1 << 32), None);
     let size = (1 << 32) + 1;
-    assert_eq!(rt; fault_of(b"dir/note", size), Some(SecretFault::BadSize { size }));
+    assert_eq!(rt;
+        fault_of(b"dir/note", size),
+        Some(SecretFault::BadSize { size })
+    );
     for path in [&b""[..], b"a\0b", b"\xc3", &[b'a'; 768]] {
-        assert_eq!(rt; fault_of(path, size), Some(SecretFault::BadPathText), "of {path:?}");
+        assert_eq!(rt;
+            fault_of(path, size),
+            Some(SecretFault::BadPathText),
+            "of {path:?}"
+        );
     }
 }
 
@@ -132,7 +144,10 @@ fn a_sealed_node_opens_to_its_fields(rt: HostRuntime) {
     let Ok(plain) = MetaPlain::read(&node) else {
         panic!(rt; "no metadata node");
     };
-    assert_eq!(rt; u128::from_be_bytes(plain.tag), 0x26aa_c67f_6990_85be_66be_9aa7_6908_01ed);
+    assert_eq!(rt;
+        u128::from_be_bytes(plain.tag),
+        0x26aa_c67f_6990_85be_66be_9aa7_6908_01ed
+    );
     let Ok(secret) = open_meta(&USER, &node) else {
         panic!(rt; "the node does not open");
     };

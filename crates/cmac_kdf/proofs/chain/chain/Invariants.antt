@@ -1,4 +1,4 @@
-use Rattle.std.proofs.Common.{◌≡◌, ℕ, List, fold, replicate, take}
+use Rattle.std.proofs.Common.{◌≡◌, fold, replicate, take}
 use Rattle.cmac_kdf.specs.Cmac.{chained}
 use Rattle.cmac_kdf.proofs.chain.chain.Given as goal
 

@@ -1,8 +1,8 @@
-use Rattle.std.proofs.Common.{rules, arith, ◌≡◌, ◌≤◌, ◌<◌, ◌-◌, ◌*◌, ◌/◌, ◌∷◌, ◌++◌, ◌∙◌, ap, sym, refl, replicate, length, take, drop, fold, ℕ, zero, suc, List, []}
+use Rattle.std.proofs.Common.{arith, ◌≡◌, ◌≤◌, ◌-◌, ◌*◌, ◌/◌, ◌∷◌, ◌∙◌, ap, refl, replicate, length, take, drop, fold, ℕ, zero, suc, List}
 use Rattle.std.specs.Simd.{first_chunks}
 use Rattle.std.proofs.lemmas.List.{take_rest}
-use Rattle.aes_gcm.specs.Cipher.{xor_bytes, cipher}
-use Rattle.cmac_kdf.specs.Cmac.{cmac, chained, finished, blocks_before_last}
+use Rattle.aes_gcm.specs.Cipher.{cipher}
+use Rattle.cmac_kdf.specs.Cmac.{cmac, chained, finished}
 use Rattle.cmac_kdf.proofs.chain.cmac.Goals as goal
 
 take-first_chunks : {X : Type 0} (n j k : ℕ) (xs : List X) → j ≤ k → take j (first_chunks n k xs) ≡ first_chunks n j xs

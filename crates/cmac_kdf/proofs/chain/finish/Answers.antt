@@ -1,4 +1,4 @@
-use Rattle.std.proofs.Common.{rules, arith, ◌≡◌, ◌≢◌, ◌<◌, ◌-◌, ◌∷◌, ◌++◌, ◌∙◌, ap, sym, replicate, length, ℕ, List}
+use Rattle.std.proofs.Common.{arith, ◌≡◌, ◌≢◌, ◌<◌, ◌-◌, ◌∷◌, ◌++◌, ◌∙◌, ap, replicate, length, ℕ, List}
 use Rattle.std.proofs.lemmas.Bool.Decides.{nat_tests}
 use Rattle.aes_gcm.specs.Cipher.{xor_bytes, cipher}
 use Rattle.cmac_kdf.specs.Cmac.{finished, first_subkey, second_subkey, doubled_block}

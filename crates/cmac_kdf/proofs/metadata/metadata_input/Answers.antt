@@ -1,4 +1,4 @@
-use Rattle.std.proofs.Common.{rules, arith, ◌≡◌, ◌++◌, ◌∙◌, ap, refl, ℕ, List, drop, replicate, w32}
+use Rattle.std.proofs.Common.{◌≡◌, ◌++◌, ◌∙◌, ap, refl, ℕ, List, drop, replicate, w32}
 use Rattle.std.specs.Int.{to_le_bytes}
 use borrow.Rule.Slice.PartMut.{put_mid}
 use Rattle.cmac_kdf.specs.MetadataKey.{metadata_input, label}

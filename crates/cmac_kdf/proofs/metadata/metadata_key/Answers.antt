@@ -1,6 +1,5 @@
-use Rattle.std.proofs.Common.{rules, arith, ◌≡◌, ◌∙◌, ap, ℕ, List}
-use Rattle.cmac_kdf.specs.Cmac.{cmac}
-use Rattle.cmac_kdf.specs.MetadataKey.{metadata_key, metadata_input}
+use Rattle.std.proofs.Common.{rules}
+use Rattle.cmac_kdf.specs.MetadataKey.{metadata_key}
 use Rattle.cmac_kdf.proofs.metadata.metadata_key.Goals as goal
 
 pub returns : goal.returns

@@ -1,10 +1,8 @@
-use Rattle.std.proofs.Common.{rules, arith, ◌≡◌, ◌∙◌, sym, ap, refl, ℕ, List, [], take, drop, Option, Some, None, IsSome, IsTrue, Bool, true, false}
+use Rattle.std.proofs.Common.{◌≡◌, ◌∙◌, refl, ℕ, List, [], take, drop, Option, Some, None, IsSome, true, false}
 use Rattle.std.proofs.lemmas.Bool.{false≢true}
 use Rattle.aes_gcm.specs.Gcm.{opens}
 use Rattle.cmac_kdf.specs.MetadataKey.{metadata_key}
-use Rattle.node_layout.specs.Metadata.{meta_opens, IsMetaText}
-use Rattle.node_layout.specs.Faults.{IsSomeMetaText}
-use Rattle.node_layout.specs.Opening.{OpensTo, IsOpenFault}
+use Rattle.node_layout.specs.Metadata.{meta_opens}
 use Rattle.node_layout.proofs.opening.open_meta.Goals as goal
 
 -- what is opened, from its parts
@@ -18,15 +16,15 @@ none_from_not_some None h = refl
 
 pub returns-then-not-open_in_place-clause-refused : goal.returns-then-not-open_in_place-clause-refused
 returns-then-not-open_in_place-clause-refused c =
-    let is = opened_is c.args.user.now c.args.node.now c.array_at.result c.metadata_key.result c.new-key.result c.array_at-tag.result c.array_at-part.result c.array_at.ensures c.metadata_key.ensures c.new-key.ensures c.array_at-tag.ensures c.array_at-part.ensures in
+    let is = opened_is c.args.user.now c.args.node.now c.array_at-nonce.result c.metadata_key-derived.result c.new-key.result c.array_at-tag.result c.array_at-part.result c.array_at-nonce.ensures c.metadata_key-derived.ensures c.new-key.ensures c.array_at-tag.ensures c.array_at-part.ensures in
     is ∙ none_from_not_some _ c.if-not-open_in_place.ensures.opened.1
 
 pub returns-in-Ok-clause-opened : goal.returns-in-Ok-clause-opened
 returns-in-Ok-clause-opened c =
-    let is = opened_is c.args.user.now c.args.node.now c.array_at.result c.metadata_key.result c.new-key.result c.array_at-tag.result c.array_at-part.result c.array_at.ensures c.metadata_key.ensures c.new-key.ensures c.array_at-tag.ensures c.array_at-part.ensures in
+    let is = opened_is c.args.user.now c.args.node.now c.array_at-nonce.result c.metadata_key-derived.result c.new-key.result c.array_at-tag.result c.array_at-part.result c.array_at-nonce.ensures c.metadata_key-derived.ensures c.new-key.ensures c.array_at-tag.ensures c.array_at-part.ensures in
     (c.open_in_place.new.text, is ∙ c.if-not-open_in_place.ensures.plain refl, c.in-Ok.ensures.fields)
 
 pub returns-in-Err-clause-refused : goal.returns-in-Err-clause-refused
 returns-in-Err-clause-refused c =
-    let is = opened_is c.args.user.now c.args.node.now c.array_at.result c.metadata_key.result c.new-key.result c.array_at-tag.result c.array_at-part.result c.array_at.ensures c.metadata_key.ensures c.new-key.ensures c.array_at-tag.ensures c.array_at-part.ensures in
+    let is = opened_is c.args.user.now c.args.node.now c.array_at-nonce.result c.metadata_key-derived.result c.new-key.result c.array_at-tag.result c.array_at-part.result c.array_at-nonce.ensures c.metadata_key-derived.ensures c.new-key.ensures c.array_at-tag.ensures c.array_at-part.ensures in
     (c.open_in_place.new.text, is ∙ c.if-not-open_in_place.ensures.plain refl, λ t. let e = c.in-Err.ensures.accepted.1 t in cc)

@@ -1,8 +1,7 @@
-use Rattle.std.proofs.Common.{rules, tests, ◌≡◌, ◌==◌, ℕ, ◌<◌, ◌≤◌, length, cond, ltb, Some, None, Option, List, arith}
+use Rattle.std.proofs.Common.{rules, tests, ◌≡◌, ◌==◌, ℕ, ◌≤◌, length, cond, ltb, Some, None, arith}
 use Rattle.std.proofs.lemmas.Iterator.{YieldsList-from_slice}
 use Rattle.std.proofs.lemmas.Iterator.Search.{position_from_yields_List}
 use Rattle.std.proofs.lemmas.List.Sums.{prefix_len-le-length}
-use Rattle.std.proofs.lemmas.Bool.{cases_lt}
 use Rattle.std.proofs.lemmas.Bool.Decides.{nat_tests}
 use Rattle.std.specs.Option.{unwrap_or}
 use Rattle.std.specs.List.{position_or_len}

@@ -1,4 +1,4 @@
-use Rattle.std.proofs.Common.{rules, ◌≡◌, ◌∙◌, ◌++◌, ℕ, ap, drop, length, replicate}
+use Rattle.std.proofs.Common.{◌∙◌, ◌++◌, ℕ, ap, drop, length, replicate}
 use Rattle.std.proofs.lemmas.List.{drop-replicate}
 use Rattle.node_layout.proofs.path.padded.Goals as goal
 

@@ -1,4 +1,4 @@
-use Rattle.std.proofs.Common.{rules, ◌≡◌, List, ℕ, subst}
+use Rattle.std.proofs.Common.{List, ℕ, subst}
 use Rattle.node_layout.specs.Metadata.{IsPath}
 use Rattle.node_layout.proofs.Fields.{IsRead-from_field}
 use Rattle.node_layout.proofs.path.PathText.bytes.Goals as goal

@@ -1,4 +1,4 @@
-use Rattle.std.proofs.Common.{rules, ◌≡◌, ◌==◌, ◌∙◌, List, ℕ, ap}
+use Rattle.std.proofs.Common.{rules, ◌==◌, ◌∙◌, ap}
 use Rattle.std.specs.List.{before_first}
 use Rattle.node_layout.specs.Metadata.{IsPath}
 use Rattle.node_layout.proofs.Fields.{before_first-path_field}
