@@ -16,5 +16,6 @@ pub enum Kind {
 pub struct Damage {
     /// The node's place in the file.
     pub node: u64,
+    /// What is wrong with it.
     pub kind: Kind,
 }

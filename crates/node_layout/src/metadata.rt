@@ -6,11 +6,11 @@ ghost use Rattle.node_layout.specs.Faults.{IsPlainFault, IsSecretFault, IsSomeMe
 use crate::bytes::array_at;
 use crate::path::PathText;
 
-/// The bytes that a protected file begins with.
-pub const MAGIC: [u8; 8] = *b"GRPFTOOL";
+// The bytes that a protected file begins with.
+const MAGIC: [u8; 8] = *b"GRPFTOOL";
 
-/// The most bytes that a protected file's content may have.
-pub const MAX_SIZE: u64 = 1 << 32;
+// The most bytes that a protected file's content may have.
+const MAX_SIZE: u64 = 1 << 32;
 
 /// What stands in the open in a metadata node.
 #[derive(Clone, Copy, Debug, PartialEq, Eq)]

@@ -3,11 +3,12 @@ ghost use Rattle.std.specs.Prelude.{◌≡◌, ◌==◌, ◌≤◌, ◌↔◌, L
 ghost use Rattle.std.specs.List.{before_first, position_or_len};
 ghost use Rattle.node_layout.specs.Metadata.{IsPath, IsPathField, path_field};
 
+use std::fmt;
 use std::marker::Model;
 use std::str;
 
-/// The most bytes that a path may have.
-pub const MAX_PATH: usize = 767;
+// The most bytes that a path may have.
+const MAX_PATH: usize = 767;
 
 /// A path that a protected file can be stored under: UTF-8 of 1 to 767 bytes without a zero byte.
 ///
@@ -78,6 +79,12 @@ impl PathText {
             Ok(_) => Some(PathText { field: *field }),
             Err(_) => None,
         }
+    }
+}
+
+impl fmt::Debug for PathText {
+    fn fmt<W: fmt::Write>(&self, f: &mut fmt::Formatter<W>) -> fmt::Result {
+        write!(f, "{:?}", self.as_str())
     }
 }
 
