@@ -34,6 +34,9 @@ pub enum PlainFault {
 
 impl MetaPlain {
     /// Reads the fields that stand in the open. The flag may have any value.
+    ///
+    /// The answer is `NotProtected` where the magic differs, and else `BadVersion` with the two
+    /// bytes where they are not 1 and 0.
     pub fn read(node: &[u8; 4096]) -> Result<MetaPlain, PlainFault>
         ensures accepted { IsOk result ↔ IsPlain node.now }
         ensures nonce { IfOk result (λ plain. plain.nonce ≡ nonce_at node.now) }
@@ -64,9 +67,9 @@ pub struct MetaSecret {
     pub path: PathText,
     /// The length of the content in bytes.
     pub size: u64,
-    /// The key of the tree's root.
+    /// The key of the tree's root. It has no meaning where the content needs no tree.
     pub root_key: [u8; 16],
-    /// The tag of the tree's root.
+    /// The tag of the tree's root, likewise.
     pub root_tag: [u8; 16],
     /// The first bytes of the content.
     pub first: [u8; 3072],
@@ -83,6 +86,9 @@ pub enum SecretFault {
 
 impl MetaSecret {
     /// Reads the text of an encrypted part. The bytes behind the content may have any value.
+    ///
+    /// The answer is `BadPathText` where the path's field is not a path padded with zeros, and else
+    /// `BadSize` where the size is above 2^32.
     pub fn read(part: &[u8; 3880]) -> Result<MetaSecret, SecretFault>
         ensures accepted { IsOk result ↔ IsSomeMetaText part.now }
         ensures fields { IfOk result (λ secret. IsMetaText part.now secret.path secret.size secret.root_key secret.root_tag secret.first) }

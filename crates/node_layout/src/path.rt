@@ -3,9 +3,8 @@ ghost use Rattle.std.specs.Prelude.{◌≡◌, ◌==◌, ◌≤◌, ◌↔◌, L
 ghost use Rattle.std.specs.List.{before_first, position_or_len};
 ghost use Rattle.node_layout.specs.Metadata.{IsPath, IsPathField, path_field};
 
-use std::fmt;
 use std::marker::Model;
-use std::str;
+use std::{fmt, str};
 
 // The most bytes that a path may have.
 const MAX_PATH: usize = 767;
