@@ -6,5 +6,4 @@ ghost use Rattle.aes_gcm.specs.Vectors.{CipherExample, EmptySealed};
 pub fn published_examples()
     ensures cipher { CipherExample }
     ensures empty { EmptySealed }
-{
-}
+{}
