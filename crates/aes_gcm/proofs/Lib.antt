@@ -1,2 +1,5 @@
 pub mod ProductLaws
 pub mod Multiples
+pub mod Bytes
+pub mod Lanes
+pub mod Rounds
