@@ -3,3 +3,4 @@ pub mod Multiples
 pub mod Bytes
 pub mod Lanes
 pub mod Rounds
+pub mod HashedBlocks

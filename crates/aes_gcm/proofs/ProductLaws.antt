@@ -6,7 +6,7 @@ use Rattle.std.specs.Int.Bits.{xor_zero_l, xor_zero_r, xor_self, xor_assoc, xor_
 use Rattle.std.proofs.lemmas.Nat.{xor_comm, xor_lt}
 use Rattle.std.proofs.lemmas.Nat.Bits.{bit_at_lowest, bit_at_xor, bit_at-lt, bit_at-zero}
 use Rattle.std.proofs.Math.Pow.{pow_pos}
-use Rattle.aes_gcm.specs.Ghash.{times_x, part, sum_of_shifts, product, one, power, ghash}
+use Rattle.aes_gcm.specs.Ghash.{times_x, part, sum_of_shifts, product, one, power, horner_step, ghash}
 use Rattle.std.proofs.Common.{List, [], ◌∷◌, length, fold, zero-mul, mul-one, mod-eq_of_lt, mod-lt}
 use Rattle.std.proofs.Math.Nat.{pow-succ'}
 use Rattle.std.proofs.Math.Arith.{mod-mul}
@@ -189,9 +189,6 @@ unfolding power
 power-suc h k lt = product-swap (power h k) h (power-lt h k lt) lt
 
 -- ---- Horner's rule
-
-abbrev pub horner_step : ℕ → ℕ → ℕ → ℕ
-horner_step h y x = product (bit_xor y x) h
 
 pub horner : (h : ℕ) → h < 2 ^ 128 → (xs : List ℕ) (y : ℕ) → y < 2 ^ 128
     → fold (horner_step h) y xs ≡ bit_xor (product y (power h (length xs))) (ghash h xs)

@@ -35,10 +35,11 @@ loop-k-init c = (refl, refl, λ j h. absurd (omega arith))
 pub loop-k-preserved : goal.loop-k-preserved
 loop-k-preserved c =
     let k = c.loop-k.k in
-    let long : length c.loop-k.table ≡ 32 = c.loop-k.invariant.0 in
-    (length-set c.loop-k.table k c.row.result ∙ long,
-     next c.loop-k.v k c.times_x.result c.times_x-in-loop-k.result c.times_x-in-loop-k-2.result c.times_x-v.result c.args.h c.loop-k.invariant.1 c.times_x.ensures c.times_x-in-loop-k.ensures c.times_x-in-loop-k-2.ensures c.times_x-v.ensures,
-     row_at c.loop-k.table c.row.result k c.loop-k.v c.args.h (omega arith) c.loop-k.invariant.1 c.row.ensures c.loop-k.invariant.2)
+    let long : length c.loop-k.table ≡ 32 = c.loop-k.invariant.0 in (
+      length-set c.loop-k.table k c.row.result ∙ long,
+      next c.loop-k.v k c.times_x.result c.times_x-in-loop-k.result c.times_x-in-loop-k-2.result c.times_x-v.result c.args.h c.loop-k.invariant.1 c.times_x.ensures c.times_x-in-loop-k.ensures c.times_x-in-loop-k-2.ensures c.times_x-v.ensures,
+      row_at c.loop-k.table c.row.result k c.loop-k.v c.args.h (omega arith) c.loop-k.invariant.1 c.row.ensures c.loop-k.invariant.2,
+    )
 
 pub returns-clause-factor : goal.returns-clause-factor
 returns-clause-factor c = factor_is c.loop-k.table c.args.h (c.loop-k.invariant.2 0 (omega arith))
