@@ -1,3 +1,5 @@
 pub mod Bytes
 pub mod Lanes
+pub mod Lists
 pub mod Rounds
+pub mod Schedule

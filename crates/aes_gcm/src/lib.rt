@@ -2,6 +2,7 @@
 #![tactic(auto)]
 
 mod block;
+mod counter;
 mod sbox;
 mod vectors;
 
