@@ -1,12 +1,8 @@
 -- The rounds of the cipher over the key's round keys.
-use Rattle.std.proofs.Common.{◌≡◌, ℕ, suc, ◌<◌, List, [], get_or, map, length, refl, ap, ◌∙◌, arith}
-use Rattle.std.proofs.lemmas.List.FromFn.{get_or-map-range_with_len, fill_by_all}
+use Rattle.std.proofs.Common.{◌≡◌, ℕ, suc, ◌<◌, List, [], get_or, map, ap, ◌∙◌, arith}
+use Rattle.std.proofs.lemmas.List.FromFn.{get_or-map-range_with_len}
 use Rattle.std.specs.List.{range_with_len}
 use Rattle.aes_gcm.specs.Cipher.{after_round, cipher, mix_columns, round_key, shift_rows, sub_bytes, xor_bytes}
-
--- a list of sixteen, written out by its elements
-pub written_out : (xs : List ℕ) → length xs ≡ 16 → xs ≡ map (λ k. get_or xs k 0) (range_with_len 0 16)
-written_out xs h = fill_by_all (λ k. get_or xs k 0) xs 16 0 h (λ k l. refl)
 
 pub get_or-round_keys : (keys : List (List ℕ)) (key : List ℕ) → keys ≡ map (round_key key) (range_with_len 0 11) → (r : ℕ) → r < 11 → get_or keys r [] ≡ round_key key r
 get_or-round_keys keys key e r h = ap (λ t. get_or t r []) e ∙ get_or-map-range_with_len (round_key key) 0 11 r r [] h (omega arith)

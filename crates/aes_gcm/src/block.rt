@@ -1,7 +1,7 @@
 //! AES-128 on one block.
-ghost use Rattle.std.specs.Prelude.{◌≡◌, ℕ, List, [], map, slice_index_or};
+ghost use Rattle.std.specs.Prelude.{◌≡◌, ℕ, ◌<◌, ◌≤◌, List, [], ◌++◌, map, slice_index_or};
 ghost use Rattle.std.specs.List.{range_with_len};
-ghost use Rattle.aes_gcm.specs.Cipher.{cipher, mix_columns, round_key, shift_rows, sub_bytes, xor_bytes};
+ghost use Rattle.aes_gcm.specs.Cipher.{cipher, mix_columns, round_key, schedule, schedule_core, shift_rows, sub_bytes, xor_bytes};
 
 use crate::sbox::{double, sub_byte, triple};
 use std::marker::Model;
@@ -20,6 +20,75 @@ impl Model for Key {
 
     ghost invariant = { λ key. key.round_keys
         ≡ map (round_key (slice_index_or key.round_keys 0 [])) (range_with_len 0 11) };
+}
+
+impl Key {
+    /// The key of these 16 bytes (FIPS 197, 5.2).
+    pub fn new(bytes: &[u8; 16]) -> Key
+        ensures { result ≡ bytes.now }
+    {
+        let words = expand_key(bytes);
+        let mut round_keys = [[0; 16]; 11];
+        for round in 0..11 {
+            let i = 4 * round;
+            round_keys[round] = join_words(words[i], words[i + 1], words[i + 2], words[i + 3]);
+        }
+        Key { round_keys }
+    }
+}
+
+// Round constants, the powers of x (FIPS 197, 5.2).
+static ROUND_CONSTANTS: [u8; 10] = [0x01, 0x02, 0x04, 0x08, 0x10, 0x20, 0x40, 0x80, 0x1b, 0x36];
+
+fn schedule_core(i: usize, word: [u8; 4]) -> [u8; 4]
+    requires after_key { 4 ≤ i }
+    requires before_end { i < 44 }
+    ensures { result ≡ schedule_core i word }
+{
+    if i % 4 == 0 {
+        [
+            sub_byte(word[1]) ^ ROUND_CONSTANTS[i / 4 - 1],
+            sub_byte(word[2]),
+            sub_byte(word[3]),
+            sub_byte(word[0]),
+        ]
+    } else {
+        word
+    }
+}
+
+fn xor_words(a: [u8; 4], b: [u8; 4]) -> [u8; 4]
+    ensures { result ≡ xor_bytes a b }
+{
+    [a[0] ^ b[0], a[1] ^ b[1], a[2] ^ b[2], a[3] ^ b[3]]
+}
+
+/// The words of the key schedule (KeyExpansion of FIPS 197, 5.2).
+fn expand_key(bytes: &[u8; 16]) -> [[u8; 4]; 44]
+    ensures { result ≡ schedule 40 bytes.now }
+{
+    let mut words = [[0; 4]; 44];
+    for i in 0..4 {
+        words[i] = [
+            bytes[4 * i],
+            bytes[4 * i + 1],
+            bytes[4 * i + 2],
+            bytes[4 * i + 3],
+        ];
+    }
+    for i in 4..44 {
+        words[i] = xor_words(words[i - 4], schedule_core(i, words[i - 1]));
+    }
+    words
+}
+
+fn join_words(first: [u8; 4], second: [u8; 4], third: [u8; 4], fourth: [u8; 4]) -> [u8; 16]
+    ensures { result ≡ first ++ second ++ third ++ fourth }
+{
+    [
+        first[0], first[1], first[2], first[3], second[0], second[1], second[2], second[3],
+        third[0], third[1], third[2], third[3], fourth[0], fourth[1], fourth[2], fourth[3],
+    ]
 }
 
 fn sub_bytes(state: [u8; 16]) -> [u8; 16]
