@@ -17,7 +17,7 @@ chunks-append (suc q) n (suc m) a b e h =
     let place : 16 + 16 * q ≡ 16 * suc q = omega arith in
     ap₂ ◌∷◌ (take-append-le 16 a b long)
     (ap (first_chunks 16 m) (drop-append-le 16 a b long) ∙ chunks-append q n m (drop 16 a) b (omega arith) left
-     ∙ ap (λ d. first_chunks 16 q (drop 16 a) ++ first_chunks 16 n (d ++ b)) (drop-drop (16 * q) 16 a ∙ ap (λ i. drop i a) place))
+    ∙ ap (λ d. first_chunks 16 q (drop 16 a) ++ first_chunks 16 n (d ++ b)) (drop-drop (16 * q) 16 a ∙ ap (λ i. drop i a) place))
 
 pub blocks-append : (a b : List ℕ) → length a % 16 ≡ 0 → blocks_of (a ++ b) ≡ blocks_of a ++ blocks_of b
 blocks-append a b h =
@@ -51,7 +51,7 @@ blocks_padded_rest text rest block er some eb =
     let last : drop (16 * q) text ++ replicate k 0 ≡ block = ap₂ (λ d k. d ++ replicate k 0) (ap (λ i. drop i text) place ∙ sym er) pad ∙ sym eb in
     let short : length block ≤ 16 = omega (arith, ap length eb, length-append rest (replicate (16 - length rest) 0), length-replicate {A = ℕ} (16 - length rest) 0) in
     ap (map (from_be_bytes w128)) (chunks-append q 1 m text (replicate k 0) e (omega arith) ∙ ap (λ b. first_chunks 16 q text ++ (take 16 b ∷ [])) last
-        ∙ ap (λ b. first_chunks 16 q text ++ (b ∷ [])) (take_all 16 block short))
+    ∙ ap (λ b. first_chunks 16 q text ++ (b ∷ [])) (take_all 16 block short))
     ∙ map-append (from_be_bytes w128) (first_chunks 16 q text) (block ∷ [])
 
 pub number_cat : (a b : ℕ) → a < 2 ^ 64 → b < 2 ^ 64 → from_be_bytes w128 (to_be_bytes w64 a ++ to_be_bytes w64 b) ≡ a * 2 ^ 64 + b

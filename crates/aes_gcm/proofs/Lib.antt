@@ -6,3 +6,4 @@ pub mod Lists
 pub mod Rounds
 pub mod HashedBlocks
 pub mod Schedule
+pub mod Sealed

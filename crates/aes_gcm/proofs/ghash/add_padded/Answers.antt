@@ -15,6 +15,6 @@ returns-else-is_empty c =
     let some : 0 < length c.as_chunks.result.1.now = grind (arith, common_steps) in
     let sum : c.add_blocks-hash.result ≡ fold step c.args.hash (blocks_of text) = c.add_blocks-hash.ensures ∙ ap (λ b. fold step c.args.hash (map (from_be_bytes w128) b)) c.as_chunks.ensures.front in
     let blocks : blocks_of (padded text) ≡ blocks_of text ++ (x ∷ []) =
-        blocks_padded_rest text c.as_chunks.result.1.now c.padded_block-block.result c.as_chunks.ensures.back some c.padded_block-block.ensures
-        ∙ ap (λ x. blocks_of text ++ (x ∷ [])) (sym c.from_be_bytes.ensures) in
+    blocks_padded_rest text c.as_chunks.result.1.now c.padded_block-block.result c.as_chunks.ensures.back some c.padded_block-block.ensures
+    ∙ ap (λ x. blocks_of text ++ (x ∷ [])) (sym c.from_be_bytes.ensures) in
     c.times.ensures ∙ ap (λ s. step s x) sum ∙ sym (ap (fold step c.args.hash) blocks ∙ fold-append step c.args.hash (blocks_of text) (x ∷ []))

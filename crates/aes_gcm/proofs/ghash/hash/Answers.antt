@@ -27,10 +27,10 @@ returns c =
     let is : bit_or (a * 2 ^ 64 % 2 ^ 128) b ≡ x = joined a b (omega arith) (omega arith) ∙ sym (number_cat a b (omega arith) (omega arith)) in
     let first : c.add_padded-hash.result ≡ fold step 0 (blocks_of (padded aad)) = c.add_padded-hash.ensures ∙ ap (λ h. fold (horner_step h) 0 (blocks_of (padded aad))) key in
     let second : c.add_padded-hash-2.result ≡ fold step (fold step 0 (blocks_of (padded aad))) (blocks_of (padded text)) =
-        c.add_padded-hash-2.ensures ∙ ap₂ (λ h s. fold (horner_step h) s (blocks_of (padded text))) key first in
+    c.add_padded-hash-2.ensures ∙ ap₂ (λ h s. fold (horner_step h) s (blocks_of (padded text))) key first in
     let whole : length (padded aad ++ padded text) % 16 ≡ 0 = omega (arith, length-append (padded aad) (padded text), padded_whole aad, padded_whole text) in
     let blocks : hashed_blocks aad text ≡ (blocks_of (padded aad) ++ blocks_of (padded text)) ++ (x ∷ []) =
-        blocks-append (padded aad ++ padded text) (length_block aad text) whole ∙ ap (λ b. b ++ (x ∷ [])) (blocks-append (padded aad) (padded text) (padded_whole aad)) in
+    blocks-append (padded aad ++ padded text) (length_block aad text) whole ∙ ap (λ b. b ++ (x ∷ [])) (blocks-append (padded aad) (padded text) (padded_whole aad)) in
     c.times.ensures ∙ ap₂ (λ h s. product (bit_xor s (bit_or (a * 2 ^ 64 % 2 ^ 128) b)) h) key second ∙ ap (step (fold step (fold step 0 (blocks_of (padded aad))) (blocks_of (padded text)))) is
     ∙ sym (ghash_is_fold h c.ranges.h.fits (hashed_blocks aad text) ∙ ap (fold step 0) blocks
-        ∙ fold-append step 0 (blocks_of (padded aad) ++ blocks_of (padded text)) (x ∷ []) ∙ ap (λ s. step s x) (fold-append step 0 (blocks_of (padded aad)) (blocks_of (padded text))))
+    ∙ fold-append step 0 (blocks_of (padded aad) ++ blocks_of (padded text)) (x ∷ []) ∙ ap (λ s. step s x) (fold-append step 0 (blocks_of (padded aad)) (blocks_of (padded text))))

@@ -1,0 +1,67 @@
+//! Sealing and opening in place: AES-128-GCM of SP 800-38D with an IV of twelve zero bytes.
+ghost use Rattle.std.specs.Prelude.{◌≡◌, ◌↔◌, ◌≤◌, ℕ, false, length, List, IsSome, IsTrue, Some};
+ghost use Rattle.aes_gcm.specs.Gcm.{tag_of, seal, opens};
+
+use crate::block::{Key, encrypt_block};
+use crate::counter::{add_key_stream, counter_block};
+use crate::ghash::hash;
+use std::simd::prelude::*;
+
+fn tag_of(key: &Key, aad: &[u8], text: &[u8]) -> [u8; 16]
+    requires aad { length aad.now ≤ 65536 }
+    requires text { length text.now ≤ 65536 }
+    ensures { result ≡ tag_of key.now aad.now text.now }
+{
+    let hash_key = u128::from_be_bytes(encrypt_block(key, &[0; 16]));
+    let mask = encrypt_block(key, &counter_block(1));
+    let hash = hash(hash_key, aad, text).to_be_bytes();
+    (u8x16::from_array(hash) ^ u8x16::from_array(mask)).to_array()
+}
+
+// Looks at all 16 bytes, wherever the first difference is.
+fn same_tag(tag: &[u8; 16], other: &[u8; 16]) -> bool
+    ensures { IsTrue result ↔ tag.now ≡ other.now }
+{
+    let mut difference = 0;
+    for k in 0..16usize {
+        difference |= tag[k] ^ other[k];
+    }
+    difference == 0
+}
+
+/// Encrypts a text in place, and answers the tag of it and of the AAD (GCM-AE, 7.1).
+///
+/// A key is to seal only once, since the IV is always zero.
+pub fn seal_in_place(key: &Key, aad: &[u8], text: &mut [u8]) -> [u8; 16]
+    requires aad { length aad.now ≤ 65536 }
+    requires text { length text.old ≤ 65536 }
+    ensures ciphertext { text.new ≡ (seal key.now aad.now text.old).0 }
+    ensures tag { result ≡ (seal key.now aad.now text.old).1 }
+{
+    add_key_stream(key, text);
+    tag_of(key, aad, text)
+}
+
+/// Decrypts a text in place where the tag is that of it and of the AAD (GCM-AD, 7.2).
+///
+/// Answers false where it is not, and then leaves the text as it was.
+pub fn open_in_place(key: &Key, aad: &[u8], text: &mut [u8], tag: &[u8; 16]) -> bool
+    requires aad { length aad.now ≤ 65536 }
+    requires text { length text.old ≤ 65536 }
+    ensures opened { IsTrue result ↔ IsSome (opens key.now aad.now text.old tag.now) }
+    ensures plain { IsTrue result → opens key.now aad.now text.old tag.now ≡ Some text.new }
+    ensures unchanged { result ≡ false → text.new ≡ text.old }
+{
+    let expected = tag_of(key, aad, text);
+    if !same_tag(tag, &expected) {
+        return false;
+    }
+    add_key_stream(key, text);
+    true
+}
+
+/// What was sealed opens again, to the text that was sealed. A seal keeps the text's length.
+pub fn sealed_opens()
+    ensures opens { (key aad text : List ℕ) → opens key aad (seal key aad text).0 (seal key aad text).1 ≡ Some text }
+    ensures length { (key aad text : List ℕ) → length (seal key aad text).0 ≡ length text }
+{}
