@@ -1,4 +1,5 @@
 pub mod Bytes
+pub mod KeyStream
 pub mod Lanes
 pub mod Lists
 pub mod Rounds
