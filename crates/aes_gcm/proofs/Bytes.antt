@@ -1,5 +1,5 @@
 -- Facts of every byte, each by one computed test of all bytes.
-use Rattle.std.proofs.Common.{◌≡◌, ℕ, zero, suc, ◌+◌, ◌<◌, ◌≢◌, map, get_or, refl, ap, ◌∙◌, sym, arith, bit_xor}
+use Rattle.std.proofs.Common.{◌≡◌, ℕ, zero, suc, ◌<◌, ◌≢◌, map, get_or, refl, ap, ◌∙◌, sym, arith, bit_xor}
 use Rattle.std.proofs.lemmas.List.FromFn.{get_or-map-range_with_len}
 use Rattle.std.specs.List.{range_with_len}
 use Rattle.aes_gcm.specs.Field.{times, power, inverse}

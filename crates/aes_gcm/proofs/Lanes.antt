@@ -1,5 +1,5 @@
 -- Vectors lane by lane, as maps of one list.
-use Rattle.std.proofs.Common.{◌≡◌, ℕ, suc, ◌<◌, Bool, T, refl, ap, ◌∙◌, sym, List, [], ◌∷◌, length, map, arith, cond, Fits, w8}
+use Rattle.std.proofs.Common.{◌≡◌, ℕ, ◌<◌, Bool, refl, ap, ◌∙◌, List, [], ◌∷◌, length, map, arith, cond, Fits, w8}
 use lib.Lanes.{zip2, Each1, sel_l}
 
 pub below-256 : (xs : List ℕ) → Each1 (Fits w8) xs → Each1 (λ x. x < 256) xs

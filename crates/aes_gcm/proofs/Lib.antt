@@ -1,6 +1,7 @@
 pub mod ProductLaws
 pub mod Multiples
 pub mod Bytes
+pub mod KeyStream
 pub mod Lanes
 pub mod Lists
 pub mod Rounds

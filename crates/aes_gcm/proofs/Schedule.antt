@@ -1,10 +1,10 @@
 -- The key schedule, word by word.
-use Rattle.std.proofs.Common.{◌≡◌, ℕ, zero, suc, ◌+◌, ◌-◌, ◌*◌, ◌/◌, ◌%◌, ◌<◌, ◌≤◌, List, [], ◌∷◌, ◌++◌, get_or, map, length, take, drop, set, refl, ap, ◌∙◌, sym, arith, bit_xor, length-append}
+use Rattle.std.proofs.Common.{◌≡◌, ℕ, zero, suc, ◌+◌, ◌-◌, ◌/◌, ◌%◌, ◌<◌, List, [], ◌∷◌, ◌++◌, get_or, length, take, set, refl, ap, ◌∙◌, sym, arith, bit_xor, length-append}
 use Rattle.std.specs.Int.Bits.{xor_zero_r}
 use Rattle.std.proofs.lemmas.List.{get_or-take, get_or_append_left, take_more_set}
 use Rattle.aes_gcm.specs.Field.{power, sub_byte}
 use Rattle.aes_gcm.specs.Cipher.{round_key, schedule, schedule_core, with_next_word, xor_bytes}
-use Rattle.aes_gcm.proofs.Lists.{first_four, written_out}
+use Rattle.aes_gcm.proofs.Lists.{written_out}
 
 pub core_at_round : (i : ℕ) (word : List ℕ) (a b c d k : ℕ) → length word ≡ 4 → i % 4 ≡ 0
     → a ≡ sub_byte (get_or word 1 0) → b ≡ sub_byte (get_or word 2 0) → c ≡ sub_byte (get_or word 3 0) → d ≡ sub_byte (get_or word 0 0) → k ≡ power 2 (i / 4 - 1)

@@ -1,5 +1,5 @@
 -- Published examples, by which the definitions are checked.
-use Rattle.std.specs.Prelude.{◌≡◌, ℕ, List, [], ◌∷◌, replicate}
+use Rattle.std.specs.Prelude.{◌≡◌, [], ◌∷◌, replicate}
 use Rattle.std.specs.List.{range_with_len}
 use Rattle.aes_gcm.specs.Cipher.{cipher}
 use Rattle.aes_gcm.specs.Gcm.{seal}

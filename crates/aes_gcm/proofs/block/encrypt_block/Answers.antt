@@ -1,6 +1,6 @@
-use Rattle.std.proofs.Common.{◌≡◌, suc, ◌+◌, ◌-◌, [], ap, ◌∙◌, sym, subst, arith, slice_index_or}
+use Rattle.std.proofs.Common.{◌≡◌, suc, ◌+◌, ◌-◌, [], ap, ◌∙◌, arith, slice_index_or}
 use Rattle.aes_gcm.specs.Cipher.{after_round, cipher, round_key}
-use Rattle.aes_gcm.proofs.Rounds.{get_or-round_keys, last_round, next_round, xored}
+use Rattle.aes_gcm.proofs.Rounds.{get_or-round_keys, last_round, next_round}
 use Rattle.aes_gcm.proofs.block.encrypt_block.Goals as goal
 
 pub loop-round-init : goal.loop-round-init

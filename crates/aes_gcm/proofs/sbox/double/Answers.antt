@@ -1,5 +1,4 @@
-use Rattle.std.proofs.Common.{◌≡◌, ℕ, ◌<◌, List, [], ◌∷◌, refl, arith, Fits, w8, map, bit_xor, cond}
-use Rattle.std.specs.List.{range_with_len}
+use Rattle.std.proofs.Common.{[], ◌∷◌, refl, w8}
 use lib.Lanes.{top}
 use mir.Val.{hbits}
 use mir.Syntax.{mask, le, unsigned}

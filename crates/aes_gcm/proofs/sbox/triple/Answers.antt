@@ -1,4 +1,4 @@
-use Rattle.std.proofs.Common.{◌≡◌, bit_xor}
+use Rattle.std.proofs.Common.{bit_xor}
 use Rattle.aes_gcm.specs.Field.{times}
 use Rattle.aes_gcm.proofs.Bytes.{times_3}
 use Rattle.aes_gcm.proofs.Lanes.{below-256, zip-map_self}
