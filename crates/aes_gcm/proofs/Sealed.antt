@@ -1,5 +1,5 @@
 -- What was sealed opens.
-use Rattle.std.proofs.Common.{◌≡◌, ℕ, suc, ◌+◌, ◌<◌, refl, ap, ap₂, ◌∙◌, sym, arith, bit_xor, List, [], ◌∷◌, length, Bool, true, subst}
+use Rattle.std.proofs.Common.{◌≡◌, ℕ, suc, ◌+◌, ◌<◌, refl, ap, ap₂, ◌∙◌, sym, arith, bit_xor, List, [], ◌∷◌, length, Bool, true, false, is_some}
 use Rattle.std.specs.Prelude.{if◌then◌else◌, Option, Some, None}
 use Rattle.std.specs.Int.Bits.{xor_assoc, xor_self, xor_zero_r}
 use Rattle.std.specs.Str.{bytes_eq}
@@ -27,19 +27,21 @@ crypted_twice key text =
     ap (λ n. xor_bytes (crypted key text) (key_stream key n)) (length-crypted key text)
     ∙ xor_bytes_twice text (key_stream key (length text)) (sym (length-key_stream key (length text)))
 
-pub opens_where_same : (key aad text tag : List ℕ) → tag ≡ tag_of key aad text → opens key aad text tag ≡ Some (crypted key text)
+pub opens_where_same : (key aad text tag plain : List ℕ) → tag ≡ tag_of key aad text → plain ≡ crypted key text → opens key aad text tag ≡ Some plain
 unfolding opens
-opens_where_same key aad text tag e =
-    ap (λ t. if t then Some (crypted key text) else None) ((bytes_eq-Decides tag (tag_of key aad text)).1 e)
+opens_where_same key aad text tag plain same is =
+    ap (λ t. if t then Some (crypted key text) else None) ((bytes_eq-Decides tag (tag_of key aad text)).1 same) ∙ ap Some (sym is)
 
 pub same_where_opens : (key aad text tag : List ℕ) → is_some (opens key aad text tag) ≡ true → tag ≡ tag_of key aad text
 unfolding opens
-same_where_opens key aad text tag h = ?
+same_where_opens key aad text tag h =
+    let t : List ℕ = tag_of key aad text in
+    elim (bytes_eq tag t) as (λ b. bytes_eq tag t ≡ b → is_some (if b then Some (crypted key text) else None) ≡ true → tag ≡ t)
+    [ true ↦ λ e k. (bytes_eq-Decides tag t).0 e | false ↦ λ e k. cc ] refl h
 
 pub opens_sealed : (key aad text : List ℕ) → opens key aad (seal key aad text).0 (seal key aad text).1 ≡ Some text
 unfolding seal
-opens_sealed key aad text =
-    opens_where_same key aad (crypted key text) (tag_of key aad (crypted key text)) refl ∙ ap Some (crypted_twice key text)
+opens_sealed key aad text = opens_where_same key aad (crypted key text) (tag_of key aad (crypted key text)) text refl (sym (crypted_twice key text))
 
 pub length-sealed : (key aad text : List ℕ) → length (seal key aad text).0 ≡ length text
 unfolding seal

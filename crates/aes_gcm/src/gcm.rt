@@ -1,5 +1,5 @@
 //! Sealing and opening in place: AES-128-GCM of SP 800-38D with an IV of twelve zero bytes.
-ghost use Rattle.std.specs.Prelude.{◌≡◌, ◌↔◌, ◌≤◌, ℕ, false, length, List, IsSome, IsTrue, Some};
+ghost use Rattle.std.specs.Prelude.{◌≡◌, ◌↔◌, ◌≤◌, ℕ, length, List, IsFalse, IsSome, IsTrue, Some};
 ghost use Rattle.aes_gcm.specs.Gcm.{tag_of, seal, opens};
 
 use crate::block::{Key, encrypt_block};
@@ -50,7 +50,7 @@ pub fn open_in_place(key: &Key, aad: &[u8], text: &mut [u8], tag: &[u8; 16]) -> 
     requires text { length text.old ≤ 65536 }
     ensures opened { IsTrue result ↔ IsSome (opens key.now aad.now text.old tag.now) }
     ensures plain { IsTrue result → opens key.now aad.now text.old tag.now ≡ Some text.new }
-    ensures unchanged { result ≡ false → text.new ≡ text.old }
+    ensures unchanged { IsFalse result → text.new ≡ text.old }
 {
     let expected = tag_of(key, aad, text);
     if !same_tag(tag, &expected) {

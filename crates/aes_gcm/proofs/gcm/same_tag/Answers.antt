@@ -21,9 +21,14 @@ loop-k-preserved c =
       none = λ all.
           let now : a ≡ b = all k (omega arith) in
           let before : d ≡ 0 = c.loop-k.invariant.none (λ j h. all j (omega arith)) in
-          ap₂ bit_or before (ap (λ a. bit_xor a b) now ∙ xor_self b)
+          ap₂ bit_or before (ap (λ a. bit_xor a b) now ∙ xor_self b);
     }
 
 pub returns : goal.returns
 returns c =
-    ?
+    let a : List ℕ = c.args.tag.now in
+    let b : List ℕ = c.args.other.now in
+    let d : ℕ = c.loop-k.difference in (
+      λ e. ext_get_or 0 a b (omega arith) (λ j h. c.loop-k.invariant.alike (eqb-true d 0 e) j (omega arith)),
+      λ e. eq-eqb d 0 (c.loop-k.invariant.none (λ j h. ap (λ xs. slice_index xs j) e)),
+    )

@@ -12,5 +12,5 @@ returns c =
     let key = c.args.key.now in
     ap₂ xor_bytes
     (c.to_be_bytes-hash.ensures ∙ ap (to_be_bytes w128) (c.hash.ensures
-        ∙ ap (λ h. ghash h (hashed_blocks c.args.aad.now c.args.text.now)) (c.from_be_bytes-hash_key.ensures ∙ ap (from_be_bytes w128) c.encrypt_block.ensures)))
+    ∙ ap (λ h. ghash h (hashed_blocks c.args.aad.now c.args.text.now)) (c.from_be_bytes-hash_key.ensures ∙ ap (from_be_bytes w128) c.encrypt_block.ensures)))
     (c.encrypt_block-mask.ensures ∙ ap (cipher key) c.counter_block.ensures)
