@@ -23,7 +23,7 @@ impl Model for Key {
 }
 
 impl Key {
-    /// The key of these 16 bytes (FIPS 197, 5.2).
+    /// The key of these bytes, with its schedule (FIPS 197, 5.2).
     pub fn new(bytes: &[u8; 16]) -> Key
         ensures { result ≡ bytes.now }
     {
@@ -40,6 +40,7 @@ impl Key {
 // Round constants, the powers of x (FIPS 197, 5.2).
 static ROUND_CONSTANTS: [u8; 10] = [0x01, 0x02, 0x04, 0x08, 0x10, 0x20, 0x40, 0x80, 0x1b, 0x36];
 
+// What is added to word i - 4 to give word i, from word i - 1 (FIPS 197, 5.2).
 fn schedule_core(i: usize, word: [u8; 4]) -> [u8; 4]
     requires after_key { 4 ≤ i }
     requires before_end { i < 44 }
@@ -63,7 +64,7 @@ fn xor_words(a: [u8; 4], b: [u8; 4]) -> [u8; 4]
     [a[0] ^ b[0], a[1] ^ b[1], a[2] ^ b[2], a[3] ^ b[3]]
 }
 
-/// The words of the key schedule (KeyExpansion of FIPS 197, 5.2).
+// KeyExpansion (FIPS 197, 5.2).
 fn expand_key(bytes: &[u8; 16]) -> [[u8; 4]; 44]
     ensures { result ≡ schedule 40 bytes.now }
 {
@@ -91,6 +92,7 @@ fn join_words(first: [u8; 4], second: [u8; 4], third: [u8; 4], fourth: [u8; 4]) 
     ]
 }
 
+// SubBytes (FIPS 197, 5.1.1).
 fn sub_bytes(state: [u8; 16]) -> [u8; 16]
     ensures { result ≡ sub_bytes state }
 {
@@ -101,6 +103,7 @@ fn sub_bytes(state: [u8; 16]) -> [u8; 16]
     substituted
 }
 
+// ShiftRows (FIPS 197, 5.1.2): row r of column c comes from column c + r.
 fn shift_rows(state: [u8; 16]) -> [u8; 16]
     ensures { result ≡ shift_rows state }
 {
@@ -109,6 +112,7 @@ fn shift_rows(state: [u8; 16]) -> [u8; 16]
         .to_array()
 }
 
+// MixColumns (FIPS 197, 5.1.3).
 fn mix_columns(state: [u8; 16]) -> [u8; 16]
     ensures { result ≡ mix_columns state }
 {
@@ -119,13 +123,14 @@ fn mix_columns(state: [u8; 16]) -> [u8; 16]
     ((double(rows) ^ triple(next_rows)) ^ (opposite_rows ^ last_rows)).to_array()
 }
 
+// AddRoundKey (FIPS 197, 5.1.4).
 fn add_round_key(state: [u8; 16], round_key: [u8; 16]) -> [u8; 16]
     ensures { result ≡ xor_bytes state round_key }
 {
     (u8x16::from_array(state) ^ u8x16::from_array(round_key)).to_array()
 }
 
-/// AES-128 of one block (Cipher of FIPS 197, 5.1).
+/// AES-128 of one block (FIPS 197, 5.1).
 pub fn encrypt_block(key: &Key, block: &[u8; 16]) -> [u8; 16]
     ensures { result ≡ cipher key.now block.now }
 {

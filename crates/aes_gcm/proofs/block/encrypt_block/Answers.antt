@@ -1,11 +1,11 @@
 use Rattle.std.proofs.Common.{◌≡◌, suc, ◌+◌, ◌-◌, [], ap, ◌∙◌, arith, slice_index_or}
-use Rattle.aes_gcm.specs.Cipher.{after_round, cipher, round_key}
+use Rattle.aes_gcm.specs.Cipher.{after_round, cipher, round_key, xor_bytes}
 use Rattle.aes_gcm.proofs.Rounds.{get_or-round_keys, last_round, next_round}
 use Rattle.aes_gcm.proofs.block.encrypt_block.Goals as goal
 
 pub loop-round-init : goal.loop-round-init
 unfolding after_round
-loop-round-init c = c.add_round_key-state.ensures ∙ ap (λ k. Rattle.aes_gcm.specs.Cipher.xor_bytes c.args.block.now k) (get_or-round_keys _ _ c.key.invariant 0 (omega arith))
+loop-round-init c = c.add_round_key-state.ensures ∙ ap (xor_bytes c.args.block.now) (get_or-round_keys _ _ c.key.invariant 0 (omega arith))
 
 pub loop-round-preserved : goal.loop-round-preserved
 loop-round-preserved c =

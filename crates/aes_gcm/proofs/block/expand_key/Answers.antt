@@ -1,4 +1,4 @@
-use Rattle.std.proofs.Common.{◌≡◌, suc, ◌+◌, ◌-◌, ◌∷◌, [], length, take, get_or, ap, ◌∙◌, arith, rules}
+use Rattle.std.proofs.Common.{refl, ◌≡◌, suc, ◌+◌, ◌-◌, [], ap, ◌∙◌, arith, rules}
 use Rattle.aes_gcm.specs.Cipher.{schedule}
 use Rattle.aes_gcm.proofs.Lists.{first_four}
 use Rattle.aes_gcm.proofs.Schedule.{take-schedule}
@@ -9,7 +9,7 @@ unfolding schedule
 loop-i-2-init c =
     let at = c.loop-i.invariant.1 in (
       c.loop-i.invariant.0,
-      first_four c.loop-i.words [] (omega (arith, c.loop-i.invariant.0)) ∙ rw (at 0 (omega arith)) (rw (at 1 (omega arith)) (rw (at 2 (omega arith)) (rw (at 3 (omega arith)) Rattle.std.proofs.Common.refl))),
+      first_four c.loop-i.words [] (omega (arith, c.loop-i.invariant.0)) ∙ rw (at 0 (omega arith)) (rw (at 1 (omega arith)) (rw (at 2 (omega arith)) (rw (at 3 (omega arith)) refl))),
     )
 
 pub loop-i-2-preserved : goal.loop-i-2-preserved
