@@ -1,4 +1,4 @@
-use Rattle.std.proofs.Common.{◌≡◌, ℕ, ◌+◌, ◌<◌, ◌≤◌, ap, ap₂, ◌∙◌, sym, arith, bit_or, bit_xor, slice_index, get_or, length, below_more, List}
+use Rattle.std.proofs.Common.{◌≡◌, ℕ, ap, ap₂, ◌∙◌, sym, arith, bit_or, bit_xor, slice_index, below_more, List}
 use Rattle.std.specs.Int.Bits.{or_add_and, and_le_l, and_le_r, xor_assoc, xor_self, xor_zero_r, xor_zero_l}
 use Rattle.std.proofs.lemmas.Bool.{eqb-true, eq-eqb}
 use Rattle.std.proofs.lemmas.List.{ext_get_or}

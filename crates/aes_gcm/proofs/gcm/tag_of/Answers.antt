@@ -1,5 +1,4 @@
-use Rattle.std.proofs.Common.{ap, ap₂, ◌∙◌, bit_xor}
-use Rattle.std.specs.Prelude.{replicate}
+use Rattle.std.proofs.Common.{ap, ap₂, ◌∙◌}
 use Rattle.std.specs.Int.{to_be_bytes, from_be_bytes, w128}
 use Rattle.aes_gcm.specs.Cipher.{cipher, xor_bytes}
 use Rattle.aes_gcm.specs.Ghash.{ghash}

@@ -1,7 +1,7 @@
-use Rattle.std.proofs.Common.{◌≡◌, ℕ, ◌<◌, ap, ap₂, ◌∙◌, sym, arith, [], ◌∷◌, ◌++◌, map, bit_xor, fold, length}
+use Rattle.std.proofs.Common.{◌≡◌, ℕ, ◌<◌, ap, ◌∙◌, sym, arith, [], ◌∷◌, ◌++◌, map, fold, length}
 use Rattle.std.proofs.lemmas.Grind.{common_steps, fold-append}
 use Rattle.std.specs.Int.{from_be_bytes, w128}
-use Rattle.aes_gcm.specs.Ghash.{product, horner_step}
+use Rattle.aes_gcm.specs.Ghash.{horner_step}
 use Rattle.aes_gcm.specs.Multiples.{factor}
 use Rattle.aes_gcm.specs.Gcm.{blocks_of, padded}
 use Rattle.aes_gcm.proofs.HashedBlocks.{blocks_padded_rest}

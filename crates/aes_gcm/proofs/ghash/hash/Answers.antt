@@ -1,8 +1,8 @@
-use Rattle.std.proofs.Common.{◌≡◌, ℕ, ◌+◌, ◌*◌, ◌%◌, ◌^◌, ◌<◌, ◌≤◌, ap, ap₂, ◌∙◌, sym, arith, [], ◌∷◌, ◌++◌, bit_or, bit_xor, fold, length, mod-eq_of_lt, length-append, subst}
+use Rattle.std.proofs.Common.{◌≡◌, ℕ, ◌+◌, ◌*◌, ◌%◌, ◌^◌, ◌<◌, ap, ap₂, ◌∙◌, sym, arith, [], ◌∷◌, ◌++◌, bit_or, bit_xor, fold, length, mod-eq_of_lt, length-append}
 use Rattle.std.proofs.lemmas.Grind.{fold-append}
 use Rattle.std.specs.Int.Bits.{or_shifted}
 use Rattle.std.specs.Int.{from_be_bytes, w128}
-use Rattle.aes_gcm.specs.Ghash.{product, horner_step, ghash}
+use Rattle.aes_gcm.specs.Ghash.{product, horner_step}
 use Rattle.aes_gcm.specs.Multiples.{factor}
 use Rattle.aes_gcm.specs.Gcm.{blocks_of, padded, length_block, hashed_blocks}
 use Rattle.aes_gcm.proofs.HashedBlocks.{blocks-append, padded_whole, number_cat}

@@ -1,5 +1,5 @@
-use Rattle.std.proofs.Common.{◌≡◌, ℕ, ◌+◌, ◌-◌, ◌*◌, ◌/◌, ◌^◌, ◌<◌, ◌≤◌, ap, ap₂, ◌∙◌, sym, arith, bit_xor, bit_and, [], slice_index_or}
-use Rattle.std.specs.Int.Bits.{xor_zero_l, xor_zero_r, and_le_r}
+use Rattle.std.proofs.Common.{◌≡◌, ℕ, ◌+◌, ◌-◌, ◌*◌, ◌/◌, ◌^◌, ◌≤◌, ap, ap₂, ◌∙◌, sym, arith, bit_xor, bit_and, [], slice_index_or}
+use Rattle.std.specs.Int.Bits.{xor_zero_r, and_le_r}
 use Rattle.aes_gcm.specs.Ghash.{sum_of_shifts}
 use Rattle.aes_gcm.specs.Multiples.{shifted, factor}
 use Rattle.aes_gcm.proofs.Multiples.{sum-next_four, shifted-shifted}
