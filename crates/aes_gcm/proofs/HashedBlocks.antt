@@ -3,7 +3,7 @@ use Rattle.std.proofs.Common.{◌≡◌, ℕ, zero, suc, ◌+◌, ◌-◌, ◌*�
 use Rattle.std.specs.Prelude.{replicate}
 use Rattle.std.specs.Int.{to_be_bytes, w64, w128, from_be_bytes}
 use Rattle.std.specs.Simd.{first_chunks}
-use Rattle.std.proofs.lemmas.List.{take-append-le, drop-append-le, drop-drop, drop_all, take_all, append-nil, map-append, length-replicate}
+use Rattle.std.proofs.lemmas.List.{take-append-le, drop-append-le, drop-drop, drop_all, take_all, map-append, length-replicate}
 use Rattle.std.proofs.lemmas.Nat.{from_be_bytes-to_be_bytes_8}
 use Rattle.aes_gcm.specs.Gcm.{blocks_of, padded}
 
@@ -32,11 +32,6 @@ pub padded_whole : (text : List ℕ) → length (padded text) % 16 ≡ 0
 padded_whole text =
     let k : ℕ = (16 - length text % 16) % 16 in
     omega (arith, length-append text (replicate k 0), length-replicate {A = ℕ} k 0)
-
-pub blocks_padded_whole : (text : List ℕ) → length text % 16 ≡ 0 → blocks_of (padded text) ≡ blocks_of text
-blocks_padded_whole text h =
-    let none : (16 - length text % 16) % 16 ≡ 0 = omega arith in
-    ap (λ k. blocks_of (text ++ replicate k 0)) none ∙ ap blocks_of (append-nil text)
 
 pub blocks_padded_rest : (text rest block : List ℕ) → rest ≡ drop (length text / 16 * 16) text → 0 < length rest → block ≡ rest ++ replicate (16 - length rest) 0
     → blocks_of (padded text) ≡ blocks_of text ++ (from_be_bytes w128 block ∷ [])

@@ -1,16 +1,14 @@
 -- The product of blocks is linear in each of its arguments, commutes and associates.
-use Rattle.std.proofs.Common.{◌≡◌, ℕ, zero, suc, ◌+◌, ◌*◌, ◌/◌, ◌%◌, ◌^◌, ◌<◌, ◌==◌, true, false, refl, ap, ap₂, ◌∙◌, sym, arith, bit_xor}
+use Rattle.std.proofs.Common.{◌≡◌, ℕ, zero, suc, ◌+◌, ◌*◌, ◌/◌, ◌%◌, ◌^◌, ◌<◌, ◌==◌, true, false, refl, ap, ap₂, ◌∙◌, sym, arith, bit_xor, List, [], ◌∷◌, length, fold, zero-mul, mul-one, mod-eq_of_lt, mod-lt}
 use Rattle.std.specs.Prelude.{if◌then◌else◌}
 use Rattle.std.specs.Int.{bit_at}
-use Rattle.std.specs.Int.Bits.{xor_zero_l, xor_zero_r, xor_self, xor_assoc, xor_shr}
+use Rattle.std.specs.Int.Bits.{xor_zero_l, xor_zero_r, xor_self, xor_assoc, xor_shr, xor_shifted}
 use Rattle.std.proofs.lemmas.Nat.{xor_comm, xor_lt}
 use Rattle.std.proofs.lemmas.Nat.Bits.{bit_at_lowest, bit_at_xor, bit_at-lt, bit_at-zero}
 use Rattle.std.proofs.Math.Pow.{pow_pos}
 use Rattle.aes_gcm.specs.Ghash.{times_x, part, sum_of_shifts, product, one, power, horner_step, ghash}
-use Rattle.std.proofs.Common.{List, [], ◌∷◌, length, fold, zero-mul, mul-one, mod-eq_of_lt, mod-lt}
 use Rattle.std.proofs.Math.Nat.{pow-succ'}
 use Rattle.std.proofs.Math.Arith.{mod-mul}
-use Rattle.std.specs.Int.Bits.{xor_shifted}
 
 pub xor_swap : (a b c d : ℕ) → bit_xor (bit_xor a b) (bit_xor c d) ≡ bit_xor (bit_xor a c) (bit_xor b d)
 xor_swap a b c d =
