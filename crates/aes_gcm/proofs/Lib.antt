@@ -8,3 +8,4 @@ pub mod Rounds
 pub mod HashedBlocks
 pub mod Schedule
 pub mod Sealed
+pub mod ZeroKey
