@@ -1,0 +1,6 @@
+pub mod Lending
+pub mod Counts
+pub mod Host
+pub mod Streams
+pub mod Words
+pub mod Names
