@@ -1,8 +1,12 @@
 -- What a loan of owned bytes writes back.
-use Rattle.std.specs.Prelude.{ℕ, List}
+use Rattle.std.specs.Prelude.{ℕ, List, ◌++◌, length, take, drop}
 use Rattle.std.specs.Borrow.{Lends, MutBor, Fml, Array, u8}
 use Rattle.pf_io.specs.contracts.text.Bytes.{the_row}
 
+-- bytes with others written over their front; others of the same length are the whole
+abbrev pub over : List ℕ → List ℕ → List ℕ
+over bytes left = take (length bytes) (left ++ drop (length left) bytes)
+
 -- the bytes end as what was left behind the slice
 abbrev pub LendsBytes : MutBor (List ℕ) → MutBor (List ℕ) → Fml
-LendsBytes bytes slice = Lends the_row (Array u8 0) bytes slice (λ left. left)
+LendsBytes bytes slice = Lends the_row (Array u8 0) bytes slice (over bytes.now)

@@ -21,13 +21,17 @@ part_with part byte = if byte == SLASH then [] else part ++ byte ∷ []
 abbrev pub last_part : List ℕ → List ℕ
 last_part name = fold part_with [] name
 
--- the part of a name that a protected file may have
+pub record EndsIn (end part : List ℕ) : Type 0 where
+  pub front : List ℕ
+  pub whole : part ≡ front ++ end
+
+-- the last part of a name that a protected file may have
 pub record IsTargetPart (part : List ℕ) : Type 0 where
   pub not_empty : part ≢ []
   pub not_this_folder : part ≢ codes "."
   pub not_folder_above : part ≢ codes ".."
-  pub no_recovery : (front : List ℕ) → part ≢ front ++ codes ".recovery"
-  pub no_side_file : (front : List ℕ) → part ≢ front ++ codes ".new"
+  pub no_recovery_file : EndsIn (codes ".recovery") part → ⊥
+  pub no_side_file : EndsIn (codes ".new") part → ⊥
 
 -- a name that a protected file may have
 pub record IsTarget (name : List ℕ) : Type 0 where

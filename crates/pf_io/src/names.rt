@@ -1,6 +1,6 @@
 // Which texts name a file on a host.
 ghost use Rattle.std.specs.Prelude.{◌≡◌, ◌↔◌, IsTrue};
-ghost use Rattle.pf_io.specs.Names.{IsName, IsTarget, IsTargetPart, last_part};
+ghost use Rattle.pf_io.specs.Names.{IsName, IsTarget, IsTargetPart, EndsIn, last_part};
 
 const LONGEST: usize = 512;
 
@@ -25,14 +25,16 @@ fn last_part(name: &[u8]) -> &[u8]
     &name[start..]
 }
 
+fn ends_in(part: &[u8], end: &[u8]) -> bool
+    ensures { IsTrue result ↔ EndsIn end.now part.now }
+{
+    part.ends_with(end)
+}
+
 fn is_target_part(part: &[u8]) -> bool
     ensures { IsTrue result ↔ IsTargetPart part.now }
 {
-    !part.is_empty()
-        && part != b".".as_slice()
-        && part != b"..".as_slice()
-        && !part.ends_with(b".recovery")
-        && !part.ends_with(b".new")
+    !matches!(part, b"" | b"." | b"..") && !ends_in(part, b".recovery") && !ends_in(part, b".new")
 }
 
 /// Whether the text may name a protected file: it is a name, and the part after its last `/` is not empty, not `.`,
