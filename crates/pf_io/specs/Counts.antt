@@ -1,5 +1,5 @@
 -- Counts that rise and stand still at their last value, and the causes that rest on them.
-use Rattle.std.specs.Prelude.{◌≡◌, ℕ, ◌+◌, ◌-◌, ◌^◌, ◌≤◌, min, Result, OnErr}
+use Rattle.std.specs.Prelude.{ℕ, ◌+◌, ◌-◌, ◌^◌, ◌≤◌, min, Result, OnErr}
 
 -- the last value of a count, at which it stands still
 abbrev pub LAST : ℕ
