@@ -4,3 +4,5 @@ pub mod Host
 pub mod Streams
 pub mod Words
 pub mod Names
+pub mod Memory
+pub mod Buffers
