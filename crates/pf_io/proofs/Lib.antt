@@ -1,3 +1,4 @@
 pub mod Telling
 pub mod Loans
 mod Stored
+mod Reading
