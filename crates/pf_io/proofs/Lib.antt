@@ -2,3 +2,4 @@ pub mod Telling
 pub mod Loans
 mod Stored
 mod Reading
+mod Filling

@@ -1,5 +1,5 @@
 -- Streams and words in memory.
-use Rattle.std.specs.Prelude.{◌≡◌, ◌⊎◌, ◌↔◌, ℕ, ◌≤◌, List, [], Option, Some, Result, OnErr, OnOk, IsErr}
+use Rattle.std.specs.Prelude.{◌≡◌, ◌⊎◌, ◌↔◌, ℕ, ◌≤◌, List, Option, Some, Result, OnErr, OnOk, IsErr}
 use Rattle.pf_io.specs.Counts.{counted, Rose}
 use Rattle.pf_io.specs.Streams.{SourceState, SinkState}
 use Rattle.pf_io.specs.Words.{WordsState}

@@ -6,3 +6,4 @@ pub mod Words
 pub mod Names
 pub mod Memory
 pub mod Buffers
+pub mod Std

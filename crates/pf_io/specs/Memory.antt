@@ -1,5 +1,5 @@
 -- A host in memory: its files, the calls that it answered, and its counts.
-use Rattle.std.specs.Prelude.{◌≡◌, ◌≢◌, ◌⊎◌, ℕ, ◌≤◌, cond, List, [], ◌∷◌, ◌++◌, map, Contains, Option, Some, None, Result, Ok, Err, OnErr, OnOk, IsErr, bytes_eq}
+use Rattle.std.specs.Prelude.{◌≡◌, ◌≢◌, ◌⊎◌, ℕ, ◌≤◌, cond, List, [], ◌∷◌, ◌++◌, map, Contains, Some, None, Result, Ok, Err, OnErr, OnOk, IsErr, bytes_eq}
 use Rattle.pf_io.specs.Counts.{counted, Rose}
 use Rattle.pf_io.specs.Host.{Name, Files, Answer, LengthWas, Gave, HostState}
 use Rattle.pf_io.specs.declared.storage.Entry.{Entry}

@@ -1,4 +1,4 @@
-use Rattle.std.proofs.Common.{◌≡◌, refl, rules, ◌∙◌, ap, sym, Option, Some, List, ℕ, length}
+use Rattle.std.proofs.Common.{◌≡◌, refl, rules, ◌∙◌, ap, sym, Some, ℕ, length}
 use Rattle.std.specs.Prelude.{vec_len}
 use Rattle.pf_io.specs.Host.{length_of}
 use Rattle.pf_io.specs.declared.storage.Entry.{Entry}

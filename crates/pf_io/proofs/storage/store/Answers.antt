@@ -1,4 +1,4 @@
-use Rattle.std.proofs.Common.{◌≡◌, ◌∙◌, ap, sym, rules, List, ◌∷◌, ◌++◌, [], ℕ, Option, Some}
+use Rattle.std.proofs.Common.{◌≡◌, ◌∙◌, ap, rules, List, ℕ, Some}
 use Rattle.pf_io.specs.Memory.{look}
 use Rattle.pf_io.specs.declared.storage.Entry.{Entry}
 use Rattle.pf_io.proofs.Stored.{set_at, stores_by, stored_set, stored_none, look_push}

@@ -1,4 +1,4 @@
-use Rattle.std.proofs.Common.{◌≡◌, ap, subst, sym, ◌∙◌, ◌+◌, List, ℕ, drop}
+use Rattle.std.proofs.Common.{◌≡◌, ap, subst, ◌+◌, List, ℕ, drop}
 use Rattle.pf_io.specs.Host.{ReadsFrom}
 use Rattle.pf_io.specs.Streams.{GivesFirst}
 use Rattle.pf_io.specs.Buffers.{MemSourceState}
