@@ -13,8 +13,8 @@ use std::marker::Model;
 use std::os::unix::fs::FileExt;
 use std::rt::Files;
 
-// No file reaches further.
-const LAST_PLACE: u64 = (1 << 63) - 1;
+// No file is longer, and the system refuses a read that would reach further.
+const LONGEST: u64 = (1 << 63) - 1;
 
 const CHUNK: usize = 4096;
 
@@ -96,8 +96,9 @@ fn read_once(file: &File, at: u64, to: &mut [u8]) -> io::Result<usize>
     ensures { IfOk result (λ n. KeepsRest n to.old to.new) }
 {
     let mut chunk = [0; CHUNK];
-    let room = CHUNK.min(to.len());
-    if at > LAST_PLACE {
+    let reach = LONGEST.saturating_sub(at) as usize;
+    let room = CHUNK.min(to.len()).min(reach);
+    if room == 0 {
         return Ok(0);
     }
     for _ in 0..u64::MAX {

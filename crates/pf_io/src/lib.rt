@@ -28,3 +28,6 @@ pub use std_sink::StdSink;
 pub use streams::{Sink, Source};
 pub use text::{Bytes, Text};
 pub use words::Words;
+
+#[cfg(test)]
+mod tests;
