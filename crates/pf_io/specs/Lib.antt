@@ -7,3 +7,4 @@ pub mod Names
 pub mod Memory
 pub mod Buffers
 pub mod Std
+pub mod Table

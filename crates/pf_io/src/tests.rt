@@ -4,6 +4,7 @@ use crate::{
 };
 use std::alloc::Global;
 use std::fs::{self, File};
+use std::process;
 use std::test::Fail;
 
 #[test]
@@ -158,6 +159,13 @@ fn listed_words_come_in_order_and_end(rt: HostRuntime) -> Result<(), Fail> {
     Ok(())
 }
 
+// A path of this process in the folder for files that come and go.
+fn passing(rt: &HostRuntime, name: &str) -> Result<Text, Fail> {
+    let id = format!(in rt.alloc(); "-{}", process::id(rt.process()))?;
+    let path = Text::joined(rt.alloc(), "/tmp/pf_io-", name)?;
+    Ok(Text::joined(rt.alloc(), path.as_str(), id.as_str())?)
+}
+
 fn below(alloc: Global, folder: &str, name: &str) -> Result<Text, Fail> {
     let folder = Text::joined(alloc, folder, "/")?;
     Ok(Text::joined(alloc, folder.as_str(), name)?)
@@ -165,8 +173,8 @@ fn below(alloc: Global, folder: &str, name: &str) -> Result<Text, Fail> {
 
 #[test]
 fn real_files_are_read(rt: HostRuntime) -> Result<(), Fail> {
-    let folder = "/tmp/pf_io_real_files_are_read";
-    let _ = fs::remove_dir_all(&rt, folder);
+    let folder = passing(&rt, "read")?;
+    let folder = folder.as_str();
     fs::create_dir(&rt, folder)?;
     let alloc = rt.alloc();
     let name = below(alloc, folder, "a")?;
@@ -198,8 +206,8 @@ fn real_files_are_read(rt: HostRuntime) -> Result<(), Fail> {
 
 #[test]
 fn more_files_are_read_in_turn_than_stay_open(rt: HostRuntime) -> Result<(), Fail> {
-    let folder = "/tmp/pf_io_more_files_are_read";
-    let _ = fs::remove_dir_all(&rt, folder);
+    let folder = passing(&rt, "turns")?;
+    let folder = folder.as_str();
     fs::create_dir(&rt, folder)?;
     let names = ["a", "b", "c", "d", "e", "f"];
     for name in names {
@@ -227,7 +235,8 @@ fn more_files_are_read_in_turn_than_stay_open(rt: HostRuntime) -> Result<(), Fai
 
 #[test]
 fn a_writer_is_a_sink(rt: HostRuntime) -> Result<(), Fail> {
-    let path = "/tmp/pf_io_a_writer_is_a_sink";
+    let path = passing(&rt, "sink")?;
+    let path = path.as_str();
     let mut sink = StdSink::new(File::create(&rt, path)?);
     assert_eq!(rt; sink.write(b"ab"), Ok(()));
     assert_eq!(rt; sink.write(b"c"), Ok(()));
