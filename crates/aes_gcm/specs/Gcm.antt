@@ -1,5 +1,5 @@
 -- AES-128-GCM of SP 800-38D with an IV of twelve zero bytes and a tag of 16 bytes.
-use Rattle.std.specs.Prelude.{◌≡◌, ℕ, ◌+◌, ◌-◌, ◌*◌, ◌/◌, ◌%◌, List, [], ◌∷◌, ◌++◌, map, length, replicate, slice_index, Option, Some, None, bytes_eq, if◌then◌else◌}
+use Rattle.std.specs.Prelude.{ℕ, ◌+◌, ◌-◌, ◌*◌, ◌/◌, ◌%◌, List, ◌++◌, map, length, replicate, slice_index, Option, Some, None, bytes_eq, if◌then◌else◌}
 use Rattle.std.specs.Int.{to_be_bytes, w32, w64, w128, from_be_bytes}
 use Rattle.std.specs.List.{range_with_len}
 use Rattle.std.specs.Simd.{first_chunks}

@@ -32,3 +32,7 @@ power h (suc k) = product (power h k) h
 unfoldable pub ghash : ℕ → List ℕ → ℕ
 ghash h [] = 0
 ghash h (x ∷ xs) = bit_xor (product x (power h (suc (length xs)))) (ghash h xs)
+
+-- a step of Horner's rule, by which GHASH is computed
+abbrev pub horner_step : ℕ → ℕ → ℕ → ℕ
+horner_step h y x = product (bit_xor y x) h

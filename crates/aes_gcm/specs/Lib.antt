@@ -1,5 +1,6 @@
 pub mod Field
 pub mod Cipher
 pub mod Ghash
+pub mod Multiples
 pub mod Gcm
 pub mod Vectors

@@ -1,10 +1,10 @@
 // The definitions, computed on published examples.
 ghost use Rattle.std.specs.Prelude.{◌≡◌};
-ghost use Rattle.aes_gcm.specs.Vectors.{CipherExample, EmptySealed};
+ghost use Rattle.aes_gcm.specs.Vectors.{BlockSealed, CipherExample, EmptySealed};
 
 /// The definitions of the cipher and of sealing give what the standards' examples say.
 pub fn published_examples()
     ensures cipher { CipherExample }
     ensures empty { EmptySealed }
-{
-}
+    ensures block { BlockSealed }
+{}

@@ -1,1 +1,33 @@
+//! The outside of the tool: named files, streams of bytes and random words, behind calls that may fail.
 #![tactic(auto)]
+
+mod buffers;
+mod counts;
+mod disk_host;
+mod faults;
+mod host;
+mod list_words;
+mod mem_host;
+mod names;
+mod open_files;
+mod std_sink;
+mod storage;
+mod streams;
+mod text;
+mod told;
+mod words;
+
+pub use buffers::{MemSink, MemSource};
+pub use disk_host::DiskHost;
+pub use faults::{HostFault, Memory, StreamFault, WordsFault};
+pub use host::Host;
+pub use list_words::ListWords;
+pub use mem_host::MemHost;
+pub use names::{is_name, is_target};
+pub use std_sink::StdSink;
+pub use streams::{Sink, Source};
+pub use text::{Bytes, Text};
+pub use words::Words;
+
+#[cfg(test)]
+mod tests;

@@ -1,0 +1,11 @@
+pub mod ProductLaws
+pub mod Multiples
+pub mod Bytes
+pub mod KeyStream
+pub mod Lanes
+pub mod Lists
+pub mod Rounds
+pub mod HashedBlocks
+pub mod Schedule
+pub mod Sealed
+pub mod ZeroKey

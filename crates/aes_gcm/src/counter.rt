@@ -1,0 +1,60 @@
+//! The key stream of AES-128-GCM.
+ghost use Rattle.std.specs.Prelude.{◌≡◌, ◌≤◌, length};
+ghost use Rattle.aes_gcm.specs.Gcm.{counter_block, crypted};
+
+use crate::block::{Key, encrypt_block};
+
+/// The IV of twelve zero bytes and a counter (SP 800-38D, 7.1).
+pub(crate) fn counter_block(counter: u32) -> [u8; 16]
+    ensures { result ≡ counter_block counter }
+{
+    let bytes = counter.to_be_bytes();
+    [
+        0, 0, 0, 0, 0, 0, 0, 0, 0, 0, 0, 0, bytes[0], bytes[1], bytes[2], bytes[3],
+    ]
+}
+
+/// Adds the key stream to a text, from counter 2 on (GCTR of SP 800-38D, 6.5).
+pub(crate) fn add_key_stream(key: &Key, text: &mut [u8])
+    requires { length text.old ≤ 65536 }
+    ensures { text.new ≡ crypted key.now text.old }
+{
+    let mut pad = [0; 16];
+    for j in 0..text.len() {
+        if j % 16 == 0 {
+            pad = encrypt_block(key, &counter_block(2 + (j / 16) as u32));
+        }
+        text[j] ^= pad[j % 16];
+    }
+}
+
+#[cfg(test)]
+mod tests {
+    use super::*;
+
+    // Three blocks, the last one short; the wanted bytes are OpenSSL's AES-128-GCM.
+    #[test]
+    fn key_stream_is_added_and_taken_away(rt: HostRuntime) {
+        let mut text = [0; 40];
+        let mut bytes = [0; 16];
+        for i in 0..40 {
+            text[i] = i as u8;
+        }
+        for i in 0..16 {
+            bytes[i] = i as u8;
+        }
+        let plain = text;
+        let key = Key::new(&bytes);
+        add_key_stream(&key, &mut text);
+        assert_eq!(rt;
+            text,
+            [
+                0x49, 0xd7, 0x85, 0x50, 0x9d, 0x9e, 0xa0, 0x8b, 0xeb, 0x80, 0x70, 0x63, 0x6c, 0x8c,
+                0xbe, 0x92, 0xa9, 0xbc, 0x39, 0x3d, 0x20, 0x7f, 0xd4, 0x2f, 0x48, 0x44, 0x2c, 0x45,
+                0x80, 0xaa, 0xe2, 0x49, 0x10, 0x42, 0x94, 0xfc, 0x2e, 0x09, 0xfd, 0x97,
+            ]
+        );
+        add_key_stream(&key, &mut text);
+        assert_eq!(rt; text, plain);
+    }
+}

@@ -1,0 +1,5 @@
+pub mod Telling
+pub mod Loans
+mod Stored
+mod Reading
+mod Filling

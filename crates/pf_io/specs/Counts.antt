@@ -1,0 +1,23 @@
+-- Counts that rise and stand still at their last value, and the causes that rest on them.
+use Rattle.std.specs.Prelude.{ℕ, ◌+◌, ◌-◌, ◌^◌, ◌≤◌, min, Result, OnErr}
+
+-- the last value of a count, at which it stands still
+abbrev pub LAST : ℕ
+LAST = 2 ^ 64 - 1
+
+-- a count after n more
+abbrev pub counted_by : ℕ → ℕ → ℕ
+counted_by n count = min (count + n) LAST
+
+-- a count after one more
+abbrev pub counted : ℕ → ℕ
+counted count = counted_by 1 count
+
+-- the count rose, or stands at its last value
+abbrev pub Rose : ℕ → ℕ → Type 0
+Rose before now = counted before ≤ now
+
+-- the count of faults never falls, and a fault comes only where it rose
+pub record HasCause {T E : Type 0} (before now : ℕ) (result : Result T E) : Type 0 where
+  pub later : before ≤ now
+  pub rose : OnErr result (Rose before now)

@@ -1,0 +1,20 @@
+-- Files and writers of std.
+use Rattle.std.specs.Prelude.{ℕ, List, Option, None}
+use Rattle.pf_io.specs.Host.{HostState}
+use Rattle.pf_io.specs.Streams.{SinkState}
+
+-- a writer as a sink, with the bytes that the writer holds where they are known
+pub record StdSinkState : Type 0 where
+  pub faults : ℕ
+  pub contents : Option (List ℕ)
+
+abbrev pub sink_of : StdSinkState → SinkState
+sink_of state = record { faults = state.faults; bytes = None }
+
+-- real files: nothing is told of what they have
+pub record DiskState : Type 0 where
+  pub faults : ℕ
+  pub reads : ℕ
+
+abbrev pub host_of : DiskState → HostState
+host_of state = record { faults = state.faults; reads = state.reads; given = None; files = None }
