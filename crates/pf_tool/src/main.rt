@@ -1,4 +1,45 @@
-//! The program `pf_tool`.
+//! The program `pf_tool`: tools for protected and trusted files of enclaves.
 #![tactic(auto)]
 
-fn main() {}
+mod decrypt;
+mod fault;
+mod run;
+mod steps;
+mod words;
+
+use pf_io::{Bytes, DiskHost, ListWords, MemSource, StdSink};
+use run::run;
+use std::env;
+use std::io::{self, ErrorKind};
+use std::process::ExitCode;
+
+// The words after the program's name. Where one is not UTF-8 there are none, which is no command.
+fn words_of(rt: &HostRuntime) -> io::Result<Vec<String>> {
+    match env::args(rt) {
+        Ok(words) => Ok(words.skip(1).collect(rt.alloc())?),
+        Err(error) if error.kind() == ErrorKind::InvalidData => Ok(Vec::new(rt.alloc())),
+        Err(error) => Err(error),
+    }
+}
+
+fn main(rt: HostRuntime) -> ExitCode {
+    let alloc = rt.alloc();
+    let Ok(words) = words_of(&rt) else {
+        return ExitCode::from(5);
+    };
+    let mut out = StdSink::new(rt.stdout());
+    let mut log = StdSink::new(rt.stderr());
+    let mut input = MemSource::new(Bytes::from(Vec::new(alloc)));
+    let mut random = ListWords::new(alloc);
+    let mut host = DiskHost::new(rt);
+    let status = run(
+        alloc,
+        &words,
+        &mut host,
+        &mut input,
+        &mut out,
+        &mut log,
+        &mut random,
+    );
+    ExitCode::from(status)
+}

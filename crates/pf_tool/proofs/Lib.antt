@@ -1,0 +1,6 @@
+pub mod Lists
+pub mod Writing
+pub mod Answering
+pub mod Given
+pub mod Ending
+pub mod Running
