@@ -104,12 +104,7 @@ fn word_of(kind: Kind) -> &'static str
 }
 
 // A line of a text and a number.
-fn write_number<L: Sink>(
-    alloc: Global,
-    log: &mut L,
-    text: &str,
-    number: u64,
-) -> Result<(), Unsaid>
+fn write_number<L: Sink>(alloc: Global, log: &mut L, text: &str, number: u64) -> Result<(), Unsaid>
     ensures { Says result (line (text.now ++ decimal number)) (L.state log.old) (L.state log.new) }
 {
     let digits = number.to_string(alloc)?;

@@ -5,6 +5,8 @@ mod decrypt;
 mod fault;
 mod run;
 mod steps;
+#[cfg(test)]
+mod tests;
 mod words;
 
 use pf_io::{Bytes, DiskHost, ListWords, MemSource, StdSink};

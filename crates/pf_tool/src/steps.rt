@@ -71,10 +71,7 @@ fn check_node(node: &[u8; 4096], given: usize) -> Result<(), Fault<'static>>
 }
 
 /// Reads node 0 of a protected file, whole and of a form that can be opened.
-pub(crate) fn read_node<'a, H: Host>(
-    host: &mut H,
-    name: &'a str,
-) -> Result<[u8; 4096], Fault<'a>>
+pub(crate) fn read_node<'a, H: Host>(host: &mut H, name: &'a str) -> Result<[u8; 4096], Fault<'a>>
     ensures faults { (H.state host.old).faults ≤ (H.state host.new).faults }
     ensures files { KeepsFiles (H.state host.old) (H.state host.new) }
     ensures read { IfOk result (HasNode name.now (H.state host.old) (H.state host.new)) }

@@ -19,7 +19,10 @@ pub fn command_of(words: &[String]) -> Option<Decrypt<'_>>
     let [command, key_option, key, input_option, input] = words else {
         return None;
     };
-    if command.as_str() == "decrypt" && key_option.as_str() == "-w" && input_option.as_str() == "-i" {
+    if command.as_str() == "decrypt"
+        && key_option.as_str() == "-w"
+        && input_option.as_str() == "-i"
+    {
         Some(Decrypt {
             key: key.as_str(),
             input: input.as_str(),

@@ -19,7 +19,7 @@ returns-in_err-user-clause-failed g c =
     let input = c.args.command.now.input.now in
     let out = g.K.Sink.state c.args.out.now in
     rw p.1 (subst (λ (fault : Fault). DecryptFails key input old new out out fault) (sym p.2)
-        (by_host (ends_after (KeyRefused key) (Decrypts key input) [] old old new _ (answered_none old) (omega arith) (λ these ending refused. key_refused refused) c.in_err-user.ensures.ended) refl))
+    (by_host (ends_after (KeyRefused key) (Decrypts key input) [] old old new _ (answered_none old) (omega arith) (λ these ending refused. key_refused refused) c.in_err-user.ensures.ended) refl))
 
 pub returns-in_err-node-clause-failed : goal.returns-in_err-node-clause-failed
 returns-in_err-node-clause-failed g c =
@@ -31,8 +31,8 @@ returns-in_err-node-clause-failed g c =
     let input = c.args.command.now.input.now in
     let out = g.K.Sink.state c.args.out.now in
     rw p.1 (subst (λ (fault : Fault). DecryptFails key input old new out out fault) (sym p.2)
-        (by_host (ends_after (NodeRefused input) (Decrypts key input) _ old mid new _ c.in_ok-user.ensures.read c.read_key.ensures.faults
-            (λ these ending refused. key_read _ these c.in_ok-user.ensures.key refl (node_refused refused)) c.in_err-node.ensures.ended) refl))
+    (by_host (ends_after (NodeRefused input) (Decrypts key input) _ old mid new _ c.in_ok-user.ensures.read c.read_key.ensures.faults
+    (λ these ending refused. key_read _ these c.in_ok-user.ensures.key refl (node_refused refused)) c.in_err-node.ensures.ended) refl))
 
 pub returns-in_err-secret-clause-failed : goal.returns-in_err-secret-clause-failed
 returns-in_err-secret-clause-failed g c =
@@ -46,8 +46,8 @@ returns-in_err-secret-clause-failed g c =
     let answered = answered_then _ _ old mid new c.in_ok-user.ensures.read there.answered in
     let out = g.K.Sink.state c.args.out.now in
     rw p.1 (subst (λ (fault : Fault). DecryptFails key input old new out out fault) (sym p.2)
-        (by_host (refusal_ends (Decrypts key input) (OpensTo c.in_ok-user.user c.in_ok-node.node) _ old new _ answered
-            (λ ending opens. key_read _ _ c.in_ok-user.ensures.key refl (node_read there.size _ there.is_target refl there.is_whole opens)) c.in_err-secret.ensures.refused) refl))
+    (by_host (refusal_ends (Decrypts key input) (OpensTo c.in_ok-user.user c.in_ok-node.node) _ old new _ answered
+    (λ ending opens. key_read _ _ c.in_ok-user.ensures.key refl (node_read there.size _ there.is_target refl there.is_whole opens)) c.in_err-secret.ensures.refused) refl))
 
 pub returns-in-Ok-clause-done : goal.returns-in-Ok-clause-done
 returns-in-Ok-clause-done g c =
@@ -56,14 +56,15 @@ returns-in-Ok-clause-done g c =
     let new = g.H.Host.state c.read_node.new.host in
     let there = c.in_ok-node.ensures.read in
     let held = c.in_ok-secret.ensures.opened in
-    let secret = c.in_ok-secret.secret in
-    (take secret.size secret.first,
-     record {
-       these = _;
-       answered = answered_then _ _ old mid new c.in_ok-user.ensures.read there.answered;
-       came = key_read _ _ c.in_ok-user.ensures.key refl (node_read there.size _ there.is_target refl there.is_whole (content_whole _ _ _ _ _ held.opens held.small refl));
-     },
-     c.in-Ok.ensures.taken)
+    let secret = c.in_ok-secret.secret in (
+      take secret.size secret.first,
+      record {
+        these = _;
+        answered = answered_then _ _ old mid new c.in_ok-user.ensures.read there.answered;
+        came = key_read _ _ c.in_ok-user.ensures.key refl (node_read there.size _ there.is_target refl there.is_whole (content_whole _ _ _ _ _ held.opens held.small refl));
+      },
+      c.in-Ok.ensures.taken,
+    )
 
 pub returns-in-Err-clause-failed : goal.returns-in-Err-clause-failed
 returns-in-Err-clause-failed g c =
@@ -74,9 +75,9 @@ returns-in-Err-clause-failed g c =
     let held = c.in_ok-secret.ensures.opened in
     let secret = c.in_ok-secret.secret in
     by_output (take secret.size secret.first)
-     (record {
-       these = _;
-       answered = answered_then _ _ old mid new c.in_ok-user.ensures.read there.answered;
-       came = key_read _ _ c.in_ok-user.ensures.key refl (node_read there.size _ there.is_target refl there.is_whole (content_whole _ _ _ _ _ held.opens held.small refl));
-     })
-     (record { rose = c.in-Err.ensures.cause.rose; front = c.in-Err.ensures.taken }) refl
+    (record {
+      these = _;
+      answered = answered_then _ _ old mid new c.in_ok-user.ensures.read there.answered;
+      came = key_read _ _ c.in_ok-user.ensures.key refl (node_read there.size _ there.is_target refl there.is_whole (content_whole _ _ _ _ _ held.opens held.small refl));
+    })
+    (record { rose = c.in-Err.ensures.cause.rose; front = c.in-Err.ensures.taken }) refl

@@ -24,7 +24,7 @@ returns-in-Ok-clause-content g c key name is zero =
     let after = g.K.Sink.state c.decrypt.new.out in
     let done = c.in-Ok.ensures.done in
     for_names (λ k n. WhereTold old new (λ these. (x : List ℕ) × GaveContent k n these x × Wrote x before after)) _ _ key name (sym c.in-Some.ensures.found ∙ is)
-        (given_content _ _ old new done.0 (λ x. Wrote x before after) done.1 done.2)
+    (given_content _ _ old new done.0 (λ x. Wrote x before after) done.1 done.2)
 
 pub returns-in-Err-clause-decrypts : goal.returns-in-Err-clause-decrypts
 returns-in-Err-clause-decrypts g c key name is =
@@ -35,7 +35,7 @@ returns-in-Err-clause-decrypts g c key name is =
     let log = g.L.Sink.state c.args.log.now in
     let said = g.L.Sink.state c.report-in-Err.new.log in
     for_names (λ k n. DecryptRuns k n old new before after log said c.report-in-Err.result) _ _ key name (sym c.in-Some.ensures.found ∙ is)
-        (runs_by_fault _ _ old new before after log said _ c.report-in-Err.result c.in-Err.ensures.failed c.report-in-Err.ensures)
+    (runs_by_fault _ _ old new before after log said _ c.report-in-Err.result c.in-Err.ensures.failed c.report-in-Err.ensures)
 
 pub returns-in-Err-clause-damage : goal.returns-in-Err-clause-damage
 returns-in-Err-clause-damage g c key name is one =
@@ -46,7 +46,7 @@ returns-in-Err-clause-damage g c key name is one =
     let log = g.L.Sink.state c.args.log.now in
     let said = g.L.Sink.state c.report-in-Err.new.log in
     for_names (λ k n. WhereTold old new (GaveDamage k n)) _ _ key name (sym c.in-Some.ensures.found ∙ is)
-        (run_damage _ _ old new before after log said c.report-in-Err.result (runs_by_fault _ _ old new before after log said _ c.report-in-Err.result c.in-Err.ensures.failed c.report-in-Err.ensures) one)
+    (run_damage _ _ old new before after log said c.report-in-Err.result (runs_by_fault _ _ old new before after log said _ c.report-in-Err.result c.in-Err.ensures.failed c.report-in-Err.ensures) one)
 
 pub returns-in-Err-clause-honest : goal.returns-in-Err-clause-honest
 returns-in-Err-clause-honest g c key name files is of_files host_calm out_calm log_calm =
@@ -57,5 +57,5 @@ returns-in-Err-clause-honest g c key name files is of_files host_calm out_calm l
     let log = g.L.Sink.state c.args.log.now in
     let said = g.L.Sink.state c.report-in-Err.new.log in
     for_names (λ k n. HonestRun k n files before after log said c.report-in-Err.result) _ _ key name (sym c.in-Some.ensures.found ∙ is)
-        (run_honest _ _ files old new before after log said c.report-in-Err.result
-            (runs_by_fault _ _ old new before after log said _ c.report-in-Err.result c.in-Err.ensures.failed c.report-in-Err.ensures) of_files host_calm out_calm log_calm)
+    (run_honest _ _ files old new before after log said c.report-in-Err.result
+    (runs_by_fault _ _ old new before after log said _ c.report-in-Err.result c.in-Err.ensures.failed c.report-in-Err.ensures) of_files host_calm out_calm log_calm)

@@ -23,7 +23,7 @@ returns-in_err-check_node-clause-ended g c =
     let read = answered_bytes _ _ _ 4096 _ _ mid new c.in_ok-given.ensures.rest refl c.in_ok-given.ensures.told c.in_ok-given.ensures.files c.in_ok-given.ensures.honest in
     let answered = answered_node _ _ _ _ old mid new asked read c.in-Some.is in
     rw p.1 (subst (λ (fault : Fault). EndsBy (NodeRefused c.args.name.now) old new fault) (sym p.2)
-        (refusal_ends (NodeRefused c.args.name.now) (NodeFails bytes) _ old new _ answered (λ ending fails. node_fails c.in-Some.field-0 bytes target refl fails) c.in_err-check_node.ensures.fails))
+    (refusal_ends (NodeRefused c.args.name.now) (NodeFails bytes) _ old new _ answered (λ ending fails. node_fails c.in-Some.field-0 bytes target refl fails) c.in_err-check_node.ensures.fails))
 
 pub returns-clause-read : goal.returns-clause-read
 returns-clause-read g c =

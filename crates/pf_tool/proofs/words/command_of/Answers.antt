@@ -7,7 +7,7 @@ use Rattle.pf_tool.proofs.words.command_of.Goals as goal
 pub returns-then-eq-3-clause-found : goal.returns-then-eq-3-clause-found
 returns-then-eq-3-clause-found c =
     let words = five c.args.words.now c.command-item.result c.key_option-item.result c.key-item.result c.input_option-item.result c.input-item.result
-        c.in-len5.len_at_least c.in-len5.len_below c.command-item.is c.key_option-item.is c.key-item.is c.input_option-item.is c.input-item.is in
+    c.in-len5.len_at_least c.in-len5.len_below c.command-item.is c.key_option-item.is c.key-item.is c.input_option-item.is c.input-item.is in
     let command : c.as_str.result.now ≡ codes "decrypt" = search rules in
     let key_option : c.as_str-then-eq.result.now ≡ codes "-w" = search rules in
     let input_option : c.as_str-then-eq-2.result.now ≡ codes "-i" = search rules in

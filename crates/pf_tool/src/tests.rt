@@ -1,0 +1,152 @@
+use crate::run::run;
+use aes_gcm::{Key, seal_in_place};
+use cmac_kdf::metadata_key;
+use pf_io::{Bytes, ListWords, MemHost, MemSink, MemSource};
+use std::alloc::{AllocError, Global};
+use std::process::Abort;
+use std::test::Fail;
+
+const USER: [u8; 16] = [0, 1, 2, 3, 4, 5, 6, 7, 8, 9, 10, 11, 12, 13, 14, 15];
+
+// What a run wrote, and its status.
+#[derive(Drop)]
+struct Outcome {
+    status: u8,
+    out: MemSink,
+    log: MemSink,
+}
+
+fn words_of(alloc: Global, line: &str) -> Result<Vec<String>, AllocError> {
+    let mut words = Vec::new(alloc);
+    for word in line.split(' ') {
+        words.push(String::from_str(alloc, word)?)?;
+    }
+    Ok(words)
+}
+
+// Runs a line of words; `failing` is the number of a write to the output that fails.
+fn ran(
+    alloc: Global,
+    host: &mut MemHost,
+    line: &str,
+    failing: Option<u64>,
+) -> Result<Outcome, AllocError> {
+    let words = words_of(alloc, line)?;
+    let mut input = MemSource::new(Bytes::from(Vec::new(alloc)));
+    let mut out = MemSink::new(alloc);
+    if let Some(call) = failing {
+        out.fail_at(call);
+    }
+    let mut log = MemSink::new(alloc);
+    let mut random = ListWords::new(alloc);
+    let status = run(
+        alloc,
+        &words,
+        host,
+        &mut input,
+        &mut out,
+        &mut log,
+        &mut random,
+    );
+    Ok(Outcome { status, out, log })
+}
+
+// The metadata node of the path `hello.pf` and the content `hello`, under the key `USER`.
+fn hello_node() -> [u8; 4096] {
+    let mut nonce = [0; 32];
+    for (i, byte) in nonce.iter_mut().enumerate() {
+        *byte = i as u8;
+    }
+    let mut part = [0; 3880];
+    part[..8].copy_from_slice(b"hello.pf");
+    part[768] = 5;
+    part[808..813].copy_from_slice(b"hello");
+    let key = Key::new(&metadata_key(&USER, &nonce));
+    let tag = seal_in_place(&key, &[], &mut part);
+    let mut node = [0; 4096];
+    node[..8].copy_from_slice(b"GRPFTOOL");
+    node[8] = 1;
+    node[10..42].copy_from_slice(&nonce);
+    node[42..58].copy_from_slice(&tag);
+    node[59..3939].copy_from_slice(&part);
+    node
+}
+
+fn expect(rt: &impl Abort, outcome: &Outcome, status: u8, out: &[u8], log: &[u8], case: &str) {
+    assert_eq!(rt; outcome.status, status, "{case}");
+    assert_eq!(rt; outcome.out.bytes(), out, "{case}");
+    assert_eq!(rt; outcome.log.bytes(), log, "{case}");
+}
+
+#[test]
+fn decrypt_writes_what_was_sealed(rt: HostRuntime) -> Result<(), Fail> {
+    let alloc = rt.alloc();
+    let mut host = MemHost::new(alloc);
+    host.put("k", &USER)?;
+    host.put("hello.pf", &hello_node())?;
+    let outcome = ran(alloc, &mut host, "decrypt -w k -i hello.pf", None)?;
+    expect(&rt, &outcome, 0, b"hello", b"", "hello");
+    assert_eq!(rt; host.starved(), 0);
+    Ok(())
+}
+
+#[test]
+fn refusals_name_their_rule(rt: HostRuntime) -> Result<(), Fail> {
+    let alloc = rt.alloc();
+    let mut host = MemHost::new(alloc);
+    let node = hello_node();
+    host.put("k", &USER)?;
+    host.put("k15", &[7; 15])?;
+    host.put("k17", &[7; 17])?;
+    host.put("zero", &[0; 16])?;
+    host.put("hello.pf", &node)?;
+    host.put("magic", &node[..8])?;
+    host.put("seven", &node[..7])?;
+    host.put("short", &node[..4095])?;
+    let mut pending = node;
+    pending[58] = 1;
+    host.put("pending", &pending)?;
+    let mut newer = node;
+    newer[8] = 2;
+    host.put("newer", &newer)?;
+    let rows: [(&str, u8, &str); 14] = [
+        ("decode", 2, "usage: unbuilt words\n"),
+        ("decrypt -w k", 2, "usage: unbuilt words\n"),
+        ("decrypt -w  -i hello.pf", 3, "refused bad name\n"),
+        ("decrypt -w none -i hello.pf", 3, "refused not found none\n"),
+        ("decrypt -w k15 -i hello.pf", 3, "refused key file 15\n"),
+        ("decrypt -w k17 -i hello.pf", 3, "refused key file 17\n"),
+        ("decrypt -w k -i a.new", 3, "refused bad name\n"),
+        ("decrypt -w k -i none", 3, "refused not found none\n"),
+        ("decrypt -w k -i seven", 3, "refused not protected\n"),
+        ("decrypt -w k -i magic", 1, "damaged node 0 short\n"),
+        ("decrypt -w k -i short", 1, "damaged node 0 short\n"),
+        ("decrypt -w k -i pending", 3, "refused unbuilt\n"),
+        ("decrypt -w k -i newer", 3, "refused unbuilt\n"),
+        ("decrypt -w zero -i hello.pf", 1, "damaged node 0 tag\n"),
+    ];
+    for (line, status, log) in rows {
+        let outcome = ran(alloc, &mut host, line, None)?;
+        expect(&rt, &outcome, status, b"", log.as_bytes(), line);
+    }
+    Ok(())
+}
+
+#[test]
+fn faults_name_what_failed(rt: HostRuntime) -> Result<(), Fail> {
+    let alloc = rt.alloc();
+    for call in 0..4 {
+        let mut host = MemHost::new(alloc);
+        host.put("k", &USER)?;
+        host.put("hello.pf", &hello_node())?;
+        host.fail_at(call)?;
+        let outcome = ran(alloc, &mut host, "decrypt -w k -i hello.pf", None)?;
+        expect(&rt, &outcome, 4, b"", b"host fault\n", "host");
+    }
+    let mut host = MemHost::new(alloc);
+    host.put("k", &USER)?;
+    host.put("hello.pf", &hello_node())?;
+    let outcome = ran(alloc, &mut host, "decrypt -w k -i hello.pf", Some(0))?;
+    expect(&rt, &outcome, 7, b"", b"stream fault\n", "output");
+    Ok(())
+}
