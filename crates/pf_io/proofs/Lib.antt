@@ -3,3 +3,4 @@ pub mod Loans
 mod Stored
 mod Reading
 mod Filling
+mod Faulted

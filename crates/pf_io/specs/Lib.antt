@@ -1,6 +1,10 @@
 pub mod Lending
 pub mod Counts
+pub mod Disk
+pub mod Moments
+pub mod Steps
 pub mod Host
+pub mod Settling
 pub mod Streams
 pub mod Words
 pub mod Names

@@ -2,6 +2,7 @@
 use Rattle.std.specs.Prelude.{◌≡◌, ◌≢◌, ◌⊎◌, ℕ, ◌≤◌, cond, List, [], ◌∷◌, ◌++◌, map, Contains, Some, None, Result, Ok, Err, OnErr, OnOk, IsErr, bytes_eq}
 use Rattle.pf_io.specs.Counts.{counted, Rose}
 use Rattle.pf_io.specs.Host.{Name, Files, Answer, LengthWas, Gave, HostState}
+use Rattle.pf_io.specs.Settling.{settled_disk}
 use Rattle.pf_io.specs.declared.storage.Entry.{Entry}
 use Rattle.pf_io.specs.declared.told.Told.{Told}
 use Rattle.pf_io.specs.declared.told.Told.TheVariants.{Length, Given}
@@ -33,6 +34,8 @@ Records (Err fault) answer old new = answers_of new ≡ answers_of old
 pub record MemState : Type 0 where
   pub faults : ℕ
   pub reads : ℕ
+  pub writes : ℕ
+  pub widest : ℕ
   pub given : List Answer
   pub files : Files
   pub calls : ℕ
@@ -43,6 +46,8 @@ abbrev pub memory_of : MemHost → MemState
 memory_of host = record {
   faults = host.faults;
   reads = host.reads;
+  writes = host.writes;
+  widest = host.widest;
   given = answers_of host.told.items;
   files = look host.files.items;
   calls = host.calls;
@@ -52,12 +57,21 @@ memory_of host = record {
 
 -- what it tells as a host: it is honest
 abbrev pub host_of : MemState → HostState
-host_of state = record { faults = state.faults; reads = state.reads; given = Some state.given; files = Some state.files }
+host_of state = record {
+  faults = state.faults;
+  reads = state.reads;
+  writes = state.writes;
+  widest = state.widest;
+  given = Some state.given;
+  honest = Some (record { now = settled_disk state.files; past = [] });
+}
 
 -- no call was made, and there is no file
 pub record IsNew (state : MemState) : Type 0 where
   pub faults : state.faults ≡ 0
   pub reads : state.reads ≡ 0
+  pub writes : state.writes ≡ 0
+  pub widest : state.widest ≡ 0
   pub given : state.given ≡ []
   pub files : (name : Name) → state.files name ≡ None
   pub calls : state.calls ≡ 0

@@ -15,6 +15,8 @@ sink_of state = record { faults = state.faults; bytes = None }
 pub record DiskState : Type 0 where
   pub faults : ℕ
   pub reads : ℕ
+  pub writes : ℕ
+  pub widest : ℕ
 
 abbrev pub host_of : DiskState → HostState
-host_of state = record { faults = state.faults; reads = state.reads; given = None; files = None }
+host_of state = record { faults = state.faults; reads = state.reads; writes = state.writes; widest = state.widest; given = None; honest = None }

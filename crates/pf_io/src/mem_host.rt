@@ -1,7 +1,10 @@
 // A host in memory that is honest.
 ghost use Rattle.std.specs.Prelude.{◌≡◌, ◌++◌, ◌∷◌, [], ◌↔◌, IsTrue, IfOk, OnOk, OnErr, Some, List, ℕ, option_map, length, take, Contains, alloc_error};
 ghost use Rattle.pf_io.specs.Counts.{HasCause, counted};
-ghost use Rattle.pf_io.specs.Host.{LengthWas, Gave, Tells, KeepsFiles, OnHonest, ReadsFrom, KeepsRest, length_of, contents};
+ghost use Rattle.pf_io.specs.Moments.{Does};
+ghost use Rattle.pf_io.specs.Steps.{Stays};
+ghost use Rattle.pf_io.specs.Settling.{settled_image};
+ghost use Rattle.pf_io.specs.Host.{LengthWas, Gave, Tells, CountsRead, CountsNeither, KeepsFiles, OnHonest, OnDisk, ReadsFrom, KeepsRest, length_of, contents};
 
 use crate::counts::raise;
 use crate::storage::{Entry, len_of, place_of, read_from, store};
@@ -19,6 +22,8 @@ pub struct MemHost {
     calls: u64,
     faults: u64,
     reads: u64,
+    writes: u64,
+    widest: usize,
     starved: u64,
 }
 
@@ -37,6 +42,8 @@ impl MemHost {
             calls: 0,
             faults: 0,
             reads: 0,
+            writes: 0,
+            widest: 0,
             starved: 0,
         }
     }
@@ -145,12 +152,15 @@ fn give(
 impl Host for MemHost {
     ghost state = { λ host. host_of (memory_of host) };
 
+    ghost reads_as_image = { λ host. settled_image (memory_of host).files };
+
     fn len(&mut self, name: &str) -> Result<Option<u64>, HostFault>
         ensures cause { HasCause (memory_of self.old).faults (memory_of self.new).faults result }
-        ensures reads { (memory_of self.new).reads ≡ (memory_of self.old).reads }
+        ensures counts { CountsNeither (host_of (memory_of self.old)) (host_of (memory_of self.new)) }
         ensures told { Tells result (λ length. LengthWas name.now length) (host_of (memory_of self.old)) (host_of (memory_of self.new)) }
         ensures files { KeepsFiles (host_of (memory_of self.old)) (host_of (memory_of self.new)) }
-        ensures honest { IfOk result (λ length. length ≡ length_of ((memory_of self.old).files name.now)) }
+        ensures honest { IfOk result (λ length. OnHonest (host_of (memory_of self.old)) (λ files. length ≡ length_of (files name.now))) }
+        ensures disk { OnDisk (host_of (memory_of self.old)) (host_of (memory_of self.new)) (Does Stays) }
         ensures call { IsCall result (memory_of self.old) (memory_of self.new) }
     {
         if is_failing(&mut self.calls, &self.failing) {
@@ -164,13 +174,15 @@ impl Host for MemHost {
     fn read_at(&mut self, name: &str, at: u64, to: &mut [u8]) -> Result<usize, HostFault>
         ensures rest { IfOk result (λ n. KeepsRest n to.old to.new) }
         ensures cause { HasCause (memory_of self.old).faults (memory_of self.new).faults result }
-        ensures reads { (memory_of self.new).reads ≡ counted (memory_of self.old).reads }
+        ensures counts { CountsRead (length to.old) (host_of (memory_of self.old)) (host_of (memory_of self.new)) }
         ensures told { Tells result (λ n. Gave name.now at (length to.old) (take n to.new)) (host_of (memory_of self.old)) (host_of (memory_of self.new)) }
         ensures files { KeepsFiles (host_of (memory_of self.old)) (host_of (memory_of self.new)) }
-        ensures honest { IfOk result (λ n. ReadsFrom at n to.new (contents ((memory_of self.old).files name.now))) }
+        ensures honest { IfOk result (λ n. OnHonest (host_of (memory_of self.old)) (λ files. ReadsFrom at n to.new (contents (files name.now)))) }
+        ensures disk { OnDisk (host_of (memory_of self.old)) (host_of (memory_of self.new)) (Does Stays) }
         ensures call { IsCall result (memory_of self.old) (memory_of self.new) }
     {
         raise(&mut self.reads);
+        self.widest = self.widest.max(to.len());
         if is_failing(&mut self.calls, &self.failing) {
             raise(&mut self.faults);
             return Err(HostFault);
@@ -184,5 +196,37 @@ impl Host for MemHost {
             to,
         );
         count_starved(&mut self.faults, &mut self.starved, outcome)
+    }
+
+    fn write_at(&mut self, _name: &str, _at: u64, from: &[u8]) -> Result<(), HostFault> {
+        raise(&mut self.writes);
+        self.widest = self.widest.max(from.len());
+        raise(&mut self.faults);
+        Err(HostFault)
+    }
+
+    fn cut(&mut self, _name: &str, _len: u64) -> Result<(), HostFault> {
+        raise(&mut self.faults);
+        Err(HostFault)
+    }
+
+    fn sync(&mut self, _name: &str) -> Result<(), HostFault> {
+        raise(&mut self.faults);
+        Err(HostFault)
+    }
+
+    fn make(&mut self, _name: &str) -> Result<(), HostFault> {
+        raise(&mut self.faults);
+        Err(HostFault)
+    }
+
+    fn swap_name(&mut self, _from: &str, _to: &str) -> Result<(), HostFault> {
+        raise(&mut self.faults);
+        Err(HostFault)
+    }
+
+    fn remove(&mut self, _name: &str) -> Result<(), HostFault> {
+        raise(&mut self.faults);
+        Err(HostFault)
     }
 }
