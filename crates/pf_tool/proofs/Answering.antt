@@ -3,7 +3,7 @@ use Rattle.std.proofs.Common.{◌≡◌, ℕ, ◌+◌, ◌-◌, ◌≤◌, min, 
 use Rattle.std.specs.List.{AllByRecursion}
 use Rattle.std.proofs.lemmas.List.{take_min}
 use Rattle.std.proofs.lemmas.Option.{IfSome_then}
-use Rattle.pf_io.specs.Host.{Name, Files, Answer, LengthWas, Gave, HostState, Both, IsMore, KeepsFiles, OnHonest, ReadsFrom, KeepsRest, length_of, contents}
+use Rattle.pf_io.specs.Host.{Name, Files, Answer, LengthWas, Gave, HostState, Both, IsMore, KeepsFiles, OnHonest, ReadsFrom, KeepsRest, length_of, contents, files_of}
 use Rattle.pf_io.proofs.Telling.{told_on, told_none}
 use Rattle.pf_tool.specs.Answered.{Answered, IsAnswerOf}
 use Rattle.pf_tool.specs.Steps.{node_answers}
@@ -22,7 +22,7 @@ none_honest None = tt
 
 -- no call
 pub answered_none : (state : HostState) → Answered [] state state
-answered_none state = record { told = told_none state state refl; files = refl; honest = none_honest state.files }
+answered_none state = record { told = told_none state state refl; files = refl; honest = none_honest (files_of state) }
 
 -- the length of a file
 pub answered_length : (name : Name) (length : Option ℕ) (old new : HostState) → Both old.given new.given (IsMore (LengthWas name length ∷ [])) → KeepsFiles old new
@@ -30,7 +30,7 @@ pub answered_length : (name : Name) (length : Option ℕ) (old new : HostState) 
 answered_length name length old new told files honest = record {
   told = told;
   files = files;
-  honest = IfSome_then old.files honest (λ f is. (is, tt));
+  honest = IfSome_then (files_of old) honest (λ f is. (is, tt));
 }
 
 -- what was read is what the files have, as far as there was room
@@ -46,7 +46,7 @@ pub answered_bytes : (name : Name) (at n room : ℕ) (before buffer : List ℕ) 
 answered_bytes name at n room before buffer old new rest long told files honest = record {
   told = told;
   files = files;
-  honest = IfSome_then old.files honest (λ f reads. (read_whole at n room before buffer (contents (f name)) rest long reads, tt));
+  honest = IfSome_then (files_of old) honest (λ f reads. (read_whole at n room before buffer (contents (f name)) rest long reads, tt));
 }
 
 -- answers after others
@@ -54,7 +54,7 @@ pub answered_then : (xs ys : List Answer) (old mid new : HostState) → Answered
 answered_then xs ys old mid new first second = record {
   told = told_on xs ys old mid new first.told second.told;
   files = second.files ∙ first.files;
-  honest = both_honest _ _ _ old.files (λ f one two. all_append (IsAnswerOf f) xs ys one two) first.honest
+  honest = both_honest _ _ _ (files_of old) (λ f one two. all_append (IsAnswerOf f) xs ys one two) first.honest
       (subst (λ (f : Option Files). IfSome f (λ g. AllByRecursion (IsAnswerOf g) ys)) first.files second.honest);
 }
 

@@ -6,7 +6,7 @@ use Rattle.node_layout.specs.Opening.{IsOpenFault}
 use Rattle.node_layout.specs.declared.damage.Kind.{Kind}
 use Rattle.node_layout.specs.declared.damage.Kind.TheVariants as kinds
 use Rattle.pf_io.specs.Counts.{Rose}
-use Rattle.pf_io.specs.Host.{Name, Files, Answer, HostState, WhereTold, IsMore, Both}
+use Rattle.pf_io.specs.Host.{Name, Files, Answer, HostState, WhereTold, IsMore, Both, files_of}
 use Rattle.pf_io.specs.Streams.{SinkState}
 use Rattle.pf_io.proofs.Telling.{told_by, both_same}
 use Rattle.pf_tool.specs.Answered.{Answered, IsAnswerOf}
@@ -118,7 +118,7 @@ run_damage key input old new before after log said status (output_failed content
 wrote_nothing : (log said : SinkState) → said ≡ log → Wrote [] log said
 wrote_nothing log said same = both_same (IsMore []) log.bytes said.bytes (ap (λ (s : SinkState). s.bytes) same) (λ bytes. sym (append-nil bytes))
 
-over_files : (key input : Name) (files : Files) (old new : HostState) (ending : Ending) → old.files ≡ Some files → Finished (Decrypts key input) old new ending → HonestEnding key input files ending
+over_files : (key input : Name) (files : Files) (old new : HostState) (ending : Ending) → files_of old ≡ Some files → Finished (Decrypts key input) old new ending → HonestEnding key input files ending
 over_files key input files old new ending is finished = record {
   these = finished.these;
   of_files = subst (λ (f : Option Files). IfSome f (λ g. AllByRecursion (IsAnswerOf g) finished.these)) is finished.answered.honest;
@@ -138,7 +138,7 @@ fell : {text : List ℕ} {log said : SinkState} → FailedIn text log said ⊎ F
 fell (inl failed) = failed.rose
 fell (inr failed) = failed.rose
 
-honest_refusal : (key input : Name) (files : Files) (old new : HostState) (before after log said : SinkState) (ending : Ending) (status : ℕ) → old.files ≡ Some files
+honest_refusal : (key input : Name) (files : Files) (old new : HostState) (before after log said : SinkState) (ending : Ending) (status : ℕ) → files_of old ≡ Some files
     → Finished (Decrypts key input) old new ending → ending_status ending ≢ 0 → after ≡ before → ¬ (Rose log.faults said.faults)
     → Reported (ending_line ending) (ending_status ending) log said status → HonestRun key input files before after log said status
 honest_refusal key input files old new before after log said ending status is finished ne same calm (line_written e wrote) = record {
@@ -155,7 +155,7 @@ honest_refusal key input files old new before after log said ending status is fi
 
 -- where nothing failed, a run is that of the files
 pub run_honest : (key input : Name) (files : Files) (old new : HostState) (before after log said : SinkState) (status : ℕ) → DecryptRuns key input old new before after log said status
-    → old.files ≡ Some files → ¬ (Rose old.faults new.faults) → ¬ (Rose before.faults after.faults) → ¬ (Rose log.faults said.faults) → HonestRun key input files before after log said status
+    → files_of old ≡ Some files → ¬ (Rose old.faults new.faults) → ¬ (Rose before.faults after.faults) → ¬ (Rose log.faults said.faults) → HonestRun key input files before after log said status
 run_honest key input files old new before after log said status (accepted content finished wrote same e) is host_calm out_calm log_calm = record {
   ending = Done content;
   over_files = over_files key input files old new (Done content) is finished;

@@ -1,7 +1,7 @@
 // A run of the program.
 ghost use Rattle.std.specs.Prelude.{◌≡◌, ◌≢◌, ◌≤◌, ◌⊎◌, List, ℕ, Some};
 ghost use Rattle.pf_io.specs.Counts.{Rose};
-ghost use Rattle.pf_io.specs.Host.{Name, Files, KeepsFiles, WhereTold};
+ghost use Rattle.pf_io.specs.Host.{Name, Files, KeepsFiles, WhereTold, files_of};
 ghost use Rattle.pf_tool.specs.Words.{texts, decrypt_words, IsNoCommand};
 ghost use Rattle.pf_tool.specs.Faults.{fault_line, fault_status, no_command_line};
 ghost use Rattle.pf_tool.specs.Reports.{Reported, Wrote};
@@ -55,7 +55,7 @@ pub fn run<H: Host, S: Source, K: Sink, L: Sink, R: Words>(
     ensures statuses { (result ≤ 7) × (result ≢ 6) }
 
     // Over an honest host, where nothing fails, what comes is what the steps give over its files.
-    ensures honest { (key name : Name) (files : Files) → texts words.now ≡ decrypt_words key name → (H.state host.old).files ≡ Some files
+    ensures honest { (key name : Name) (files : Files) → texts words.now ≡ decrypt_words key name → files_of (H.state host.old) ≡ Some files
         → ¬ (Rose (H.state host.old).faults (H.state host.new).faults) → ¬ (Rose (K.state out.old).faults (K.state out.new).faults)
         → ¬ (Rose (L.state log.old).faults (L.state log.new).faults)
         → HonestRun key name files (K.state out.old) (K.state out.new) (L.state log.old) (L.state log.new) result }
