@@ -1,0 +1,5 @@
+use Rattle.node_layout.proofs.Texts.{fields_same}
+use Rattle.node_layout.proofs.laws.text_gives_its_fields.Goals as goal
+
+pub returns-clause-no_others : goal.returns-clause-no_others
+returns-clause-no_others c = fields_same
