@@ -4,3 +4,4 @@ pub mod Answering
 pub mod Given
 pub mod Ending
 pub mod Running
+pub mod Drawing

@@ -30,6 +30,7 @@ by_ends key input old new before after log said faults.Unbuilt status ends same 
 by_ends key input old new before after log said faults.Host status ends same reported = host_failed ends same reported
 by_ends key input old new before after log said faults.Stream status ends same reported = absurd ends
 by_ends key input old new before after log said faults.Memory status ends same reported = absurd ends
+by_ends key input old new before after log said faults.Random status ends same reported = absurd ends
 
 pub runs_by_fault : (key input : Name) (old new : HostState) (before after log said : SinkState) (fault : Fault) (status : ℕ) → DecryptFails key input old new before after fault
     → Reported (fault_line fault) (fault_status fault) log said status → DecryptRuns key input old new before after log said status

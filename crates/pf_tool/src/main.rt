@@ -4,6 +4,7 @@
 mod decrypt;
 mod fault;
 mod run;
+mod side_file;
 mod steps;
 #[cfg(test)]
 mod tests;

@@ -2,14 +2,15 @@
 ghost use Rattle.std.specs.Prelude.{◌≡◌, ◌≢◌, ◌≤◌, ◌⊎◌, List, ℕ, Some};
 ghost use Rattle.pf_io.specs.Counts.{Rose};
 ghost use Rattle.pf_io.specs.Host.{Name, Files, KeepsFiles, WhereTold, files_of};
-ghost use Rattle.pf_tool.specs.Words.{texts, decrypt_words, IsNoCommand};
+ghost use Rattle.pf_tool.specs.Words.{texts, decrypt_words, encrypt_words};
+ghost use Rattle.pf_tool.specs.Commands.{IsNoCommand};
 ghost use Rattle.pf_tool.specs.Faults.{fault_line, fault_status, no_command_line};
 ghost use Rattle.pf_tool.specs.Reports.{Reported, Wrote};
 ghost use Rattle.pf_tool.specs.Run.{DecryptRuns, GaveContent, GaveDamage, HonestRun};
 
 use crate::decrypt::decrypt;
 use crate::fault::{Fault, Unsaid, say_memory};
-use crate::words::command_of;
+use crate::words::{Command, command_of};
 use pf_io::{Host, Sink, Source, Words};
 use std::alloc::Global;
 
@@ -68,8 +69,11 @@ pub fn run<H: Host, S: Source, K: Sink, L: Sink, R: Words>(
     let Some(command) = command_of(words) else {
         return report(alloc, log, &Fault::NoCommand);
     };
-    match decrypt(host, &command, out) {
-        Ok(()) => 0,
-        Err(fault) => report(alloc, log, &fault),
+    match command {
+        Command::Decrypt(command) => match decrypt(host, &command, out) {
+            Ok(()) => 0,
+            Err(fault) => report(alloc, log, &fault),
+        },
+        Command::Encrypt(_) => 2,
     }
 }

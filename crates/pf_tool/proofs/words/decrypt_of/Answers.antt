@@ -2,7 +2,7 @@ use Rattle.std.proofs.Common.{◌≡◌, List, [], ◌∷◌, ap, ◌∙◌, ℕ
 use Rattle.std.specs.Prelude.{string_bytes, codes}
 use Rattle.pf_tool.specs.Words.{texts}
 use Rattle.pf_tool.proofs.Lists.{five}
-use Rattle.pf_tool.proofs.words.command_of.Goals as goal
+use Rattle.pf_tool.proofs.words.decrypt_of.Goals as goal
 
 pub returns-then-eq-3-clause-found : goal.returns-then-eq-3-clause-found
 returns-then-eq-3-clause-found c =
