@@ -5,3 +5,6 @@ pub mod Given
 pub mod Ending
 pub mod Running
 pub mod Drawing
+pub mod Runs
+pub mod SideDisk
+pub mod SealDisk

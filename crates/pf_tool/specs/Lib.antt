@@ -8,4 +8,6 @@ pub mod Parts
 pub mod Sheet
 pub mod Encrypting
 pub mod SideFile
+pub mod Sealing
+pub mod Crash
 pub mod Run

@@ -1,0 +1,57 @@
+-- What a run of calls leaves on an honest disk, at every moment of it and in the end.
+use Rattle.std.specs.Prelude.{◌≡◌, ◌≢◌, ◌⊎◌, ℕ, ◌≤◌, List, length, Option, Some, None, Result, Ok, Err}
+use Rattle.pf_io.specs.Disk.{Name, File, Disk, Image, IsImageAt, IsSettledFile}
+use Rattle.pf_io.specs.Moments.{Honest, LeavesOnly}
+use Rattle.pf_io.specs.Steps.{KeepsOthers}
+use Rattle.pf_tool.specs.Encrypting.{side_of}
+use Rattle.pf_tool.specs.Sheet.{StandsFor}
+
+-- A crash at any moment leaves an image that has P of the disk before, and the disk after has Q with it.
+pub record Goes (P : Disk → Image → Type 0) (Q : Disk → Disk → Type 0) (old new : Honest) : Type 0 where
+  pub leaves : LeavesOnly (P old.now) old new
+  pub ends : Q old.now new.now
+
+-- a crash leaves every name but one as before
+abbrev pub LeavesOthers : Name → Disk → Image → Type 0
+LeavesOthers name disk image = (other : Name) → other ≢ name → IsImageAt (disk other) (image other)
+
+-- the name has a file of at most n bytes
+pub record HasShort (n : ℕ) (name : Name) (disk : Disk) : Type 0 where
+  pub file : File
+  pub there : disk name ≡ Some file
+  pub short : length file.bytes ≤ n
+
+-- no other name changes, and the name has such a file
+pub record Begun (n : ℕ) (name : Name) (old new : Disk) : Type 0 where
+  pub others : KeepsOthers name old new
+  pub begun : HasShort n name new
+
+-- how the making of a side file ends
+abbrev pub BeginEnds : {T E : Type 0} → Result T E → Name → Disk → Disk → Type 0
+BeginEnds (Ok value) side old new = Begun 4096 side old new
+BeginEnds (Err fault) side old new = KeepsOthers side old new
+
+-- The output is as before, or stands for the content. Every other name but the side file's is as before.
+pub record LeavesEither (user : List ℕ) (output : Name) (content : List ℕ) (disk : Disk) (image : Image) : Type 0 where
+  pub here : IsImageAt (disk output) (image output) ⊎ StandsFor user output content (image output)
+  pub others : (other : Name) → other ≢ output → other ≢ side_of output → IsImageAt (disk other) (image other)
+
+-- a file that stands for the content, with nothing pending at it
+pub record IsSealed (user : List ℕ) (output : Name) (content : List ℕ) (here : Option File) : Type 0 where
+  pub file : File
+  pub there : here ≡ Some file
+  pub settled : IsSettledFile file
+  pub stands : StandsFor user output content (Some file.bytes)
+
+-- how the sealing ends: done, or with the output as before or done
+abbrev pub OutputEnds : {T E : Type 0} → Result T E → List ℕ → Name → List ℕ → Disk → Disk → Type 0
+OutputEnds (Ok value) user output content old new = IsSealed user output content (new output)
+OutputEnds (Err fault) user output content old new = (new output ≡ old output) ⊎ IsSealed user output content (new output)
+
+pub record SealEnds {T E : Type 0} (result : Result T E) (user : List ℕ) (output : Name) (content : List ℕ) (old new : Disk) : Type 0 where
+  pub here : OutputEnds result user output content old new
+  pub others : (other : Name) → other ≢ output → other ≢ side_of output → new other ≡ old other
+
+-- R of a run, where the disk before it has P
+abbrev pub From : (Disk → Type 0) → (Honest → Honest → Type 0) → Honest → Honest → Type 0
+From P R old new = P old.now → R old new
