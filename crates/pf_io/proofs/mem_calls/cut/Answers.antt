@@ -1,0 +1,4 @@
+use Rattle.pf_io.proofs.mem_calls.cut.Goals as goal
+
+pub returns-clause-agrees : goal.returns-clause-agrees
+returns-clause-agrees c = ?
