@@ -1,18 +1,17 @@
 -- What a recorded call does to the disk is what the trait says of it.
-use Rattle.std.proofs.Common.{◌≡◌, ◌≢◌, inr, ⊎_elim, ℕ, Bool, true, false, cond, List, [], refl, sym, ◌∙◌, ap, subst, Option, Some, None, Result, Ok, Err, arith}
-use Rattle.std.proofs.lemmas.List.{length-replicate}
+use Rattle.std.proofs.Common.{◌≡◌, ◌≢◌, inr, ℕ, Bool, true, false, cond, List, [], ◌∷◌, ◌++◌, refl, sym, ◌∙◌, ap, subst, Option, Some, None, Result, Ok, Err, arith}
 use Rattle.std.specs.Prelude.{bytes_eq, option_map, unwrap_or, length}
 use Rattle.std.proofs.lemmas.Slice.Eq.{bytes_eq-Decides}
-use Rattle.pf_io.specs.Disk.{Name, File, Disk, IsSettledFile}
+use Rattle.pf_io.specs.Disk.{Name, File, IsSettledFile}
 use Rattle.pf_io.specs.Moments.{Does}
 use Rattle.pf_io.specs.Steps.{Follows, Stays, Changes, Writes, Cuts, Syncs, Makes, Swaps, Removes, AtOnce, KeepsOthers, RisksWrite, RisksCut}
-use Rattle.pf_io.specs.Host.{Answer, Wrote, WasCut, Synced, Made, Swapped, Removed}
-use Rattle.pf_io.specs.Replay.{Event, Call, Traced, Trace, set_at, written, shortened, settled, moved_by, swapped, after, file_of, disk_of, honest_of}
+use Rattle.pf_io.specs.Host.{Wrote, WasCut, Synced, Made, Swapped, Removed}
+use Rattle.pf_io.specs.Replay.{Event, Call, Put, Traced, Trace, set_at, written, shortened, settled, moved_by, swapped, after, after_all, empty, file_of, disk_of, honest_of}
 use Rattle.pf_io.specs.Storage.{Records}
-use Rattle.pf_io.specs.Splicing.{get_take, get_replicate, get_inside, unkept-front, unkept-back}
+use Rattle.pf_io.specs.Splicing.{get_take, get_replicate, unkept-front, unkept-back}
 use Rattle.pf_io.specs.Sound.{mark_true}
 use Rattle.pf_io.proofs.Stored.{set_at-same, set_at-other}
-use Rattle.pf_io.proofs.Recorded.{recorded}
+use Rattle.pf_io.proofs.Recorded.{after_one, recorded}
 use Rattle.pf_io.proofs.Faulted.{changes_nothing, writes_nothing, cuts_nothing, syncs_nothing}
 
 -- setting a name leaves the others
@@ -122,3 +121,14 @@ swaps from to t = by_name (bytes_eq from to) refl
 pub swap_step : {T E : Type 0} (r : Result T E) (from to : Name) (events events' : List Event) → Records r (λ _. Call (Swapped from to)) events events' → Does (AtOnce r (Swaps from to)) (honest_of events) (honest_of events')
 swap_step r from to events events' records =
     recorded r (λ _. Call (Swapped from to)) (λ r. AtOnce r (Swaps from to)) events events' records (λ value t. swaps from to t) (λ fault d. inr refl)
+
+-- a file that was put, which is settled
+pub put_there : (name : Name) (bytes : List ℕ) (events events' : List Event) → events' ≡ events ++ Put name bytes ∷ [] → (file : File) × (disk_of (after_all events' empty) name ≡ Some file) × (file.bytes ≡ bytes) × IsSettledFile file
+put_there name bytes events events' is =
+    let set = after_one events events' (Put name bytes) is in
+    (file_of (settled bytes), ap (λ (t : Trace). disk_of t name) set ∙ set_there name (Some (settled bytes)) (after_all events empty), refl, settled_is bytes)
+
+pub put_others : (name : Name) (bytes : List ℕ) (events events' : List Event) → events' ≡ events ++ Put name bytes ∷ [] → KeepsOthers name (disk_of (after_all events empty)) (disk_of (after_all events' empty))
+put_others name bytes events events' is other apart =
+    let set = after_one events events' (Put name bytes) is in
+    ap (λ (t : Trace). disk_of t other) set ∙ set_others name (Some (settled bytes)) (after_all events empty) other apart

@@ -1,9 +1,9 @@
 -- What a list of files has at a name after a change.
-use Rattle.std.proofs.Common.{◌≡◌, ◌≢◌, ⊎_elim, ℕ, Bool, true, false, not, cond, List, [], ◌∷◌, ◌++◌, refl, sym, ◌∙◌, ap, Option, Some, None}
+use Rattle.std.proofs.Common.{◌≡◌, ◌≢◌, Bool, true, false, not, cond, List, [], ◌∷◌, ◌++◌, refl, sym, ◌∙◌, ap, Option, Some, None}
 use Rattle.std.specs.Prelude.{bytes_eq, option_map, filter, find}
 use Rattle.std.proofs.lemmas.Slice.Eq.{bytes_eq-Decides}
 use Rattle.pf_io.specs.Disk.{Name}
-use Rattle.pf_io.specs.Replay.{Stored, set_at, moved_by}
+use Rattle.pf_io.specs.Replay.{Stored, set_at}
 use Rattle.pf_io.specs.Storage.{look, named, stored_of, Sets}
 use Rattle.pf_io.specs.declared.storage.Entry.{Entry}
 

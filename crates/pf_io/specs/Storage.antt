@@ -1,8 +1,8 @@
 -- What is stored of named files, and the events that were recorded.
-use Rattle.std.specs.Prelude.{◌≡◌, ℕ, Bool, cond, List, [], ◌∷◌, ◌++◌, map, zip, find, Option, Some, None, option_map, Result, Ok, Err, bytes_eq}
+use Rattle.std.specs.Prelude.{◌≡◌, ℕ, Bool, cond, List, [], ◌∷◌, ◌++◌, map, zip, find, Option, option_map, Result, Ok, Err, bytes_eq}
 use Rattle.pf_io.specs.Disk.{Name}
 use Rattle.pf_io.specs.Host.{LengthWas, Gave, Wrote, WasCut, Synced, Made, Swapped, Removed}
-use Rattle.pf_io.specs.Replay.{Event, Call, Put, Stored, Traced, after_all, empty, set_at}
+use Rattle.pf_io.specs.Replay.{Event, Call, Put, Stored, after_all, empty, set_at}
 use Rattle.pf_io.specs.declared.storage.StoredFile.{StoredFile}
 use Rattle.pf_io.specs.declared.storage.Entry.{Entry}
 use Rattle.pf_io.specs.declared.told.Told.{Told}

@@ -167,7 +167,13 @@ pub(crate) fn make(
 {
     let file = StoredFile::settled(alloc, &[])?;
     let event = Told::Make(name.as_bytes().to_vec(alloc)?);
-    set_file(files, told, event, name.as_bytes().to_vec(alloc)?, Some(file))
+    set_file(
+        files,
+        told,
+        event,
+        name.as_bytes().to_vec(alloc)?,
+        Some(file),
+    )
 }
 
 pub(crate) fn put(
@@ -183,7 +189,13 @@ pub(crate) fn put(
 {
     let file = StoredFile::settled(alloc, bytes)?;
     let event = Told::Place(name.as_bytes().to_vec(alloc)?, bytes.to_vec(alloc)?);
-    set_file(files, told, event, name.as_bytes().to_vec(alloc)?, Some(file))
+    set_file(
+        files,
+        told,
+        event,
+        name.as_bytes().to_vec(alloc)?,
+        Some(file),
+    )
 }
 
 pub(crate) fn remove(

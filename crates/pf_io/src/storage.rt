@@ -79,12 +79,7 @@ impl StoredFile {
 }
 
 // The bytes with others put at a place.
-fn overwritten(
-    alloc: Global,
-    old: &[u8],
-    at: usize,
-    from: &[u8],
-) -> Result<Vec<u8>, AllocError>
+fn overwritten(alloc: Global, old: &[u8], at: usize, from: &[u8]) -> Result<Vec<u8>, AllocError>
     ensures { IfOk result (λ bytes. bytes.items ≡ overwrite at from.now old.now) }
 {
     if from.is_empty() {
