@@ -1,5 +1,7 @@
 pub mod Telling
 pub mod Loans
+pub mod Runs
+pub mod Images
 mod Stored
 mod Recorded
 mod Stepping
