@@ -8,3 +8,4 @@ mod Stepping
 mod Reading
 mod Filling
 mod Faulted
+mod Crashed

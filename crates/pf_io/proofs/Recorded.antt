@@ -1,5 +1,5 @@
 -- What one more recorded event adds to what the events tell.
-use Rattle.std.proofs.Common.{◌≡◌, inl, inr, Bool, true, false, cond, List, [], ◌∷◌, ◌++◌, map, refl, sym, ◌∙◌, ap, subst, Option, Some, None, Result, Ok, Err, IfOk, OnOk, OnErr}
+use Rattle.std.proofs.Common.{◌≡◌, ℕ, inl, inr, Bool, true, false, cond, List, [], ◌∷◌, ◌++◌, map, refl, sym, ◌∙◌, ap, subst, Option, Some, None, Result, Ok, Err, IfOk, OnOk, OnErr}
 use Rattle.std.specs.Prelude.{bytes_eq, option_map}
 use Rattle.pf_io.specs.Disk.{Name, Disk}
 use Rattle.pf_io.specs.Moments.{Does}
@@ -21,6 +21,11 @@ answers-push : (events : List Event) (answer : Answer) → answers_of (events ++
 answers-push [] answer = refl
 answers-push (Call first ∷ events) answer = ap (λ (l : List Answer). first ∷ l) (answers-push events answer)
 answers-push (Put name bytes ∷ events) answer = answers-push events answer
+
+pub answers-put : (events : List Event) (name : Name) (bytes : List ℕ) → answers_of (events ++ Put name bytes ∷ []) ≡ answers_of events
+answers-put [] name bytes = refl
+answers-put (Call first ∷ events) name bytes = ap (λ (l : List Answer). first ∷ l) (answers-put events name bytes)
+answers-put (Put other old ∷ events) name bytes = answers-put events name bytes
 
 events-push : (told : List Told) (one : Told) → events_of (told ++ one ∷ []) ≡ events_of told ++ event_of one ∷ []
 events-push [] one = refl

@@ -24,7 +24,7 @@ decided n m = (bytes_eq-Decides n m).0
 pub set_at-twice : {A : Type 0} (name m : Name) (x y : A) (old : Name → A) → set_at name x (set_at name y old) m ≡ set_at name x old m
 set_at-twice name m x y old = elim (bytes_eq name m) as (λ b. cond b x (cond b y (old m)) ≡ cond b x (old m)) [ true ↦ refl | false ↦ refl ]
 
-look_cons : (e : Entry) (files : List Entry) (m : Name) → look (e ∷ files) m ≡ cond (bytes_eq e.name.items m) (Some (stored_of e.file)) (look files m)
+pub look_cons : (e : Entry) (files : List Entry) (m : Name) → look (e ∷ files) m ≡ cond (bytes_eq e.name.items m) (Some (stored_of e.file)) (look files m)
 look_cons e files m =
     elim (bytes_eq e.name.items m) as (λ b. option_map (λ entry. stored_of entry.file) (cond b (Some e) (find (named m) files)) ≡ cond b (Some (stored_of e.file)) (look files m))
     [ true ↦ refl | false ↦ refl ]

@@ -2,7 +2,7 @@
 use Rattle.std.specs.Prelude.{◌≡◌, ℕ, Bool, cond, List, [], ◌∷◌, ◌++◌, map, zip, find, Option, option_map, Result, Ok, Err, bytes_eq}
 use Rattle.pf_io.specs.Disk.{Name}
 use Rattle.pf_io.specs.Host.{LengthWas, Gave, Wrote, WasCut, Synced, Made, Swapped, Removed}
-use Rattle.pf_io.specs.Replay.{Event, Call, Put, Stored, after_all, empty, set_at}
+use Rattle.pf_io.specs.Replay.{Event, Call, Put, Stored, settled, after_all, empty, set_at}
 use Rattle.pf_io.specs.declared.storage.StoredFile.{StoredFile}
 use Rattle.pf_io.specs.declared.storage.Entry.{Entry}
 use Rattle.pf_io.specs.declared.told.Told.{Told}
@@ -64,3 +64,7 @@ abbrev pub torn_bytes : Tear → Stored → List ℕ
 torn_bytes Kept file = file.bytes
 torn_bytes Lost file = file.synced
 torn_bytes (Fill byte) file = filled byte file.bytes file.kept
+
+-- the events leave each file settled, with the bytes of a crash
+abbrev pub IsTorn : Tear → (Name → Option Stored) → List Event → Type 0
+IsTorn tear files events = (name : Name) → after_all events empty name ≡ option_map (λ file. settled (torn_bytes tear file)) (files name)

@@ -1,10 +1,11 @@
 // What each call does to the storage of a host in memory. Want of memory changes nothing.
-ghost use Rattle.std.specs.Prelude.{◌≡◌, List, ℕ, Some, None, IfOk, OnOk, OnErr, option_map, length, take};
+ghost use Rattle.std.specs.Prelude.{◌≡◌, [], List, ℕ, Some, None, IfOk, OnOk, OnErr, option_map, length, take};
 ghost use Rattle.pf_io.specs.Host.{LengthWas, Gave, Wrote, WasCut, Synced, Made, Swapped, Removed, ReadsFrom, KeepsRest, length_of, contents};
-ghost use Rattle.pf_io.specs.Replay.{Call, Put, write_stored, cut_stored, settled_stored, moved_by};
-ghost use Rattle.pf_io.specs.Storage.{look, bytes_of, stored_of, events_of, event_of, Agrees, Sets, Records};
+ghost use Rattle.pf_io.specs.Replay.{Call, Put, write_stored, cut_stored, settled_stored, moved_by, answers_of};
+ghost use Rattle.pf_io.specs.Storage.{look, bytes_of, stored_of, events_of, event_of, Agrees, Sets, Records, IsTorn};
 
 use crate::storage::{Entry, StoredFile, find, len_of, read_from, remove_all};
+use crate::tear::Tear;
 use crate::told::Told;
 use std::alloc::{AllocError, Global};
 
@@ -180,7 +181,7 @@ pub(crate) fn put(
     alloc: Global,
     files: &mut Vec<Entry>,
     told: &mut Vec<Told>,
-    name: &str,
+    name: &[u8],
     bytes: &[u8],
 ) -> Result<(), AllocError>
     requires { Agrees files.old.items told.old.items }
@@ -188,12 +189,12 @@ pub(crate) fn put(
     ensures records { Records result (λ _. Put name.now bytes.now) (events_of told.old.items) (events_of told.new.items) }
 {
     let file = StoredFile::settled(alloc, bytes)?;
-    let event = Told::Place(name.as_bytes().to_vec(alloc)?, bytes.to_vec(alloc)?);
+    let event = Told::Place(name.to_vec(alloc)?, bytes.to_vec(alloc)?);
     set_file(
         files,
         told,
         event,
-        name.as_bytes().to_vec(alloc)?,
+        name.to_vec(alloc)?,
         Some(file),
     )
 }
@@ -248,5 +249,27 @@ pub(crate) fn swap(
     };
     set_file(files, told, event, to.as_bytes().to_vec(alloc)?, Some(file))?;
     remove_all(files, from.as_bytes());
+    Ok(())
+}
+
+// Puts each of these files as a crash leaves it. Of two of one name the first counts, so it is put last.
+pub(crate) fn put_torn(
+    alloc: Global,
+    old: &[Entry],
+    tear: Tear,
+    files: &mut Vec<Entry>,
+    told: &mut Vec<Told>,
+) -> Result<(), AllocError>
+    requires no_files { files.old.items ≡ [] }
+    requires no_events { told.old.items ≡ [] }
+    ensures agrees { Agrees files.new.items told.new.items }
+    ensures no_answers { answers_of (events_of told.new.items) ≡ [] }
+    ensures torn { OnOk result (IsTorn tear (look old.now) (events_of told.new.items)) }
+{
+    for k in (0..old.len()).rev() {
+        let entry = &old[k];
+        let bytes = entry.file.torn(alloc, tear)?;
+        put(alloc, files, told, &entry.name, &bytes)?;
+    }
     Ok(())
 }

@@ -5,16 +5,17 @@ ghost use Rattle.pf_io.specs.Disk.{reading};
 ghost use Rattle.pf_io.specs.Moments.{Does};
 ghost use Rattle.pf_io.specs.Steps.{Stays, Changes, Writes, Cuts, Syncs, Makes, Swaps, Removes, AtOnce};
 ghost use Rattle.pf_io.specs.Host.{LengthWas, Gave, Wrote, WasCut, Synced, Made, Swapped, Removed, Tells, CountsRead, CountsWrite, CountsNeither, KeepsFiles, OnHonest, OnDisk, ReadsFrom, KeepsRest, length_of, contents};
-ghost use Rattle.pf_io.specs.Replay.{Call};
-ghost use Rattle.pf_io.specs.Storage.{Records};
+ghost use Rattle.pf_io.specs.Replay.{Call, answers_of};
+ghost use Rattle.pf_io.specs.Storage.{Agrees, Records, events_of};
 ghost use Rattle.pf_io.specs.Memory.{memory_of, host_of, disk_now, IsUnused, Puts, NamesCall, earlier, IsToFail, IsCall, IsAfterCrash};
 ghost use Rattle.pf_io.specs.Sound.{reads_as_image};
 
 use crate::counts::raise;
-use crate::mem_calls::{answer_length, cut, give, make, put, remove, swap, sync, write};
+use crate::mem_calls::{answer_length, cut, give, make, put, put_torn, remove, swap, sync, write};
 use crate::memory::MemHost;
-use crate::storage::find;
+use crate::storage::{Entry, find};
 use crate::tear::Tear;
+use crate::told::Told;
 use crate::{Host, HostFault, Memory};
 use std::alloc::{AllocError, Global};
 
@@ -24,10 +25,20 @@ impl MemHost {
         ensures unused { IsUnused (memory_of result) }
         ensures no_events { (memory_of result).events ≡ [] }
     {
+        MemHost::unused(alloc, Vec::new(alloc), Vec::new(alloc))
+    }
+
+    // A host with these files and events, of which nothing was asked yet.
+    fn unused(alloc: Global, files: Vec<Entry>, told: Vec<Told>) -> Self
+        requires agrees { Agrees files.items told.items }
+        requires no_answers { answers_of (events_of told.items) ≡ [] }
+        ensures unused { IsUnused (memory_of result) }
+        ensures events { (memory_of result).events ≡ events_of told.items }
+    {
         MemHost {
             alloc,
-            files: Vec::new(alloc),
-            told: Vec::new(alloc),
+            files,
+            told,
             failing: Vec::new(alloc),
             stop: None,
             calls: 0,
@@ -44,7 +55,7 @@ impl MemHost {
         ensures ok { OnOk result (Puts name.now bytes.now (memory_of self.old) (memory_of self.new)) }
         ensures err { OnErr result (memory_of self.new ≡ memory_of self.old) }
     {
-        put(self.alloc, &mut self.files, &mut self.told, name, bytes)?;
+        put(self.alloc, &mut self.files, &mut self.told, name.as_bytes(), bytes)?;
         Ok(())
     }
 
@@ -77,6 +88,17 @@ impl MemHost {
             Some(stop) => Some(stop.min(call)),
             None => Some(call),
         };
+    }
+
+    /// The host after a crash: each file as `tear` says, which is one outcome that a crash may have, and nothing pending.
+    /// It counts from 0, has given no answers and has no calls that are to fault. Without memory the host is dropped.
+    pub fn after_crash(self, tear: Tear) -> Result<MemHost, Memory>
+        ensures { IfOk result (λ host. IsAfterCrash tear (memory_of self) (memory_of host)) }
+    {
+        let mut files = Vec::new(self.alloc);
+        let mut told = Vec::new(self.alloc);
+        put_torn(self.alloc, &self.files, tear, &mut files, &mut told)?;
+        Ok(MemHost::unused(self.alloc, files, told))
     }
 
     /// How many calls of the trait found no memory; each was a counted fault.
