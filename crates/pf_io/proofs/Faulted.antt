@@ -17,7 +17,10 @@ nothing_done step host does = record { disk = does; time = inl refl }
 
 pub writes_nothing : {T E : Type 0} (fault : E) (at : ℕ) (bytes : List ℕ) (file : File) → Writes {T = T} at bytes (Err fault) file file
 writes_nothing fault at bytes file = record {
-  reads = record { no_shorter = omega arith; no_longer = omega arith; before = λ i lt inside. refl; gap = λ i past lt inside. absurd (omega arith); after = λ i le inside. refl };
+  reads = record {
+    torn = record { no_shorter = omega arith; no_longer = omega arith; before = λ i lt inside. refl; after = λ i le inside. refl };
+    gap = λ i past lt inside. absurd (omega arith);
+  };
   risks = record { before = λ i keeps lt. keeps; after = λ i keeps le. keeps; no_shorter = omega arith; no_longer = omega arith };
 }
 

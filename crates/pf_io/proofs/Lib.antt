@@ -1,6 +1,11 @@
 pub mod Telling
 pub mod Loans
+pub mod Runs
+pub mod Images
 mod Stored
+mod Recorded
+mod Stepping
 mod Reading
 mod Filling
 mod Faulted
+mod Crashed

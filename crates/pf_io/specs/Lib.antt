@@ -4,10 +4,13 @@ pub mod Disk
 pub mod Moments
 pub mod Steps
 pub mod Host
-pub mod Settling
+pub mod Replay
 pub mod Streams
 pub mod Words
 pub mod Names
+pub mod Splicing
+pub mod Storage
+pub mod Sound
 pub mod Memory
 pub mod Buffers
 pub mod Std

@@ -12,14 +12,23 @@ abbrev pub reach : ℕ → ℕ → ℕ
 reach at zero = 0
 reach at (suc n) = at + suc n
 
--- After a write of n bytes that was cut short: any bytes in its range, the same elsewhere, zeros in a gap, and any length between the old one
--- and the one that the whole write makes.
+-- a write of n bytes tore: any bytes in its range and in a gap before it, and any length between the old one and the one that the whole write makes
 pub record Torn (at n : ℕ) (old new : List ℕ) : Type 0 where
   pub no_shorter : length old ≤ length new
   pub no_longer : length new ≤ max (length old) (reach at n)
   pub before : (i : ℕ) → i < at → i < length old → slice_get new i ≡ slice_get old i
-  pub gap : (i : ℕ) → length old ≤ i → i < at → i < length new → slice_get new i ≡ Some 0
   pub after : (i : ℕ) → at + n ≤ i → i < length old → slice_get new i ≡ slice_get old i
+
+-- what a file reads after a write of n bytes that faulted: torn, with zeros in a gap
+pub record CutShort (at n : ℕ) (old new : List ℕ) : Type 0 where
+  pub torn : Torn at n old new
+  pub gap : (i : ℕ) → length old ≤ i → i < at → i < length new → slice_get new i ≡ Some 0
+
+-- a cut tore: any bytes from `len` on, and any length between the old one and the one that the whole cut makes
+pub record TornEnd (len : ℕ) (old new : List ℕ) : Type 0 where
+  pub no_shorter : min (length old) len ≤ length new
+  pub no_longer : length new ≤ length old
+  pub front : (i : ℕ) → i < len → i < length old → slice_get new i ≡ slice_get old i
 
 -- After a write of n bytes, done or not, a crash may leave any bytes in its range too, and each length that the file has had.
 pub record RisksWrite (at n : ℕ) (old new : File) : Type 0 where
@@ -41,7 +50,7 @@ pub record RisksNoMore (old new : File) : Type 0 where
   pub no_longer : new.longest ≤ old.longest
 
 pub record Writes {T E : Type 0} (at : ℕ) (bytes : List ℕ) (result : Result T E) (old new : File) : Type 0 where
-  pub reads : MatchResult result (λ _. new.bytes ≡ overwrite at bytes old.bytes) (λ _. Torn at (length bytes) old.bytes new.bytes)
+  pub reads : MatchResult result (λ _. new.bytes ≡ overwrite at bytes old.bytes) (λ _. CutShort at (length bytes) old.bytes new.bytes)
   pub risks : RisksWrite at (length bytes) old new
 
 -- a fault may have dropped some of the bytes from the end
