@@ -5,6 +5,5 @@ pub mod Given
 pub mod Ending
 pub mod Running
 pub mod Drawing
-pub mod Runs
 pub mod SideDisk
 pub mod SealDisk

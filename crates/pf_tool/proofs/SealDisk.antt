@@ -5,14 +5,16 @@ use Rattle.std.proofs.lemmas.List.{append-nil}
 use Rattle.node_layout.specs.Metadata.{IsPath}
 use Rattle.pf_io.specs.Disk.{Name, File, Disk, Image, IsImage, IsImageAt, IsFileImage, IsSettledFile}
 use Rattle.pf_io.specs.Host.{Both}
-use Rattle.pf_io.specs.Moments.{Honest, Does, LeavesOnly}
+use Rattle.pf_io.specs.Moments.{Honest, Does, LeavesOnly, Leaves, Where, Ran}
+use Rattle.pf_io.proofs.Images.{others_then, follows_at}
+use Rattle.pf_io.proofs.Telling.{both_weaker}
 use Rattle.pf_io.specs.Steps.{Follows, KeepsOthers, Changes, Writes, Syncs, Swaps}
-use Rattle.pf_tool.specs.Crash.{Goes, From, HasShort, LeavesEither, IsSealed, OutputEnds, SealEnds}
+use Rattle.pf_tool.specs.Crash.{HasShort, LeavesEither, IsSealed, OutputEnds, SealEnds}
 use Rattle.pf_tool.specs.Encrypting.{side_of, node_of}
 use Rattle.pf_tool.specs.Sheet.{Sheet, one_node, image_of, IsLinked, Stands, StandsFor}
 use Rattle.pf_tool.specs.Steps.{MOST_FIRST}
-use Rattle.pf_tool.proofs.Runs.{started, goes_on}
-use Rattle.pf_tool.proofs.SideDisk.{keeps_on, followed, overwrite_whole}
+use Rattle.pf_io.proofs.Runs.{started, goes_on}
+use Rattle.pf_tool.proofs.SideDisk.{overwrite_whole}
 
 pub not_side : (output : Name) → output ≢ side_of output
 not_side output same = omega (arith, ap (λ (l : List ℕ). length l) same, length-append output (codes ".new"))
@@ -42,14 +44,14 @@ pub record Keeps (bytes : List ℕ) (name : Name) (old new : Disk) : Type 0 wher
 pub written_holds : {T E : Type 0} (r : Result T E) (name : Name) (bytes : List ℕ) (d f : Disk) → IsOk r → length bytes ≡ 4096 → HasShort 4096 name d → Changes name (Writes 0 bytes r) d f → Holds bytes name d f
 written_holds (Err x) name bytes d f ok long has change = absurd (cc)
 written_holds (Ok v) name bytes d f ok long has change =
-    let next = followed _ (d name) (f name) has.file has.there change.there in
+    let next = follows_at _ (d name) (f name) has.file has.there change.there in
     record { others = change.others; file = next.0; there = next.1; bytes_are = next.2.reads ∙ overwrite_whole bytes has.file.bytes (omega arith) (omega (arith, has.short)) }
 
 pub synced_keeps : {T E : Type 0} (r : Result T E) (name : Name) (bytes : List ℕ) (d e f : Disk) → IsOk r → Holds bytes name d e → Changes name (Syncs r) e f → Keeps bytes name d f
 synced_keeps (Err x) name bytes d e f ok holds change = absurd (cc)
 synced_keeps (Ok v) name bytes d e f ok holds change =
-    let next = followed _ (e name) (f name) holds.file holds.there change.there in
-    record { others = keeps_on name d e f holds.others change.others; file = next.0; there = next.1; bytes_are = next.2.reads ∙ holds.bytes_are; settled = next.2.risks }
+    let next = follows_at _ (e name) (f name) holds.file holds.there change.there in
+    record { others = others_then name d e f holds.others change.others; file = next.0; there = next.1; bytes_are = next.2.reads ∙ holds.bytes_are; settled = next.2.risks }
 
 -- node 0 of a sheet of one node stands for it
 pub node_stands : (user nonce : List ℕ) (output : Name) (content bytes : List ℕ) → IsPath output → length nonce ≡ 32 → length content ≤ MOST_FIRST
@@ -98,37 +100,35 @@ swapped_left user nonce output content d e f path long small keeps swaps image i
       others = λ other ne side. subst (λ (o : Option File). IsImageAt o (image other)) (swaps.others other side ne ∙ keeps.others other side) (is other);
     }
 
--- a run whose clauses hold where the disk before it has A
-leaves_from : (A : Type 0) (P : Image → Type 0) (a b : Honest) → LeavesOnly (λ image. A → P image) a b → A → LeavesOnly P a b
-leaves_from A P a b leaves holds = record {
-  later = leaves.later;
-  each = λ image left. leaves.each image left holds;
-  earlier = λ t image le left. ⊎_elim (λ was. inl was) (λ has. inr (has holds)) (leaves.earlier t image le left);
-}
-
-pub goes_from : (A : Disk → Type 0) (P : Disk → Image → Type 0) (Q : Disk → Disk → Type 0) (o p : Option Honest) → Both o p (Goes (λ d image. A d → P d image) (λ d e. A d → Q d e)) → Both o p (From A (Goes P Q))
-goes_from A P Q (Some a) (Some b) goes = λ holds. record { leaves = leaves_from (A a.now) (P a.now) a b goes.leaves holds; ends = goes.ends holds }
-goes_from A P Q None None goes = tt
-goes_from A P Q (Some a) None goes = absurd goes
-goes_from A P Q None (Some b) goes = absurd goes
+-- a run of which both hold where the disk before it has A
+pub ran_where : (A : Disk → Type 0) (P : Disk → Image → Type 0) (Q : Disk → Disk → Type 0) (o p : Option Honest) → Both o p (Ran (λ d image. A d → P d image) (λ d e. A d → Q d e)) → Both o p (Where A (Ran P Q))
+ran_where A P Q o p ran =
+    both_weaker (Ran (λ d image. A d → P d image) (λ d e. A d → Q d e)) (Where A (Ran P Q)) o p ran (λ a b run has. record {
+      leaves = record {
+        later = run.leaves.later;
+        each = λ image left. run.leaves.each image left has;
+        earlier = λ t image le left. ⊎_elim (λ was. inl was) (λ then_has. inr (then_has has)) (run.leaves.earlier t image le left);
+      };
+      ends = run.ends has;
+    })
 
 -- one more call that changes the side file alone, where the disk before the run has A
 pub side_step : (A : Disk → Type 0) (user : List ℕ) (output : Name) (content : List ℕ) (Q R : Disk → Disk → Type 0) (step : Disk → Disk → Type 0) (o p q : Option Honest)
-    → Both o p (Goes (λ d image. A d → LeavesEither user output content d image) (λ d e. A d → Q d e)) → Both p q (Does step)
+    → Both o p (Ran (λ d image. A d → LeavesEither user output content d image) (λ d e. A d → Q d e)) → Both p q (Does step)
     → ((d e f : Disk) → A d → Q d e → step e f → KeepsOthers (side_of output) d f × R d f)
-    → Both o q (Goes (λ d image. A d → LeavesEither user output content d image) (λ d e. A d → R d e))
+    → Both o q (Ran (λ d image. A d → LeavesEither user output content d image) (λ d e. A d → R d e))
 side_step A user output content Q R step o p q ran does go =
     goes_on _ _ _ step o p q ran does
     (λ d e f q_is step_is. (λ a. (go d e f a (q_is a) step_is).1, λ image is a. either_left user output content d f (go d e f a (q_is a) step_is).0 image is))
 
 -- before the first call
-pub side_start : (A : Disk → Type 0) (user : List ℕ) (output : Name) (content : List ℕ) (o : Option Honest) → Both o o (Goes (λ d image. A d → LeavesEither user output content d image) (λ d e. e ≡ d))
+pub side_start : (A : Disk → Type 0) (user : List ℕ) (output : Name) (content : List ℕ) (o : Option Honest) → Both o o (Ran (λ d image. A d → LeavesEither user output content d image) (λ d e. e ≡ d))
 side_start A user output content o = started (λ d image. A d → LeavesEither user output content d image) o (λ d image is a. either_left user output content d d (λ other ne. refl) image is)
 
 -- the first call, which changes the side file alone
 pub side_first : (A : Disk → Type 0) (user : List ℕ) (output : Name) (content : List ℕ) (R : Disk → Disk → Type 0) (step : Disk → Disk → Type 0) (o q : Option Honest) → Both o q (Does step)
     → ((d f : Disk) → A d → step d f → KeepsOthers (side_of output) d f × R d f)
-    → Both o q (Goes (λ d image. A d → LeavesEither user output content d image) (λ d e. A d → R d e))
+    → Both o q (Ran (λ d image. A d → LeavesEither user output content d image) (λ d e. A d → R d e))
 side_first A user output content R step o q does go =
     goes_on _ _ _ step o o q (side_start A user output content o) does
     (λ d e f same step_is.
@@ -153,12 +153,12 @@ faulted_swap (Err x) user nonce output content d e f failed path long small keep
 
 -- what a publishing run has at its end, whatever stands before it
 abbrev Publishing : {T E : Type 0} → Result T E → List ℕ → Name → List ℕ → Name → Option Honest → Option Honest → Type 0
-Publishing r user output content side o q = Both o q (From (HasShort 4096 side) (Goes (LeavesEither user output content) (SealEnds r user output content)))
+Publishing r user output content side o q = Both o q (Where (HasShort 4096 side) (Ran (LeavesEither user output content) (SealEnds r user output content)))
 
 -- a run in which the side file was written, and then synced
 abbrev Running : (Disk → Disk → Type 0) → List ℕ → Name → List ℕ → Option Honest → Option Honest → Type 0
 Running Q user output content o q =
-    Both o q (Goes (λ d image. HasShort 4096 (side_of output) d → LeavesEither user output content d image) (λ d e. HasShort 4096 (side_of output) d → Q d e))
+    Both o q (Ran (λ d image. HasShort 4096 (side_of output) d → LeavesEither user output content d image) (λ d e. HasShort 4096 (side_of output) d → Q d e))
 
 wrote : {T E : Type 0} (w : Result T E) (user node : List ℕ) (output : Name) (content : List ℕ) (o p : Option Honest) → IsOk w → length node ≡ 4096
     → Both o p (Does (Changes (side_of output) (Writes 0 node w))) → Running (Holds node (side_of output)) user output content o p
@@ -177,7 +177,7 @@ pub write_failed : {T E T2 E2 : Type 0} (r : Result T E) (w : Result T2 E2) (use
     → Both o p (Does (Changes side (Writes 0 node w))) → Publishing r user output content side o p
 write_failed r w user node output content side o p failed is =
     subst (λ (s : Name). Both o p (Does (Changes s (Writes 0 node w))) → Publishing r user output content s o p) (sym is)
-    (λ does. goes_from (HasShort 4096 (side_of output)) (LeavesEither user output content) (SealEnds r user output content) o p
+    (λ does. ran_where (HasShort 4096 (side_of output)) (LeavesEither user output content) (SealEnds r user output content) o p
         (side_first (HasShort 4096 (side_of output)) user output content (SealEnds r user output content) _ o p does
             (λ d f short change. (change.others, same_output r user output content d f failed change.others))))
 
@@ -186,9 +186,9 @@ pub sync_failed : {T E T2 E2 T3 E3 : Type 0} (r : Result T E) (w : Result T2 E2)
     → IsOk w → length node ≡ 4096 → Both o p (Does (Changes side (Writes 0 node w))) → Both p q (Does (Changes side (Syncs s))) → Publishing r user output content side o q
 sync_failed r w s user node output content side o p q failed is ok long =
     subst (λ (n : Name). Both o p (Does (Changes n (Writes 0 node w))) → Both p q (Does (Changes n (Syncs s))) → Publishing r user output content n o q) (sym is)
-    (λ writes syncs. goes_from (HasShort 4096 (side_of output)) (LeavesEither user output content) (SealEnds r user output content) o q
+    (λ writes syncs. ran_where (HasShort 4096 (side_of output)) (LeavesEither user output content) (SealEnds r user output content) o q
         (side_step (HasShort 4096 (side_of output)) user output content (Holds node (side_of output)) (SealEnds r user output content) _ o p q (wrote w user node output content o p ok long writes) syncs
-            (λ d e f short holds change. let keeps = keeps_on (side_of output) d e f holds.others change.others in (keeps, same_output r user output content d f failed keeps))))
+            (λ d e f short holds change. let keeps = others_then (side_of output) d e f holds.others change.others in (keeps, same_output r user output content d f failed keeps))))
 
 -- the swap, done or failed, after a write and a sync
 pub swapped : {T E T2 E2 T3 E3 : Type 0} (r : Result T E) (w : Result T2 E2) (s : Result T3 E3) (step : Disk → Disk → Type 0) (user nonce node : List ℕ) (output : Name) (content : List ℕ) (side : Name) (o p q t : Option Honest)
@@ -199,7 +199,7 @@ swapped r w s step user nonce node output content side o p q t is ok oks long no
     subst (λ (n : Name). Both o p (Does (Changes n (Writes 0 node w))) → Both p q (Does (Changes n (Syncs s))) → Both q t (Does step) → Publishing r user output content n o t) (sym is)
     (λ writes syncs swaps.
     let ran = subst (λ (b : List ℕ). Running (Keeps b (side_of output)) user output content o q) node_is (synced s user node output content o p q oks (wrote w user node output content o p ok long writes) syncs) in
-    goes_from (HasShort 4096 (side_of output)) (LeavesEither user output content) (SealEnds r user output content) o t
+    ran_where (HasShort 4096 (side_of output)) (LeavesEither user output content) (SealEnds r user output content) o t
         (goes_on _ _ _ step o q t ran swaps
             (λ d e f keeps step_is. (λ short. (go d e f (keeps short) step_is).0, λ image left short. (go d e f (keeps short) step_is).1 image left))))
 

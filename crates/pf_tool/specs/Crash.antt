@@ -1,15 +1,9 @@
 -- What a run of calls leaves on an honest disk, at every moment of it and in the end.
 use Rattle.std.specs.Prelude.{◌≡◌, ◌≢◌, ◌⊎◌, ℕ, ◌≤◌, List, length, Option, Some, None, Result, Ok, Err}
 use Rattle.pf_io.specs.Disk.{Name, File, Disk, Image, IsImageAt, IsSettledFile}
-use Rattle.pf_io.specs.Moments.{Honest, LeavesOnly}
 use Rattle.pf_io.specs.Steps.{KeepsOthers}
 use Rattle.pf_tool.specs.Encrypting.{side_of}
 use Rattle.pf_tool.specs.Sheet.{StandsFor}
-
--- A crash at any moment leaves an image that has P of the disk before, and the disk after has Q with it.
-pub record Goes (P : Disk → Image → Type 0) (Q : Disk → Disk → Type 0) (old new : Honest) : Type 0 where
-  pub leaves : LeavesOnly (P old.now) old new
-  pub ends : Q old.now new.now
 
 -- a crash leaves every name but one as before
 abbrev pub LeavesOthers : Name → Disk → Image → Type 0
@@ -51,7 +45,3 @@ OutputEnds (Err fault) user output content old new = (new output ≡ old output)
 pub record SealEnds {T E : Type 0} (result : Result T E) (user : List ℕ) (output : Name) (content : List ℕ) (old new : Disk) : Type 0 where
   pub here : OutputEnds result user output content old new
   pub others : (other : Name) → other ≢ output → other ≢ side_of output → new other ≡ old other
-
--- R of a run, where the disk before it has P
-abbrev pub From : (Disk → Type 0) → (Honest → Honest → Type 0) → Honest → Honest → Type 0
-From P R old new = P old.now → R old new

@@ -5,7 +5,8 @@ ghost use Rattle.node_layout.specs.Metadata.{IsPath};
 ghost use Rattle.pf_tool.specs.Steps.{MOST_FIRST};
 ghost use Rattle.pf_tool.specs.Encrypting.{node_of, side_of};
 ghost use Rattle.pf_io.specs.Host.{OnDisk};
-ghost use Rattle.pf_tool.specs.Crash.{Goes, From, HasShort, LeavesOthers, BeginEnds, LeavesEither, SealEnds};
+ghost use Rattle.pf_io.specs.Moments.{Ran, Where};
+ghost use Rattle.pf_tool.specs.Crash.{HasShort, LeavesOthers, BeginEnds, LeavesEither, SealEnds};
 ghost use Rattle.pf_tool.specs.SideFile.{Draws, Begins, Publishes, ChangeFault};
 
 use crate::fault::Fault;
@@ -59,7 +60,7 @@ pub(crate) fn begin<H: Host, R: Words>(
     ensures random_faults { (R.state random.old).faults ≤ (R.state random.new).faults }
     ensures begun { OnOk result (Begins user.now output.now (H.state host.old) (H.state host.new) (R.state random.old) (R.state random.new)) }
     ensures failed { IfErr result (ChangeFault (H.state host.old) (H.state host.new) (R.state random.old) (R.state random.new)) }
-    ensures disk { OnDisk (H.state host.old) (H.state host.new) (Goes (LeavesOthers side.now) (BeginEnds result side.now)) }
+    ensures disk { OnDisk (H.state host.old) (H.state host.new) (Ran (LeavesOthers side.now) (BeginEnds result side.now)) }
 {
     let nonce = draw_nonce(random)?;
     let node = make_node(user, &nonce, output, &[]);
@@ -85,8 +86,8 @@ pub(crate) fn publish<H: Host, R: Words>(
     ensures random_faults { (R.state random.old).faults ≤ (R.state random.new).faults }
     ensures published { OnOk result (Publishes user.now output.now content.now (H.state host.old) (H.state host.new) (R.state random.old) (R.state random.new)) }
     ensures failed { IfErr result (ChangeFault (H.state host.old) (H.state host.new) (R.state random.old) (R.state random.new)) }
-    ensures disk { OnDisk (H.state host.old) (H.state host.new) (From (HasShort 4096 side.now)
-        (Goes (LeavesEither user.now output.now content.now) (SealEnds result user.now output.now content.now))) }
+    ensures disk { OnDisk (H.state host.old) (H.state host.new) (Where (HasShort 4096 side.now)
+        (Ran (LeavesEither user.now output.now content.now) (SealEnds result user.now output.now content.now))) }
 {
     let nonce = draw_nonce(random)?;
     let node = make_node(user, &nonce, output, content);

@@ -1,18 +1,19 @@
-use Rattle.std.proofs.Common.{◌≡◌, ℕ, ◌≤◌, length, refl, subst, sym, Result, ap, arith, rules, List, Option}
+use Rattle.std.proofs.Common.{◌≡◌, ℕ, ◌≤◌, length, refl, subst, sym, Result, Err, ap, arith, rules, List, Option}
 use Rattle.std.proofs.lemmas.Result.{err_from_is_err_and}
 use Rattle.pf_io.specs.Disk.{Disk}
 use Rattle.pf_io.specs.Host.{Both, OnDisk}
 use Rattle.pf_io.specs.Moments.{Honest}
 use Rattle.pf_io.specs.Steps.{KeepsOthers}
-use Rattle.pf_tool.specs.Crash.{Goes, LeavesOthers, Begun}
-use Rattle.pf_tool.proofs.SideDisk.{first_change, next_change, made_others, made_short, written_short, synced_short}
+use Rattle.pf_tool.specs.Crash.{LeavesOthers, Begun}
+use Rattle.pf_io.proofs.Images.{made_others}
+use Rattle.pf_tool.proofs.SideDisk.{first_change, next_change, made_short, written_short, synced_short}
 use Rattle.pf_tool.proofs.side_file.begin.Goals as goal
 
 pub returns-in_err-make-clause-disk : goal.returns-in_err-make-clause-disk
 returns-in_err-make-clause-disk g c =
     let p = err_from_is_err_and c.from_residual-in_err-make.result c.from_residual-in_err-make.ensures.1 in
     let side = c.args.side.now in
-    rw p.1 (first_change side (KeepsOthers side) _ _ _ c.in_err-make.ensures.disk (λ d f made. let keeps = made_others side d f made in (keeps, keeps)))
+    rw p.1 (first_change side (KeepsOthers side) _ _ _ c.in_err-make.ensures.disk (λ d f made. let r : Result (Unit {0}) (Unit {0}) = Err tt in let keeps = made_others r side d f made in (keeps, keeps)))
 
 pub returns-in_err-write_at-clause-disk : goal.returns-in_err-write_at-clause-disk
 returns-in_err-write_at-clause-disk g c =
