@@ -5,5 +5,6 @@ pub mod Given
 pub mod Ending
 pub mod Running
 pub mod Drawing
+pub mod OnlyReading
 pub mod SideDisk
 pub mod SealDisk

@@ -1,6 +1,8 @@
 -- What a run of calls leaves on an honest disk, at every moment of it and in the end.
-use Rattle.std.specs.Prelude.{◌≡◌, ◌≢◌, ◌⊎◌, ℕ, ◌≤◌, List, length, Option, Some, None, Result, Ok, Err}
-use Rattle.pf_io.specs.Disk.{Name, File, Disk, Image, IsImageAt, IsSettledFile}
+use Rattle.std.specs.Prelude.{◌≡◌, ◌≢◌, ◌⊎◌, ℕ, ◌≤◌, List, length, take, Option, Some, None, Result, Ok, Err}
+use Rattle.pf_io.specs.Disk.{Name, File, Disk, Image, IsImage, IsImageAt, IsSettledFile, reading}
+use Rattle.pf_io.specs.Host.{HostState, OnDisk, contents}
+use Rattle.pf_io.specs.Moments.{Ran}
 use Rattle.pf_io.specs.Steps.{KeepsOthers}
 use Rattle.pf_tool.specs.Encrypting.{side_of}
 use Rattle.pf_tool.specs.Sheet.{StandsFor}
@@ -45,3 +47,21 @@ OutputEnds (Err fault) user output content old new = (new output ≡ old output)
 pub record SealEnds {T E : Type 0} (result : Result T E) (user : List ℕ) (output : Name) (content : List ℕ) (old new : Disk) : Type 0 where
   pub here : OutputEnds result user output content old new
   pub others : (other : Name) → other ≢ output → other ≢ side_of output → new other ≡ old other
+
+-- nothing was changed: a crash at any moment leaves what it might have left before, and the disk is as it was
+abbrev pub OnlyReads : HostState → HostState → Type 0
+OnlyReads old new = OnDisk old new (Ran IsImage (λ before now. now ≡ before))
+
+-- the key and the content that the disk's files give
+abbrev pub user_on : Disk → Name → List ℕ
+user_on disk key = take 16 (contents (reading disk key))
+
+abbrev pub content_on : Disk → Name → List ℕ
+content_on disk input = contents (reading disk input)
+
+-- `encrypt` at every moment, and in the end, on the disk before it
+abbrev pub LeavesEncrypted : Name → Name → Name → Disk → Image → Type 0
+LeavesEncrypted key input output disk image = LeavesEither (user_on disk key) output (content_on disk input) disk image
+
+abbrev pub EncryptEnds : {T E : Type 0} → Result T E → Name → Name → Name → Disk → Disk → Type 0
+EncryptEnds result key input output old new = SealEnds result (user_on old key) output (content_on old input) old new
