@@ -8,11 +8,11 @@ use Rattle.pf_io.proofs.Telling.{told_on, told_none}
 use Rattle.pf_tool.specs.Answered.{Answered, IsAnswerOf}
 use Rattle.pf_tool.specs.Steps.{node_answers}
 
-both_honest : (P Q R : Files → Type 0) (files : Option Files) → ((f : Files) → P f → Q f → R f) → IfSome files P → IfSome files Q → IfSome files R
+pub both_honest : (P Q R : Files → Type 0) (files : Option Files) → ((f : Files) → P f → Q f → R f) → IfSome files P → IfSome files Q → IfSome files R
 both_honest P Q R (Some f) go one two = go f one two
 both_honest P Q R None go one two = tt
 
-all_append : (P : Answer → Type 0) (xs ys : List Answer) → AllByRecursion P xs → AllByRecursion P ys → AllByRecursion P (xs ++ ys)
+pub all_append : (P : Answer → Type 0) (xs ys : List Answer) → AllByRecursion P xs → AllByRecursion P ys → AllByRecursion P (xs ++ ys)
 all_append P [] ys one two = two
 all_append P (x ∷ xs) ys one two = (one.0, all_append P xs ys one.1 two)
 
@@ -34,7 +34,7 @@ answered_length name length old new told files honest = record {
 }
 
 -- what was read is what the files have, as far as there was room
-read_whole : (at n room : ℕ) (before buffer bytes : List ℕ) → KeepsRest n before buffer → length before ≡ room → ReadsFrom at n buffer bytes → take n buffer ≡ take room (drop at bytes)
+pub read_whole : (at n room : ℕ) (before buffer bytes : List ℕ) → KeepsRest n before buffer → length before ≡ room → ReadsFrom at n buffer bytes → take n buffer ≡ take room (drop at bytes)
 read_whole at n room before buffer bytes rest long reads =
     let count : n ≡ min room (length (drop at bytes)) = omega (arith, reads.count, rest.same_length, long, length-drop at bytes) in
     reads.filled ∙ ap (λ (k : ℕ). take k (drop at bytes)) count ∙ take_min room (drop at bytes)

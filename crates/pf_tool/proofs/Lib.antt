@@ -8,3 +8,5 @@ pub mod Drawing
 pub mod OnlyReading
 pub mod SideDisk
 pub mod SealDisk
+pub mod SealInput
+pub mod Tracing

@@ -59,6 +59,13 @@ user_on disk key = take 16 (contents (reading disk key))
 abbrev pub content_on : Disk → Name → List ℕ
 content_on disk input = contents (reading disk input)
 
+-- the sealing of the input under a key at every moment, and in the end, on the disk before it
+abbrev pub LeavesSealed : List ℕ → Name → Name → Disk → Image → Type 0
+LeavesSealed user input output disk image = LeavesEither user output (content_on disk input) disk image
+
+abbrev pub InputEnds : {T E : Type 0} → Result T E → List ℕ → Name → Name → Disk → Disk → Type 0
+InputEnds result user input output old new = SealEnds result user output (content_on old input) old new
+
 -- `encrypt` at every moment, and in the end, on the disk before it
 abbrev pub LeavesEncrypted : Name → Name → Name → Disk → Image → Type 0
 LeavesEncrypted key input output disk image = LeavesEither (user_on disk key) output (content_on disk input) disk image

@@ -2,6 +2,7 @@
 #![tactic(auto)]
 
 mod decrypt;
+mod encrypt;
 mod fault;
 mod run;
 mod side_file;
