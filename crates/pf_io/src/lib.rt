@@ -3,6 +3,7 @@
 
 mod buffers;
 mod counts;
+mod device_words;
 mod disk_host;
 mod faults;
 mod host;
@@ -21,6 +22,7 @@ mod told;
 mod words;
 
 pub use buffers::{MemSink, MemSource};
+pub use device_words::DeviceWords;
 pub use disk_host::DiskHost;
 pub use faults::{HostFault, Memory, StreamFault, WordsFault};
 pub use host::Host;
