@@ -2,6 +2,7 @@ pub mod Telling
 pub mod Loans
 pub mod Runs
 pub mod Images
+mod Replacing
 mod Stored
 mod Recorded
 mod Stepping

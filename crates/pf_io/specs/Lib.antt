@@ -8,6 +8,7 @@ pub mod Replay
 pub mod Streams
 pub mod Words
 pub mod Names
+pub mod Replace
 pub mod Splicing
 pub mod Storage
 pub mod Sound
