@@ -3,6 +3,7 @@ pub mod Loans
 pub mod Runs
 pub mod Images
 mod Replacing
+mod Exemplified
 mod Stored
 mod Recorded
 mod Stepping

@@ -16,3 +16,4 @@ pub mod Memory
 pub mod Buffers
 pub mod Std
 pub mod Table
+pub mod Examples

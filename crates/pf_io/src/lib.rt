@@ -3,6 +3,7 @@
 
 mod buffers;
 mod counts;
+pub mod crash_examples;
 mod device_words;
 mod disk_host;
 mod faults;
