@@ -4,9 +4,9 @@ use Rattle.std.specs.Borrow.{Lends, MutBor, Fml, Array, u8}
 use Rattle.pf_io.specs.contracts.text.Bytes.{the_row}
 
 -- bytes with others written over their front; others of the same length are the whole
-abbrev pub over : List ℕ → List ℕ → List ℕ
-over bytes left = take (length bytes) (left ++ drop (length left) bytes)
+abbrev pub with_front : List ℕ → List ℕ → List ℕ
+with_front bytes left = take (length bytes) (left ++ drop (length left) bytes)
 
 -- the bytes end as what was left behind the slice
 abbrev pub LendsBytes : MutBor (List ℕ) → MutBor (List ℕ) → Fml
-LendsBytes bytes slice = Lends the_row (Array u8 0) bytes slice (over bytes.now)
+LendsBytes bytes slice = Lends the_row (Array u8 0) bytes slice (with_front bytes.now)

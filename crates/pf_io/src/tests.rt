@@ -65,13 +65,13 @@ fn texts_and_bytes_are_owned(rt: HostRuntime) -> Result<(), Fail> {
     assert_eq!(rt; text.as_str(), "na\u{ef}ve");
     let joined = Text::joined(rt.alloc(), text.as_str(), ".new")?;
     assert_eq!(rt; joined.as_str(), "na\u{ef}ve.new");
+    let plain = String::from(joined);
+    assert_eq!(rt; Text::from(plain).as_str(), "na\u{ef}ve.new");
     let mut bytes = Bytes::zeroed(rt.alloc(), 3)?;
     bytes.as_mut_slice()[1] = 7;
     assert_eq!(rt; bytes.as_slice(), [0, 7, 0].as_slice());
-    assert_eq!(rt;
-        Bytes::copy(rt.alloc(), b"xyz")?.as_slice(),
-        b"xyz".as_slice()
-    );
+    let list = Vec::from(Bytes::copy(rt.alloc(), b"xyz")?);
+    assert_eq!(rt; Bytes::from(list).as_slice(), b"xyz".as_slice());
     Ok(())
 }
 

@@ -1,5 +1,5 @@
 // Owned text and owned bytes.
-ghost use Rattle.std.specs.Prelude.{◌≡◌, ◌++◌, IfOk, replicate};
+ghost use Rattle.std.specs.Prelude.{◌≡◌, ◌++◌, IfOk, replicate, string_bytes};
 
 use crate::Memory;
 use std::alloc::Global;
@@ -42,6 +42,24 @@ impl Text {
         ensures { result.now ≡ self.now }
     {
         self.text.as_str()
+    }
+}
+
+/// The text, without a copy.
+impl From<String> for Text {
+    ghost from_gives = { λ text made. made ≡ string_bytes text };
+
+    fn from(text: String) -> Self {
+        Text { text }
+    }
+}
+
+/// The text, without a copy.
+impl From<Text> for String {
+    ghost from_gives = { λ text made. string_bytes made ≡ text };
+
+    fn from(text: Text) -> Self {
+        text.text
     }
 }
 
@@ -93,5 +111,23 @@ impl Bytes {
         ensures value { result.now ≡ self.old }
     {
         self.bytes.as_mut_slice()
+    }
+}
+
+/// The bytes, without a copy.
+impl From<Vec<u8>> for Bytes {
+    ghost from_gives = { λ bytes made. made ≡ bytes.items };
+
+    fn from(bytes: Vec<u8>) -> Self {
+        Bytes { bytes }
+    }
+}
+
+/// The bytes, without a copy.
+impl From<Bytes> for Vec<u8> {
+    ghost from_gives = { λ bytes made. made.items ≡ bytes };
+
+    fn from(bytes: Bytes) -> Self {
+        bytes.bytes
     }
 }
