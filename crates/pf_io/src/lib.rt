@@ -39,4 +39,6 @@ pub use text::{Bytes, Text};
 pub use words::Words;
 
 #[cfg(test)]
+mod crash_tests;
+#[cfg(test)]
 mod tests;
