@@ -1,6 +1,6 @@
 -- What a crash leaves of two files after one of them was swapped over the other, or made anew.
-use Rattle.std.proofs.Common.{◌≡◌, ◌∙◌, ◌⊎◌, inl, inr, ℕ, zero, suc, ◌<◌, ◌≤◌, List, [], ◌∷◌, length, get_or, refl, ap, subst, Option, Some, None, Result, Ok, Err, arith}
-use Rattle.pf_io.specs.Disk.{File, Disk, Image, IsFileImage, IsImageAt, IsImage, IsSettledFile}
+use Rattle.std.proofs.Common.{◌≡◌, ◌∙◌, ◌⊎◌, inl, inr, ℕ, List, [], ◌∷◌, get_or, refl, ap, subst, Option, Some, Result, Ok, Err, arith}
+use Rattle.pf_io.specs.Disk.{File, Disk, Image, IsFileImage, IsImageAt, IsImage}
 use Rattle.pf_io.specs.Steps.{Swaps, Makes, AtOnce}
 use Rattle.pf_io.specs.Replay.{settled, written, file_of}
 use Rattle.pf_io.specs.Examples.{A, B, two_files_disk, SwapLeaves}

@@ -1,7 +1,7 @@
 -- What each call of a replacement by a side file leaves.
 use Rattle.std.proofs.Common.{◌≡◌, ◌≢◌, inl, inr, ◌⊎◌, ℕ, List, refl, sym, ◌∙◌, ap, subst, Option, Some, Result, Ok, Err, OnOk}
-use Rattle.pf_io.specs.Disk.{Name, File, Disk, Image, IsImageAt, IsImage, IsSettledFile}
-use Rattle.pf_io.specs.Moments.{Honest, Does, Leaves, Ends}
+use Rattle.pf_io.specs.Disk.{Name, File, Disk, Image, IsImageAt, IsImage}
+use Rattle.pf_io.specs.Moments.{Honest, Does, Ends}
 use Rattle.pf_io.specs.Steps.{KeepsOthers, Changes, Makes, Swaps, Writes, Syncs, AtOnce, IsEmptyFile, overwrite}
 use Rattle.pf_io.specs.Host.{Both}
 use Rattle.pf_io.specs.Replace.{IsReplaced, IsWhole, IsDone, IsTried}

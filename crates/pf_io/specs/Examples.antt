@@ -1,8 +1,8 @@
 -- Crashes of small files, computed: what is left, and what is not.
-use Rattle.std.specs.Prelude.{◌≡◌, ◌⊎◌, ℕ, List, [], ◌∷◌, ◌++◌, Option, Some, None, Result, Ok, option_map}
-use Rattle.pf_io.specs.Disk.{Name, File, Disk, Image, IsFileImage, IsImageAt, IsImage, Settled}
-use Rattle.pf_io.specs.Steps.{Writes, Cuts, Syncs, Makes, Swaps, Changes, AtOnce}
-use Rattle.pf_io.specs.Host.{Wrote, WasCut, Synced, Made, Swapped}
+use Rattle.std.specs.Prelude.{◌≡◌, ◌⊎◌, ℕ, List, [], ◌∷◌, ◌++◌, Some, None, Result, Ok}
+use Rattle.pf_io.specs.Disk.{Name, File, Disk, Image, IsFileImage, IsImageAt, IsImage}
+use Rattle.pf_io.specs.Steps.{Writes, Cuts, Syncs, Makes, Swaps, AtOnce}
+use Rattle.pf_io.specs.Host.{Wrote, Swapped}
 use Rattle.pf_io.specs.Replay.{Event, Call, Put, Traced, settled, written, shortened, after_all, empty, file_of, disk_of}
 
 abbrev pub old_file : Traced

@@ -1,5 +1,5 @@
 use Rattle.pf_io.proofs.Runs.{ran_leaves, ran_ends}
-use Rattle.pf_io.proofs.Telling.{told_on, both_weaker}
+use Rattle.pf_io.proofs.Telling.{both_weaker}
 use Rattle.pf_io.proofs.Replacing.{make_any, make_ok, write_any, write_ok, sync_any, sync_ok, swap_any, swap_done, tried_beside}
 use Rattle.pf_io.proofs.replace.replace_by_side_file.Goals as goal
 
