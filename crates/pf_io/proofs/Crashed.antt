@@ -1,10 +1,9 @@
 -- What a host in memory has after a crash is an image of what it had.
-use Rattle.std.proofs.Common.{◌≡◌, ℕ, zero, suc, ◌<◌, Bool, true, false, cond, List, [], ◌∷◌, ◌++◌, map, length, get_or, drop, slice_get, refl, sym, ◌∙◌, ap, subst, Option, Some, None, arith}
-use Rattle.std.specs.Prelude.{option_map, zip, bytes_eq}
+use Rattle.std.proofs.Common.{◌≡◌, ℕ, zero, suc, ◌<◌, Bool, true, false, cond, List, [], ◌∷◌, ◌++◌, length, get_or, drop, slice_get, refl, sym, ◌∙◌, ap, subst, Option, Some, None, arith}
+use Rattle.std.specs.Prelude.{option_map, bytes_eq}
 use Rattle.pf_io.specs.Disk.{Name, IsFileImage, IsImageAt, IsSettledAt, IsCrashOf, read_of, reading}
 use Rattle.pf_io.specs.Replay.{Event, Put, Stored, Traced, Trace, answers_of, set_at, settled, after_all, empty, file_of, disk_of}
 use Rattle.pf_io.specs.Storage.{look, stored_of, filled, torn_bytes, stored_after, IsTorn}
-use Rattle.pf_io.specs.Splicing.{get_inside}
 use Rattle.pf_io.specs.Sound.{IsSound, SoundAt, sound_events, mark_true}
 use Rattle.std.proofs.Math.Seq.{drop-cons}
 use Rattle.pf_io.specs.declared.storage.Entry.{Entry}

@@ -1,6 +1,6 @@
 -- What a crash leaves of a file after one call, and what stays.
-use Rattle.std.proofs.Common.{◌≡◌, ◌≢◌, ◌⊎◌, inl, inr, ℕ, zero, suc, ◌+◌, ◌-◌, ◌<◌, ◌≤◌, min, List, [], ◌∷◌, ◌++◌, length, take, drop, replicate, slice_get, refl, sym, ◌∙◌, ap, subst, Option, Some, None, Result, Ok, Err, arith, length-append}
-use Rattle.std.proofs.lemmas.List.{length-take, drop_all, append-nil, take_all}
+use Rattle.std.proofs.Common.{◌≡◌, ◌≢◌, ◌⊎◌, inl, inr, ℕ, suc, ◌+◌, ◌<◌, ◌≤◌, List, [], ◌∷◌, ◌++◌, length, take, slice_get, refl, sym, ◌∙◌, ap, subst, Option, Some, None, Result, Ok, Err, arith}
+use Rattle.std.proofs.lemmas.List.{drop_all, append-nil}
 use Rattle.pf_io.specs.Disk.{Name, File, Disk, Image, IsFileImage, IsImageAt, IsImage, IsSettledFile}
 use Rattle.pf_io.specs.Steps.{Follows, KeepsOthers, overwrite, Torn, TornEnd, RisksWrite, RisksNoMore, Writes, Cuts, Syncs, Makes, Removes, Swaps, AtOnce, IsEmptyFile}
 use Rattle.pf_io.specs.Splicing.{get_take, overwrite-length, overwrite-front, overwrite-back}

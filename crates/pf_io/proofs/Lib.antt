@@ -2,6 +2,8 @@ pub mod Telling
 pub mod Loans
 pub mod Runs
 pub mod Images
+mod Replacing
+mod Exemplified
 mod Stored
 mod Recorded
 mod Stepping

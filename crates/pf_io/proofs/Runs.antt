@@ -1,8 +1,8 @@
 -- A run of calls of an honest host: what a crash at any of its moments leaves, and how the disk stands to the one before it.
-use Rattle.std.proofs.Common.{◌≡◌, ◌⊎◌, inl, inr, ⊎_elim, ℕ, zero, suc, ◌+◌, ◌≤◌, List, [], ◌∷◌, ◌++◌, length, drop, refl, sym, ap, subst, Option, Some, None, arith, length-append}
+use Rattle.std.proofs.Common.{◌≡◌, ◌⊎◌, inl, inr, ⊎_elim, ℕ, zero, suc, ◌≤◌, List, [], ◌∷◌, ◌++◌, length, drop, refl, sym, ap, subst, Option, Some, None, arith, length-append}
 use Rattle.std.specs.Prelude.{IfSome}
 use Rattle.pf_io.specs.Disk.{Disk, Image, IsImage, reading}
-use Rattle.pf_io.specs.Moments.{Honest, LeftByOne, LeftSince, moment, Elapses, Does, LeavesOnly, Leaves, Ends, Where, Ran}
+use Rattle.pf_io.specs.Moments.{Honest, LeftByOne, LeftSince, moment, Elapses, Does, Leaves, Ends, Where, Ran}
 use Rattle.pf_io.specs.Host.{Both}
 use Rattle.pf_io.proofs.Telling.{both_then, both_weaker, both_same}
 

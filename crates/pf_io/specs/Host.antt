@@ -112,10 +112,3 @@ pub record KeepsRest (n : ℕ) (old new : List ℕ) : Type 0 where
   pub within : n ≤ length old
   pub same_length : length new ≡ length old
   pub rest : drop n new ≡ drop n old
-
--- before the first call
-pub record IsFresh (state : HostState) : Type 0 where
-  pub faults : state.faults ≡ 0
-  pub reads : state.reads ≡ 0
-  pub writes : state.writes ≡ 0
-  pub widest : state.widest ≡ 0

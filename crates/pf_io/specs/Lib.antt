@@ -8,6 +8,7 @@ pub mod Replay
 pub mod Streams
 pub mod Words
 pub mod Names
+pub mod Replace
 pub mod Splicing
 pub mod Storage
 pub mod Sound
@@ -15,3 +16,4 @@ pub mod Memory
 pub mod Buffers
 pub mod Std
 pub mod Table
+pub mod Examples

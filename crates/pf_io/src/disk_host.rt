@@ -207,11 +207,10 @@ fn make_file<R: Files<File = File>>(system: &R, name: &str) -> io::Result<()> {
 }
 
 fn swap_file<R: Files<File = File>>(system: &R, from: &str, to: &str) -> io::Result<()> {
-    match fs::rename(system, from, to) {
-        Ok(()) => {}
-        Err(error) if is_absent(&error) => return Ok(()),
-        Err(error) => return Err(error),
+    if file_len(system, from)?.is_none() {
+        return Ok(());
     }
+    fs::rename(system, from, to)?;
     sync_folder(system, from)?;
     sync_folder(system, to)
 }
@@ -244,12 +243,10 @@ impl<R: Files<File = File> + AllocGlobal + Drop> Host for DiskHost<R> {
     fn write_at(&mut self, name: &str, at: u64, from: &[u8]) -> Result<(), HostFault> {
         raise(&mut self.writes);
         self.widest = self.widest.max(from.len());
-        self.open.forget(name);
         count_fault(&mut self.faults, write_file(&self.system, name, at, from))
     }
 
     fn cut(&mut self, name: &str, len: u64) -> Result<(), HostFault> {
-        self.open.forget(name);
         count_fault(&mut self.faults, cut_file(&self.system, name, len))
     }
 

@@ -3,6 +3,8 @@
 
 mod buffers;
 mod counts;
+pub mod crash_examples;
+mod device_words;
 mod disk_host;
 mod faults;
 mod host;
@@ -12,6 +14,7 @@ mod mem_host;
 mod memory;
 mod names;
 mod open_files;
+mod replace;
 mod std_sink;
 mod storage;
 mod streams;
@@ -21,17 +24,21 @@ mod told;
 mod words;
 
 pub use buffers::{MemSink, MemSource};
+pub use device_words::DeviceWords;
 pub use disk_host::DiskHost;
 pub use faults::{HostFault, Memory, StreamFault, WordsFault};
 pub use host::Host;
 pub use list_words::ListWords;
 pub use memory::MemHost;
 pub use names::{is_name, is_target};
+pub use replace::replace_by_side_file;
 pub use std_sink::StdSink;
 pub use streams::{Sink, Source};
 pub use tear::Tear;
 pub use text::{Bytes, Text};
 pub use words::Words;
 
+#[cfg(test)]
+mod crash_tests;
 #[cfg(test)]
 mod tests;

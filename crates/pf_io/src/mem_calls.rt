@@ -190,13 +190,7 @@ pub(crate) fn put(
 {
     let file = StoredFile::settled(alloc, bytes)?;
     let event = Told::Place(name.to_vec(alloc)?, bytes.to_vec(alloc)?);
-    set_file(
-        files,
-        told,
-        event,
-        name.to_vec(alloc)?,
-        Some(file),
-    )
+    set_file(files, told, event, name.to_vec(alloc)?, Some(file))
 }
 
 pub(crate) fn remove(

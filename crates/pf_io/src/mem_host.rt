@@ -55,7 +55,13 @@ impl MemHost {
         ensures ok { OnOk result (Puts name.now bytes.now (memory_of self.old) (memory_of self.new)) }
         ensures err { OnErr result (memory_of self.new ≡ memory_of self.old) }
     {
-        put(self.alloc, &mut self.files, &mut self.told, name.as_bytes(), bytes)?;
+        put(
+            self.alloc,
+            &mut self.files,
+            &mut self.told,
+            name.as_bytes(),
+            bytes,
+        )?;
         Ok(())
     }
 

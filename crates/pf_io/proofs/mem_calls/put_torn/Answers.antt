@@ -1,6 +1,4 @@
-use Rattle.std.proofs.Common.{◌∙◌, ap, arith, List, ℕ, [], ◌∷◌, ◌++◌, ◌≡◌, ◌-◌, subst}
-use Rattle.pf_io.specs.Replay.{Put}
-use Rattle.pf_io.specs.Storage.{events_of}
+use Rattle.std.proofs.Common.{◌∙◌, arith, ◌-◌}
 use Rattle.pf_io.proofs.Crashed.{torn_more, put_unanswered}
 use Rattle.pf_io.proofs.mem_calls.put_torn.Goals as goal
 

@@ -1,7 +1,7 @@
 use Rattle.std.proofs.Common.{◌≡◌, ◌∙◌, sym, ap, subst, List, Option}
 use Rattle.std.specs.Prelude.{option_map}
 use Rattle.pf_io.specs.Disk.{Name}
-use Rattle.pf_io.specs.Replay.{Event, Stored}
+use Rattle.pf_io.specs.Replay.{Stored}
 use Rattle.pf_io.specs.Storage.{look, torn_bytes, IsTorn, events_of, stored_after}
 use Rattle.pf_io.specs.Memory.{memory_of}
 use Rattle.pf_io.specs.declared.storage.Entry.{Entry}

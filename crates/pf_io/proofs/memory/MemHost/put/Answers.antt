@@ -1,5 +1,5 @@
 use Rattle.std.proofs.Common.{◌≡◌, [], ◌∷◌, ◌++◌, List, ℕ, refl, subst}
-use Rattle.pf_io.specs.Replay.{Event, Put}
+use Rattle.pf_io.specs.Replay.{Put}
 use Rattle.pf_io.specs.Storage.{events_of}
 use Rattle.pf_io.proofs.Stepping.{put_there, put_others}
 use Rattle.pf_io.proofs.memory.MemHost.put.Goals as goal
