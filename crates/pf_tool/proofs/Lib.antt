@@ -9,4 +9,5 @@ pub mod OnlyReading
 pub mod SideDisk
 pub mod SealDisk
 pub mod SealInput
+pub mod AfterKey
 pub mod Tracing
