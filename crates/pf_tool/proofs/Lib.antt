@@ -11,3 +11,4 @@ pub mod SealDisk
 pub mod SealInput
 pub mod AfterKey
 pub mod Tracing
+pub mod EncryptRunning

@@ -116,7 +116,7 @@ run_damage key input old new before after log said status (refused ending finish
 run_damage key input old new before after log said status (host_failed rose same reported) is = absurd (no_damage log said _ 4 status reported (omega arith) is)
 run_damage key input old new before after log said status (output_failed content finished failed reported) is = absurd (no_damage log said _ 7 status reported (omega arith) is)
 
-wrote_nothing : (log said : SinkState) → said ≡ log → Wrote [] log said
+pub wrote_nothing : (log said : SinkState) → said ≡ log → Wrote [] log said
 wrote_nothing log said same = both_same (IsMore []) log.bytes said.bytes (ap (λ (s : SinkState). s.bytes) same) (λ bytes. sym (append-nil bytes))
 
 over_files : (key input : Name) (files : Files) (old new : HostState) (ending : Ending) → files_of old ≡ Some files → Finished (Decrypts key input) old new ending → HonestEnding key input files ending
@@ -135,7 +135,7 @@ no_output NotProtected ne = refl
 no_output (Damaged kind) ne = refl
 no_output Unbuilt ne = refl
 
-fell : {text : List ℕ} {log said : SinkState} → FailedIn text log said ⊎ FailedIn memory_line log said → Rose log.faults said.faults
+pub fell : {text : List ℕ} {log said : SinkState} → FailedIn text log said ⊎ FailedIn memory_line log said → Rose log.faults said.faults
 fell (inl failed) = failed.rose
 fell (inr failed) = failed.rose
 
@@ -175,7 +175,20 @@ for_names P a b key input same holds =
     subst (λ (n : Name). P key n) input_is (subst (λ (n : Name). P n b) key_is holds)
 
 -- a content that came to be was given
-pub given_content : (key input : Name) (old new : HostState) (content : List ℕ) (W : List ℕ → Type 0) → Finished (Decrypts key input) old new (Done content) → W content
+given_content : (key input : Name) (old new : HostState) (content : List ℕ) (W : List ℕ → Type 0) → Finished (Decrypts key input) old new (Done content) → W content
     → WhereTold old new (λ these. (bytes : List ℕ) × GaveContent key input these bytes × W bytes)
 given_content key input old new content W finished wrote =
     told_by (λ these. (bytes : List ℕ) × GaveContent key input these bytes × W bytes) finished.these old new finished.answered.told (content, decrypts_content key input finished.these content finished.came, wrote)
+
+pub no_zero : (text : List ℕ) (wanted status : ℕ) (log said : SinkState) → wanted ≢ 0 → Reported text wanted log said status → status ≢ 0
+no_zero text wanted status log said ne (line_written e wrote) zero = ne (sym e ∙ zero)
+no_zero text wanted status log said ne (no_memory e wrote) zero = omega arith
+no_zero text wanted status log said ne (log_failed e failed) zero = omega arith
+
+-- a run of status 0 was given a content, and wrote it
+pub run_content : (key input : Name) (old new : HostState) (before after log said : SinkState) (status : ℕ) → DecryptRuns key input old new before after log said status → status ≡ 0
+    → WhereTold old new (λ these. (content : List ℕ) × GaveContent key input these content × Wrote content before after)
+run_content key input old new before after log said status (accepted content finished wrote same e) zero = given_content key input old new content (λ bytes. Wrote bytes before after) finished wrote
+run_content key input old new before after log said status (refused ending finished ne same reported) zero = absurd (no_zero _ (ending_status ending) status log said ne reported zero)
+run_content key input old new before after log said status (host_failed rose same reported) zero = absurd (no_zero _ 4 status log said (omega arith) reported zero)
+run_content key input old new before after log said status (output_failed content finished failed reported) zero = absurd (no_zero _ 7 status log said (omega arith) reported zero)

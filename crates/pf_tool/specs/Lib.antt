@@ -11,3 +11,4 @@ pub mod SideFile
 pub mod Sealing
 pub mod Crash
 pub mod Run
+pub mod EncryptRun
