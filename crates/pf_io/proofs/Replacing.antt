@@ -1,12 +1,12 @@
 -- What each call of a replacement by a side file leaves.
 use Rattle.std.proofs.Common.{◌≡◌, ◌≢◌, inl, inr, ◌⊎◌, ℕ, List, refl, sym, ◌∙◌, ap, subst, Option, Some, Result, Ok, Err, OnOk}
 use Rattle.pf_io.specs.Disk.{Name, File, Disk, Image, IsImageAt, IsImage}
-use Rattle.pf_io.specs.Moments.{Honest, Does, Ends}
+use Rattle.pf_io.specs.Moments.{Honest, Does, Ends, Ran}
 use Rattle.pf_io.specs.Steps.{KeepsOthers, Changes, Makes, Swaps, Writes, Syncs, AtOnce, IsEmptyFile, overwrite}
 use Rattle.pf_io.specs.Host.{Both}
 use Rattle.pf_io.specs.Replace.{IsReplaced, IsWhole, IsDone, IsTried}
 use Rattle.pf_io.proofs.Images.{follows_at, written_empty, others_image, others_then, made_others, swapped_image, swapped_others}
-use Rattle.pf_io.proofs.Runs.{Ran, started, goes_on, ran_ends}
+use Rattle.pf_io.proofs.Runs.{started, goes_on, ran_ends}
 
 module _ (name side : Name) (bytes : List ℕ) (apart : side ≢ name) where
   -- what a run has, with Q of the side file

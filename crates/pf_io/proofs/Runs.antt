@@ -2,7 +2,7 @@
 use Rattle.std.proofs.Common.{◌≡◌, ◌⊎◌, inl, inr, ⊎_elim, ℕ, zero, suc, ◌≤◌, List, [], ◌∷◌, ◌++◌, length, drop, refl, sym, ap, subst, Option, Some, None, arith, length-append}
 use Rattle.std.specs.Prelude.{IfSome}
 use Rattle.pf_io.specs.Disk.{Disk, Image, IsImage, reading}
-use Rattle.pf_io.specs.Moments.{Honest, LeftByOne, LeftSince, moment, Elapses, Does, Leaves, Ends, Where}
+use Rattle.pf_io.specs.Moments.{Honest, LeftByOne, LeftSince, moment, Elapses, Does, Leaves, Ends, Where, Ran}
 use Rattle.pf_io.specs.Host.{Both}
 use Rattle.pf_io.proofs.Telling.{both_then, both_weaker, both_same}
 
@@ -52,11 +52,6 @@ left_after old new t image (inl same) le left = subst (λ (h : Honest). LeftSinc
 left_after old new t image (inr past) le left =
     inr (subst (λ (l : List Disk). LeftByOne (drop t l) image) (sym past) (subst (λ (l : List Disk). LeftByOne l image) (sym (drop_push t old.past old.now le))
     (left_kept (drop t old.past) old.now image (⊎_elim (λ is. inr is) (λ l. inl l) left))))
-
--- What is known of a run so far: at any moment an image that has P of the first disk, and in the end a disk that has Q with it.
-pub record Ran (P : Disk → Image → Type 0) (Q : Disk → Disk → Type 0) (old new : Honest) : Type 0 where
-  pub leaves : Leaves P old new
-  pub ends : Ends Q old new
 
 -- before the first call
 pub started : (P : Disk → Image → Type 0) (o : Option Honest) → ((d : Disk) (image : Image) → IsImage d image → P d image) → Both o o (Ran P (λ old new. new ≡ old))

@@ -51,3 +51,8 @@ Ends Q old new = Q old.now new.now
 -- R of the calls, where P holds of the disk before them
 abbrev pub Where : (Disk → Type 0) → (Honest → Honest → Type 0) → Honest → Honest → Type 0
 Where P R old new = P old.now → R old new
+
+-- A run of calls: at any moment an image that has P of the disk before them, and in the end a disk that has Q with it.
+pub record Ran (P : Disk → Image → Type 0) (Q : Disk → Disk → Type 0) (old new : Honest) : Type 0 where
+  pub leaves : Leaves P old new
+  pub ends : Ends Q old new
