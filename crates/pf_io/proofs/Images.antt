@@ -1,7 +1,7 @@
 -- What a crash leaves of a file after one call, and what stays.
 use Rattle.std.proofs.Common.{◌≡◌, ◌≢◌, ◌⊎◌, inl, inr, ℕ, suc, ◌+◌, ◌<◌, ◌≤◌, List, [], ◌∷◌, ◌++◌, length, take, slice_get, refl, sym, ◌∙◌, ap, subst, Option, Some, None, Result, Ok, Err, arith}
 use Rattle.std.proofs.lemmas.List.{drop_all, append-nil}
-use Rattle.pf_io.specs.Disk.{Name, File, Disk, Image, IsFileImage, IsImageAt, IsImage, IsSettledFile}
+use Rattle.pf_io.specs.Disk.{Name, File, Disk, Image, IsFileImage, IsImageAt, IsImage, IsSettledFile, IsSettledAt, read_of}
 use Rattle.pf_io.specs.Steps.{Follows, KeepsOthers, overwrite, Torn, CutShort, TornEnd, RisksWrite, RisksNoMore, Writes, Cuts, Syncs, Makes, Removes, Swaps, AtOnce, IsEmptyFile}
 use Rattle.pf_io.specs.Splicing.{get_take, overwrite-length, overwrite-front, overwrite-gap, overwrite-back}
 
@@ -26,6 +26,13 @@ settled_at file (Some f) (Some bytes) is settled image =
     ap (λ (b : List ℕ). Some b) (settled_image file bytes settled (subst (λ f. IsFileImage f bytes) same image))
 settled_at file (Some f) None is settled image = absurd image
 settled_at file None image is settled left = absurd (cc)
+
+-- where nothing is pending a crash leaves what a read gives
+pub settled_reads : (o : Option File) (image : Option (List ℕ)) → IsSettledAt o → IsImageAt o image → image ≡ read_of o
+settled_reads (Some file) (Some bytes) settled image = ap (λ (b : List ℕ). Some b) (settled_image file bytes settled image)
+settled_reads (Some file) None settled image = absurd image
+settled_reads None (Some bytes) settled image = absurd image
+settled_reads None None settled image = refl
 
 pub absent_at : (o : Option File) (image : Option (List ℕ)) → o ≡ None → IsImageAt o image → image ≡ None
 absent_at None None is image = refl
