@@ -1,9 +1,9 @@
 -- What a crash leaves of a file after one call, and what stays.
 use Rattle.std.proofs.Common.{◌≡◌, ◌≢◌, ◌⊎◌, inl, inr, ℕ, suc, ◌+◌, ◌<◌, ◌≤◌, List, [], ◌∷◌, ◌++◌, length, take, slice_get, refl, sym, ◌∙◌, ap, subst, Option, Some, None, Result, Ok, Err, arith}
 use Rattle.std.proofs.lemmas.List.{drop_all, append-nil}
-use Rattle.pf_io.specs.Disk.{Name, File, Disk, Image, IsFileImage, IsImageAt, IsImage, IsSettledFile}
-use Rattle.pf_io.specs.Steps.{Follows, KeepsOthers, overwrite, Torn, TornEnd, RisksWrite, RisksNoMore, Writes, Cuts, Syncs, Makes, Removes, Swaps, AtOnce, IsEmptyFile}
-use Rattle.pf_io.specs.Splicing.{get_take, overwrite-length, overwrite-front, overwrite-back}
+use Rattle.pf_io.specs.Disk.{Name, File, Disk, Image, IsFileImage, IsImageAt, IsImage, IsSettledFile, IsSettledAt, read_of}
+use Rattle.pf_io.specs.Steps.{Follows, KeepsOthers, overwrite, Torn, CutShort, TornEnd, RisksWrite, RisksNoMore, Writes, Cuts, Syncs, Makes, Removes, Swaps, AtOnce, IsEmptyFile}
+use Rattle.pf_io.specs.Splicing.{get_take, overwrite-length, overwrite-front, overwrite-gap, overwrite-back}
 
 -- two lists of one length with the same element at each place
 pub same_elements : (xs ys : List ℕ) → length xs ≡ length ys → ((i : ℕ) → i < length ys → slice_get xs i ≡ slice_get ys i) → xs ≡ ys
@@ -26,6 +26,13 @@ settled_at file (Some f) (Some bytes) is settled image =
     ap (λ (b : List ℕ). Some b) (settled_image file bytes settled (subst (λ f. IsFileImage f bytes) same image))
 settled_at file (Some f) None is settled image = absurd image
 settled_at file None image is settled left = absurd (cc)
+
+-- where nothing is pending a crash leaves what a read gives
+pub settled_reads : (o : Option File) (image : Option (List ℕ)) → IsSettledAt o → IsImageAt o image → image ≡ read_of o
+settled_reads (Some file) (Some bytes) settled image = ap (λ (b : List ℕ). Some b) (settled_image file bytes settled image)
+settled_reads (Some file) None settled image = absurd image
+settled_reads None (Some bytes) settled image = absurd image
+settled_reads None None settled image = refl
 
 pub absent_at : (o : Option File) (image : Option (List ℕ)) → o ≡ None → IsImageAt o image → image ≡ None
 absent_at None None is image = refl
@@ -62,18 +69,21 @@ written_empty [] = refl
 written_empty (b ∷ bytes) = ap (λ (l : List ℕ). (b ∷ bytes) ++ l) (drop_all (0 + length (b ∷ bytes)) [] (omega arith)) ∙ append-nil (b ∷ bytes)
 
 -- a whole write is one that was cut short nowhere
-pub overwrite_torn : (at : ℕ) (bytes old : List ℕ) → Torn at (length bytes) old (overwrite at bytes old)
-overwrite_torn at bytes old = record {
-  no_shorter = omega (arith, overwrite-length at bytes old);
-  no_longer = omega (arith, overwrite-length at bytes old);
-  before = λ i lt inside. overwrite-front at bytes old i lt inside;
-  after = λ i le inside. overwrite-back at bytes old i le;
+pub overwrite_cut_short : (at : ℕ) (bytes old : List ℕ) → CutShort at (length bytes) old (overwrite at bytes old)
+overwrite_cut_short at bytes old = record {
+  torn = record {
+    no_shorter = omega (arith, overwrite-length at bytes old);
+    no_longer = omega (arith, overwrite-length at bytes old);
+    before = λ i lt inside. overwrite-front at bytes old i lt inside;
+    after = λ i le inside. overwrite-back at bytes old i le;
+  };
+  gap = λ i past lt inside. overwrite-gap at bytes old i past lt inside;
 }
 
 -- what a file reads after a write, done or not
-pub written_torn : {T E : Type 0} (r : Result T E) (at : ℕ) (bytes : List ℕ) (f g : File) → Writes at bytes r f g → Torn at (length bytes) f.bytes g.bytes
-written_torn (Ok x) at bytes f g writes = subst (λ (l : List ℕ). Torn at (length bytes) f.bytes l) (sym writes.reads) (overwrite_torn at bytes f.bytes)
-written_torn (Err x) at bytes f g writes = writes.reads.torn
+pub written_cut_short : {T E : Type 0} (r : Result T E) (at : ℕ) (bytes : List ℕ) (f g : File) → Writes at bytes r f g → CutShort at (length bytes) f.bytes g.bytes
+written_cut_short (Ok x) at bytes f g writes = subst (λ (l : List ℕ). CutShort at (length bytes) f.bytes l) (sym writes.reads) (overwrite_cut_short at bytes f.bytes)
+written_cut_short (Err x) at bytes f g writes = writes.reads
 
 -- what a crash leaves of a settled file that was written to, done or not: a torn write
 pub torn_image : (at n : ℕ) (f g : File) (bytes : List ℕ) → IsSettledFile f → Torn at n f.bytes g.bytes → RisksWrite at n f g → IsFileImage g bytes → Torn at n f.bytes bytes

@@ -81,12 +81,12 @@ earlier (Some stop) call = min stop call
 abbrev pub IsToFail : MemState → Type 0
 IsToFail state = Contains state.failing state.calls ⊎ IsSomeAnd state.stop (λ stop. stop ≤ state.calls)
 
--- A call of the trait: it is counted, it fails where it is to fail, and else only for want of memory, which is counted apart.
+-- A call of the trait: it is counted, it fails where it is to fail, and else only for want of memory, which alone is counted apart.
 pub record IsCall {T E : Type 0} (result : Result T E) (old new : MemState) : Type 0 where
   pub calls : new.calls ≡ counted old.calls
   pub failing : new.failing ≡ old.failing
   pub stop : new.stop ≡ old.stop
-  pub fails : IsToFail old → IsErr result
+  pub fails : IsToFail old → IsErr result × (new.starved ≡ old.starved)
   pub later : old.starved ≤ new.starved
   pub starved : OnErr result (IsToFail old ⊎ Rose old.starved new.starved)
   pub no_fault : OnOk result ((new.faults ≡ old.faults) × (new.starved ≡ old.starved))

@@ -114,6 +114,11 @@ pub overwrite-front : (at : ℕ) (bytes old : List ℕ) (i : ℕ) → i < at →
 overwrite-front at [] old i lt inside = refl
 overwrite-front at (b ∷ bytes) old i lt inside = written-front at b bytes old i lt inside
 
+-- a gap reads as zeros, in a file that reaches behind it
+pub overwrite-gap : (at : ℕ) (bytes old : List ℕ) (i : ℕ) → length old ≤ i → i < at → i < length (overwrite at bytes old) → slice_get (overwrite at bytes old) i ≡ Some 0
+overwrite-gap at [] old i past lt inside = absurd (omega arith)
+overwrite-gap at (b ∷ bytes) old i past lt inside = written-gap at b bytes old i past lt
+
 pub overwrite-back : (at : ℕ) (bytes old : List ℕ) (i : ℕ) → at + length bytes ≤ i → slice_get (overwrite at bytes old) i ≡ slice_get old i
 overwrite-back at [] old i le = refl
 overwrite-back at (b ∷ bytes) old i le = written-back at b bytes old i le

@@ -29,63 +29,66 @@ fn crashed(alloc: Global, calls: u64, tear: Tear) -> Result<MemHost, Fail> {
     Ok(host.after_crash(tear)?)
 }
 
+type Outcome = (Option<&'static [u8]>, Option<&'static [u8]>);
+
+// What `a` and `b` have after so many calls of the script: kept, lost and filled.
+const OUTCOMES: [[Outcome; 3]; 11] = [
+    [
+        (Some(b"abcd"), None),
+        (Some(b"abcd"), None),
+        (Some(b"abcd"), None),
+    ],
+    [
+        (Some(b"aXYd"), None),
+        (Some(b"abcd"), None),
+        (Some(b"a--d"), None),
+    ],
+    [
+        (Some(b"aXYd\0Z"), None),
+        (Some(b"abcd"), None),
+        (Some(b"a--d--"), None),
+    ],
+    [
+        (Some(b"aXYd\0Z"), None),
+        (Some(b"aXYd\0Z"), None),
+        (Some(b"aXYd\0Z"), None),
+    ],
+    [
+        (Some(b"aXY"), None),
+        (Some(b"aXYd\0Z"), None),
+        (Some(b"aXY"), None),
+    ],
+    [
+        (Some(b"aXY\0Q"), None),
+        (Some(b"aXYd\0Z"), None),
+        (Some(b"aXY--"), None),
+    ],
+    [
+        (Some(b"aXY\0Q"), Some(b"")),
+        (Some(b"aXYd\0Z"), Some(b"")),
+        (Some(b"aXY--"), Some(b"")),
+    ],
+    [
+        (Some(b"aXY\0Q"), Some(b"new")),
+        (Some(b"aXYd\0Z"), Some(b"")),
+        (Some(b"aXY--"), Some(b"---")),
+    ],
+    [
+        (Some(b"new"), None),
+        (Some(b""), None),
+        (Some(b"---"), None),
+    ],
+    [
+        (Some(b"new"), None),
+        (Some(b"new"), None),
+        (Some(b"new"), None),
+    ],
+    [(None, None), (None, None), (None, None)],
+];
+
 #[test]
 fn a_crash_leaves_what_the_tear_says_after_each_call(rt: HostRuntime) -> Result<(), Fail> {
-    // What `a` and `b` have: kept, lost and filled.
-    let table: [[(Option<&[u8]>, Option<&[u8]>); 3]; 11] = [
-        [
-            (Some(b"abcd"), None),
-            (Some(b"abcd"), None),
-            (Some(b"abcd"), None),
-        ],
-        [
-            (Some(b"aXYd"), None),
-            (Some(b"abcd"), None),
-            (Some(b"a--d"), None),
-        ],
-        [
-            (Some(b"aXYd\0Z"), None),
-            (Some(b"abcd"), None),
-            (Some(b"a--d--"), None),
-        ],
-        [
-            (Some(b"aXYd\0Z"), None),
-            (Some(b"aXYd\0Z"), None),
-            (Some(b"aXYd\0Z"), None),
-        ],
-        [
-            (Some(b"aXY"), None),
-            (Some(b"aXYd\0Z"), None),
-            (Some(b"aXY"), None),
-        ],
-        [
-            (Some(b"aXY\0Q"), None),
-            (Some(b"aXYd\0Z"), None),
-            (Some(b"aXY--"), None),
-        ],
-        [
-            (Some(b"aXY\0Q"), Some(b"")),
-            (Some(b"aXYd\0Z"), Some(b"")),
-            (Some(b"aXY--"), Some(b"")),
-        ],
-        [
-            (Some(b"aXY\0Q"), Some(b"new")),
-            (Some(b"aXYd\0Z"), Some(b"")),
-            (Some(b"aXY--"), Some(b"---")),
-        ],
-        [
-            (Some(b"new"), None),
-            (Some(b""), None),
-            (Some(b"---"), None),
-        ],
-        [
-            (Some(b"new"), None),
-            (Some(b"new"), None),
-            (Some(b"new"), None),
-        ],
-        [(None, None), (None, None), (None, None)],
-    ];
-    for (calls, row) in table.iter().enumerate() {
+    for (calls, row) in OUTCOMES.iter().enumerate() {
         for (tear, (a, b)) in EACH_TEAR.iter().zip(row) {
             let host = crashed(rt.alloc(), calls as u64, *tear)?;
             assert_eq!(rt; host.bytes("a"), *a, "{calls} calls, {tear:?}");

@@ -1,5 +1,5 @@
 // A host in memory: its own calls, and those of the trait.
-ghost use Rattle.std.specs.Prelude.{◌≡◌, ◌≤◌, ◌⊎◌, ◌↔◌, IsTrue, IfOk, OnOk, OnErr, IsSomeAnd, Some, None, [], option_map, length, take, Contains, alloc_error};
+ghost use Rattle.std.specs.Prelude.{◌≡◌, ◌≤◌, ◌⊎◌, ◌↔◌, IsTrue, IfOk, OnOk, OnErr, IsSomeAnd, Some, None, List, ℕ, [], option_map, length, take, Contains, alloc_error};
 ghost use Rattle.pf_io.specs.Counts.{HasCause, counted};
 ghost use Rattle.pf_io.specs.Disk.{reading};
 ghost use Rattle.pf_io.specs.Moments.{Does};
@@ -24,6 +24,7 @@ impl MemHost {
     pub fn new(alloc: Global) -> Self
         ensures unused { IsUnused (memory_of result) }
         ensures no_events { (memory_of result).events ≡ [] }
+        ensures no_files { (name : List ℕ) → disk_now (memory_of result) name ≡ None }
     {
         MemHost::unused(alloc, Vec::new(alloc), Vec::new(alloc))
     }
