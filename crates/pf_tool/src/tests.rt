@@ -1,6 +1,6 @@
 use crate::run::run;
 use node_layout::{MetaSecret, PathText, seal_meta};
-use pf_io::{Bytes, ListWords, MemHost, MemSink, MemSource};
+use pf_io::{Bytes, ListWords, MemHost, MemSink, MemSource, Memory};
 use std::alloc::{AllocError, Global};
 use std::process::Abort;
 use std::test::Fail;
@@ -48,11 +48,11 @@ pub(crate) fn ran(alloc: Global, host: &mut MemHost, line: &str) -> Result<Outco
 }
 
 // The metadata node of the path `hello.pf` and the content `hello`, under the key `USER`.
-fn hello_node() -> [u8; 4096] {
+fn hello_node(rt: &impl Abort) -> [u8; 4096] {
     let mut first = [0; 3072];
     first[..5].copy_from_slice(b"hello");
     let secret = MetaSecret {
-        path: PathText::new("hello.pf").unwrap(),
+        path: PathText::new("hello.pf").expect(rt, "a path"),
         size: 5,
         root_key: [0; 16],
         root_tag: [0; 16],
@@ -81,32 +81,47 @@ fn decrypt_writes_what_was_sealed(rt: HostRuntime) -> Result<(), Fail> {
     let alloc = rt.alloc();
     let mut host = MemHost::new(alloc);
     host.put("k", &USER)?;
-    host.put("hello.pf", &hello_node())?;
+    host.put("hello.pf", &hello_node(&rt))?;
     let outcome = ran(alloc, &mut host, "decrypt -w k -i hello.pf")?;
     expect(&rt, &outcome, 0, b"hello", b"", "hello");
     assert_eq!(rt; host.starved(), 0);
     Ok(())
 }
 
-#[test]
-fn refusals_name_their_rule(rt: HostRuntime) -> Result<(), Fail> {
-    let alloc = rt.alloc();
+// Puts as many of the node's first bytes as a file.
+fn put_front(
+    host: &mut MemHost,
+    name: &str,
+    node: &[u8; 4096],
+    count: usize,
+) -> Result<(), Memory> {
+    host.put(name, &node[..count.min(4096)])
+}
+
+// A host with files that `decrypt` refuses.
+fn host_of_refused(alloc: Global, node: &[u8; 4096]) -> Result<MemHost, Memory> {
     let mut host = MemHost::new(alloc);
-    let node = hello_node();
     host.put("k", &USER)?;
     host.put("k15", &[7; 15])?;
     host.put("k17", &[7; 17])?;
     host.put("zero", &[0; 16])?;
-    host.put("hello.pf", &node)?;
-    host.put("magic", &node[..8])?;
-    host.put("seven", &node[..7])?;
-    host.put("short", &node[..4095])?;
-    let mut pending = node;
+    host.put("hello.pf", node)?;
+    put_front(&mut host, "magic", node, 8)?;
+    put_front(&mut host, "seven", node, 7)?;
+    put_front(&mut host, "short", node, 4095)?;
+    let mut pending = *node;
     pending[58] = 1;
     host.put("pending", &pending)?;
-    let mut newer = node;
+    let mut newer = *node;
     newer[8] = 2;
     host.put("newer", &newer)?;
+    Ok(host)
+}
+
+#[test]
+fn refusals_name_their_rule(rt: HostRuntime) -> Result<(), Fail> {
+    let alloc = rt.alloc();
+    let mut host = host_of_refused(alloc, &hello_node(&rt))?;
     let rows: [(&str, u8, &str); 14] = [
         ("decode", 2, "usage: unbuilt words\n"),
         ("decrypt -w k", 2, "usage: unbuilt words\n"),
@@ -136,14 +151,14 @@ fn faults_name_what_failed(rt: HostRuntime) -> Result<(), Fail> {
     for call in 0..4 {
         let mut host = MemHost::new(alloc);
         host.put("k", &USER)?;
-        host.put("hello.pf", &hello_node())?;
+        host.put("hello.pf", &hello_node(&rt))?;
         host.fail_at(call)?;
         let outcome = ran(alloc, &mut host, "decrypt -w k -i hello.pf")?;
         expect(&rt, &outcome, 4, b"", b"host fault\n", "host");
     }
     let mut host = MemHost::new(alloc);
     host.put("k", &USER)?;
-    host.put("hello.pf", &hello_node())?;
+    host.put("hello.pf", &hello_node(&rt))?;
     let mut out = MemSink::new(alloc);
     out.fail_at(0);
     let mut random = ListWords::new(alloc);
