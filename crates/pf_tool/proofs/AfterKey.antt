@@ -1,5 +1,5 @@
 -- `encrypt` from its parts: the reading of the key, and then the sealing of the input.
-use Rattle.std.proofs.Common.{◌≡◌, ◌⊎◌, inl, inr, ℕ, ◌≤◌, List, [], ◌∷◌, ◌++◌, take, refl, subst, ap, ◌∙◌, sym, Option, Some, None, Result, Ok, Err, IsErr, IfSome}
+use Rattle.std.proofs.Common.{◌≡◌, ◌⊎◌, inl, inr, ℕ, ◌≤◌, List, [], ◌++◌, take, refl, subst, ap, ◌∙◌, Option, Some, None, Result, Ok, Err, IsErr, IfSome}
 use Rattle.std.specs.Prelude.{option_map}
 use Rattle.std.specs.List.{AllByRecursion}
 use Rattle.pf_io.specs.Names.{IsTarget}

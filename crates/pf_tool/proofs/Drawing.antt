@@ -1,12 +1,10 @@
 -- Two words of a nonce, and a content before zeros.
-use Rattle.std.proofs.Common.{◌≡◌, ℕ, ◌+◌, ◌-◌, ◌≤◌, zero, suc, List, [], ◌∷◌, ◌++◌, length, take, drop, replicate, Option, refl, ap, ◌∙◌, sym, arith, length-append, subst}
+use Rattle.std.proofs.Common.{◌≡◌, ℕ, ◌≤◌, List, [], ◌∷◌, ◌++◌, length, take, drop, replicate, Option, ap, ◌∙◌, sym, arith}
 use Rattle.std.proofs.lemmas.List.{take_at, drop_at, drop_all, append-nil, take_all, drop-replicate}
 use borrow.Rule.Slice.PartMut.{post_of}
 use Rattle.pf_io.specs.Host.{Both}
-use Rattle.pf_io.specs.Words.{WordsState}
 use Rattle.pf_io.proofs.Telling.{both_then}
 use Rattle.cmac_kdf.specs.MetadataKey.{zero_padded}
-use Rattle.pf_tool.specs.SideFile.{Draws}
 
 -- an array of two halves that were written over zeros
 pub halves : (first second zeros : List ℕ) → length first ≡ 16 → length second ≡ 16 → length zeros ≡ 16

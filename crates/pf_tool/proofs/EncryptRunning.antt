@@ -1,15 +1,14 @@
 -- From how `encrypt` ended to what a run says.
-use Rattle.std.proofs.Common.{◌≡◌, ◌≢◌, ◌⊎◌, inl, inr, ◌∙◌, ℕ, List, [], refl, subst, sym, Option, Some, IfSome, Result, Ok, Err, IsOk, arith}
+use Rattle.std.proofs.Common.{◌≡◌, ◌≢◌, inl, inr, ℕ, [], subst, Option, Some, IfSome, Result, Ok, Err, IsOk, arith}
 use Rattle.std.specs.List.{AllByRecursion}
 use Rattle.pf_io.specs.Counts.{Rose}
 use Rattle.pf_io.specs.Disk.{Disk}
 use Rattle.pf_io.specs.Host.{Name, Files, HostState, OnDisk, files_of}
-use Rattle.pf_io.specs.Moments.{Honest, Ran}
+use Rattle.pf_io.specs.Moments.{Ran}
 use Rattle.pf_io.specs.Streams.{SinkState}
 use Rattle.pf_io.specs.Words.{WordsState}
 use Rattle.pf_io.proofs.Telling.{both_weaker}
 use Rattle.pf_tool.specs.Answered.{IsAnswerOf}
-use Rattle.pf_tool.specs.Commands.{IsCommandOf}
 use Rattle.pf_tool.specs.Crash.{LeavesEncrypted, EncryptEnds}
 use Rattle.pf_tool.specs.Encrypting.{Encrypts}
 use Rattle.pf_tool.specs.EncryptRun.{EncryptRuns, encrypted, encrypt_refused, encrypt_host_failed, encrypt_random_failed, encrypt_starved, EncryptEnding, HonestEncrypt, EncryptLeft, EncryptDisk}

@@ -1,9 +1,8 @@
 -- From the end of a part to the end of the whole.
-use Rattle.std.proofs.Common.{◌≡◌, ℕ, ◌≤◌, List, ◌++◌, Some, refl, ap, ◌∙◌, sym, subst}
-use Rattle.pf_io.specs.Host.{Name, Answer, HostState}
-use Rattle.pf_io.specs.Names.{IsTarget}
+use Rattle.std.proofs.Common.{◌≤◌, List, ◌++◌}
+use Rattle.pf_io.specs.Host.{Answer, HostState}
 use Rattle.pf_tool.specs.Answered.{Answered}
-use Rattle.pf_tool.specs.Steps.{Ending, Done, NotFound, KeyFile, Damaged, Unbuilt, node_answers, NodeFails, NodeRefused, node_fails}
+use Rattle.pf_tool.specs.Steps.{Ending}
 use Rattle.pf_tool.specs.Faults.{Finished, EndsBy, Refuses}
 use Rattle.pf_tool.proofs.Answering.{answered_then}
 use Rattle.pf_tool.proofs.Writing.{rose_later}

@@ -1,5 +1,5 @@
 -- Lists of a known length, and names with an ending.
-use Rattle.std.proofs.Common.{◌≡◌, ◌≢◌, ◌↔◌, ◌∙◌, ◌<◌, ◌≤◌, ℕ, suc, zero, List, [], ◌∷◌, ◌++◌, length, slice_index_or, Bool, true, false, IsTrue, MatchBool, ap, sym, refl, arith}
+use Rattle.std.proofs.Common.{◌≡◌, ◌≢◌, ◌↔◌, ◌∙◌, ◌<◌, ◌≤◌, ℕ, List, [], ◌∷◌, ◌++◌, length, slice_index_or, Bool, true, false, IsTrue, MatchBool, ap, sym, refl, arith}
 use Rattle.std.proofs.lemmas.List.{append_cancel_left}
 
 -- the items of a list of five, as reads give them

@@ -1,6 +1,6 @@
 -- Calls that change nothing on an honest disk.
-use Rattle.std.proofs.Common.{◌≡◌, refl, subst, sym, ◌∙◌, Option}
-use Rattle.pf_io.specs.Disk.{Disk, Image, IsImage}
+use Rattle.std.proofs.Common.{◌≡◌, subst, ◌∙◌, Option}
+use Rattle.pf_io.specs.Disk.{Disk, IsImage}
 use Rattle.pf_io.specs.Host.{Both}
 use Rattle.pf_io.specs.Moments.{Honest, Does, Ran}
 use Rattle.pf_io.specs.Steps.{Stays}

@@ -1,19 +1,19 @@
 -- From how `decrypt` ended to what a run says.
-use Rattle.std.proofs.Common.{◌≡◌, ◌≢◌, ◌⊎◌, inl, inr, ℕ, ◌<◌, ◌≤◌, List, [], ◌∷◌, ◌++◌, length, take, Option, Some, None, IfSome, refl, ap, ◌∙◌, sym, subst, arith}
+use Rattle.std.proofs.Common.{◌≡◌, ◌≢◌, ◌⊎◌, inl, inr, ℕ, ◌<◌, ◌≤◌, List, [], ◌++◌, length, take, Option, Some, IfSome, refl, ap, ◌∙◌, sym, subst, arith}
 use Rattle.std.proofs.lemmas.List.{append-nil}
 use Rattle.std.specs.List.{AllByRecursion}
 use Rattle.node_layout.specs.Opening.{IsOpenFault}
 use Rattle.node_layout.specs.declared.damage.Kind.{Kind}
 use Rattle.node_layout.specs.declared.damage.Kind.TheVariants as kinds
 use Rattle.pf_io.specs.Counts.{Rose}
-use Rattle.pf_io.specs.Host.{Name, Files, Answer, HostState, WhereTold, IsMore, Both, files_of}
+use Rattle.pf_io.specs.Host.{Name, Files, Answer, HostState, WhereTold, IsMore, files_of}
 use Rattle.pf_io.specs.Streams.{SinkState}
 use Rattle.pf_io.proofs.Telling.{told_by, both_same}
-use Rattle.pf_tool.specs.Answered.{Answered, IsAnswerOf}
-use Rattle.pf_tool.specs.Faults.{Finished, EndsBy, ending_line, ending_status, ending_output, fault_line, fault_status, host_line, memory_line, stream_line}
+use Rattle.pf_tool.specs.Answered.{IsAnswerOf}
+use Rattle.pf_tool.specs.Faults.{Finished, EndsBy, ending_line, ending_status, ending_output, fault_line, fault_status, memory_line}
 use Rattle.pf_tool.specs.Reports.{Wrote, FailedIn, Reported, line_written, no_memory, log_failed}
 use Rattle.pf_tool.specs.Run.{DecryptFails, by_host, by_output, DecryptRuns, accepted, refused, host_failed, output_failed, GaveContent, GaveDamage, HonestRun, HonestEnding}
-use Rattle.pf_tool.specs.Steps.{key_answers, Ending, Done, BadName, NotFound, KeyFile, NotProtected, Damaged, Unbuilt, Decrypts, key_refused, key_read, KeyRefused, key_unnamed, key_absent, key_length, key_short, Opens, node_refused, node_read, NodeRefused, input_unnamed, input_absent, node_fails, OpensTo, meta_damaged, content_large, content_whole}
+use Rattle.pf_tool.specs.Steps.{key_answers, Ending, Done, BadName, NotFound, KeyFile, NotProtected, Damaged, Unbuilt, Decrypts, key_refused, key_read, key_unnamed, key_absent, key_length, key_short, node_refused, node_read, input_unnamed, input_absent, node_fails, meta_damaged, content_large, content_whole}
 use Rattle.pf_tool.specs.Words.{decrypt_words}
 use Rattle.pf_tool.specs.declared.fault.Fault.{Fault}
 use Rattle.pf_tool.specs.declared.fault.Fault.TheVariants as faults

@@ -1,17 +1,17 @@
 -- The sealing of a content on an honest disk.
-use Rattle.std.proofs.Common.{◌≡◌, ◌≢◌, ◌⊎◌, inl, inr, ⊎_elim, ℕ, ◌+◌, ◌<◌, ◌≤◌, List, [], ◌∷◌, ◌++◌, length, refl, subst, ap, ◌∙◌, sym, Option, Some, None, Result, Ok, Err, IsOk, IsErr, arith, length-append}
+use Rattle.std.proofs.Common.{◌≡◌, ◌≢◌, ◌⊎◌, inl, inr, ⊎_elim, ℕ, ◌<◌, ◌≤◌, List, length, refl, subst, ap, ◌∙◌, sym, Option, Some, None, Result, Ok, Err, IsOk, IsErr, arith, length-append}
 use Rattle.std.specs.Prelude.{slice_get, codes}
 use Rattle.std.proofs.lemmas.List.{append-nil}
 use Rattle.node_layout.specs.Metadata.{IsPath}
-use Rattle.pf_io.specs.Disk.{Name, File, Disk, Image, IsImage, IsImageAt, IsFileImage, IsSettledFile}
+use Rattle.pf_io.specs.Disk.{Name, File, Disk, Image, IsImage, IsImageAt, IsSettledFile}
 use Rattle.pf_io.specs.Host.{Both}
-use Rattle.pf_io.specs.Moments.{Honest, Does, LeavesOnly, Leaves, Where, Ran}
+use Rattle.pf_io.specs.Moments.{Honest, Does, Where, Ran}
 use Rattle.pf_io.proofs.Images.{others_then, follows_at}
 use Rattle.pf_io.proofs.Telling.{both_weaker}
-use Rattle.pf_io.specs.Steps.{Follows, KeepsOthers, Changes, Writes, Syncs, Swaps}
-use Rattle.pf_tool.specs.Crash.{HasShort, LeavesEither, IsSealed, OutputEnds, SealEnds}
+use Rattle.pf_io.specs.Steps.{KeepsOthers, Changes, Writes, Syncs, Swaps}
+use Rattle.pf_tool.specs.Crash.{HasShort, LeavesEither, IsSealed, SealEnds}
 use Rattle.pf_tool.specs.Encrypting.{side_of, node_of}
-use Rattle.pf_tool.specs.Sheet.{Sheet, one_node, image_of, IsLinked, Stands, StandsFor}
+use Rattle.pf_tool.specs.Sheet.{one_node, image_of, StandsFor}
 use Rattle.pf_tool.specs.Steps.{MOST_FIRST}
 use Rattle.pf_io.proofs.Runs.{started, goes_on}
 use Rattle.pf_tool.proofs.SideDisk.{overwrite_whole}
@@ -58,12 +58,16 @@ pub node_stands : (user nonce : List ℕ) (output : Name) (content bytes : List 
     → length (node_of user nonce output content) ≤ length bytes
     → ((i : ℕ) → i < length (node_of user nonce output content) → slice_get bytes i ≡ slice_get (node_of user nonce output content) i) → StandsFor user output content (Some bytes)
 node_stands user nonce output content bytes path long small enough same =
-    let whole : image_of user (one_node output nonce content) ≡ node_of user nonce output content = append-nil _ in
-    (one_node output nonce content, refl, refl, record {
-      linked = record { path_is = path; nonce_length = long; small = small; no_nodes = refl };
-      long = subst (λ (l : List ℕ). length l ≤ length bytes) (sym whole) enough;
-      same = λ i lt outside. subst (λ (l : List ℕ). i < length l → slice_get bytes i ≡ slice_get l i) (sym whole) (same i) lt;
-    })
+    let whole : image_of user (one_node output nonce content) ≡ node_of user nonce output content = append-nil _ in (
+      one_node output nonce content,
+      refl,
+      refl,
+      record {
+        linked = record { path_is = path; nonce_length = long; small = small; no_nodes = refl };
+        long = subst (λ (l : List ℕ). length l ≤ length bytes) (sym whole) enough;
+        same = λ i lt outside. subst (λ (l : List ℕ). i < length l → slice_get bytes i ≡ slice_get l i) (sym whole) (same i) lt;
+      },
+    )
 
 -- what a crash leaves of a settled file stands for what the file stands for
 pub image_stands : (user nonce : List ℕ) (output : Name) (content : List ℕ) (file : File) (image : Option (List ℕ)) → IsPath output → length nonce ≡ 32 → length content ≤ MOST_FIRST
@@ -87,9 +91,10 @@ pub swapped_seals : (user nonce : List ℕ) (output : Name) (content : List ℕ)
     → Keeps (node_of user nonce output content) (side_of output) d e → Swaps (side_of output) output e f
     → IsSealed user output content (f output) × ((other : Name) → other ≢ output → other ≢ side_of output → f other ≡ d other)
 swapped_seals user nonce output content d e f path long small keeps swaps =
-    let moved : f output ≡ Some keeps.file = swaps.moved keeps.file (λ same. not_side output (sym same)) keeps.there in
-    (sealed_file user nonce output content keeps.file (f output) path long small keeps.bytes_are keeps.settled moved,
-     λ other ne side. swaps.others other side ne ∙ keeps.others other side)
+    let moved : f output ≡ Some keeps.file = swaps.moved keeps.file (λ same. not_side output (sym same)) keeps.there in (
+      sealed_file user nonce output content keeps.file (f output) path long small keeps.bytes_are keeps.settled moved,
+      λ other ne side. swaps.others other side ne ∙ keeps.others other side,
+    )
 
 pub swapped_left : (user nonce : List ℕ) (output : Name) (content : List ℕ) (d e f : Disk) → IsPath output → length nonce ≡ 32 → length content ≤ MOST_FIRST
     → Keeps (node_of user nonce output content) (side_of output) d e → Swaps (side_of output) output e f → (image : Image) → IsImage f image → LeavesEither user output content d image
@@ -178,8 +183,8 @@ pub write_failed : {T E T2 E2 : Type 0} (r : Result T E) (w : Result T2 E2) (use
 write_failed r w user node output content side o p failed is =
     subst (λ (s : Name). Both o p (Does (Changes s (Writes 0 node w))) → Publishing r user output content s o p) (sym is)
     (λ does. ran_where (HasShort 4096 (side_of output)) (LeavesEither user output content) (SealEnds r user output content) o p
-        (side_first (HasShort 4096 (side_of output)) user output content (SealEnds r user output content) _ o p does
-            (λ d f short change. (change.others, same_output r user output content d f failed change.others))))
+    (side_first (HasShort 4096 (side_of output)) user output content (SealEnds r user output content) _ o p does
+    (λ d f short change. (change.others, same_output r user output content d f failed change.others))))
 
 -- the sync failed
 pub sync_failed : {T E T2 E2 T3 E3 : Type 0} (r : Result T E) (w : Result T2 E2) (s : Result T3 E3) (user node : List ℕ) (output : Name) (content : List ℕ) (side : Name) (o p q : Option Honest) → IsErr r → side ≡ side_of output
@@ -187,8 +192,8 @@ pub sync_failed : {T E T2 E2 T3 E3 : Type 0} (r : Result T E) (w : Result T2 E2)
 sync_failed r w s user node output content side o p q failed is ok long =
     subst (λ (n : Name). Both o p (Does (Changes n (Writes 0 node w))) → Both p q (Does (Changes n (Syncs s))) → Publishing r user output content n o q) (sym is)
     (λ writes syncs. ran_where (HasShort 4096 (side_of output)) (LeavesEither user output content) (SealEnds r user output content) o q
-        (side_step (HasShort 4096 (side_of output)) user output content (Holds node (side_of output)) (SealEnds r user output content) _ o p q (wrote w user node output content o p ok long writes) syncs
-            (λ d e f short holds change. let keeps = others_then (side_of output) d e f holds.others change.others in (keeps, same_output r user output content d f failed keeps))))
+    (side_step (HasShort 4096 (side_of output)) user output content (Holds node (side_of output)) (SealEnds r user output content) _ o p q (wrote w user node output content o p ok long writes) syncs
+    (λ d e f short holds change. let keeps = others_then (side_of output) d e f holds.others change.others in (keeps, same_output r user output content d f failed keeps))))
 
 -- the swap, done or failed, after a write and a sync
 pub swapped : {T E T2 E2 T3 E3 : Type 0} (r : Result T E) (w : Result T2 E2) (s : Result T3 E3) (step : Disk → Disk → Type 0) (user nonce node : List ℕ) (output : Name) (content : List ℕ) (side : Name) (o p q t : Option Honest)
@@ -200,8 +205,8 @@ swapped r w s step user nonce node output content side o p q t is ok oks long no
     (λ writes syncs swaps.
     let ran = subst (λ (b : List ℕ). Running (Keeps b (side_of output)) user output content o q) node_is (synced s user node output content o p q oks (wrote w user node output content o p ok long writes) syncs) in
     ran_where (HasShort 4096 (side_of output)) (LeavesEither user output content) (SealEnds r user output content) o t
-        (goes_on _ _ _ step o q t ran swaps
-            (λ d e f keeps step_is. (λ short. (go d e f (keeps short) step_is).0, λ image left short. (go d e f (keeps short) step_is).1 image left))))
+    (goes_on _ _ _ step o q t ran swaps
+    (λ d e f keeps step_is. (λ short. (go d e f (keeps short) step_is).0, λ image left short. (go d e f (keeps short) step_is).1 image left))))
 
 pub swap_failed : {T E : Type 0} (r : Result T E) (user nonce : List ℕ) (output : Name) (content : List ℕ) (side : Name) → side ≡ side_of output → IsErr r → IsPath output → length nonce ≡ 32 → length content ≤ MOST_FIRST
     → (d e f : Disk) → Keeps (node_of user nonce output content) (side_of output) d e → Swaps side output e f ⊎ (f ≡ e)

@@ -1,8 +1,8 @@
 -- The sealing of an input, from its parts: on an honest disk.
-use Rattle.std.proofs.Common.{◌≡◌, ◌≢◌, ◌⊎◌, inl, inr, ⊎_elim, ℕ, ◌-◌, ◌≤◌, ◌<◌, min, List, [], ◌∷◌, ◌++◌, length, take, drop, refl, subst, ap, ◌∙◌, sym, Option, Some, None, Result, Ok, Err, IsErr, IfSome, arith}
+use Rattle.std.proofs.Common.{◌≡◌, ◌≢◌, inl, inr, ⊎_elim, ℕ, ◌≤◌, List, length, take, refl, subst, ap, ◌∙◌, sym, Option, Some, None, Result, Ok, Err, IsErr, IfSome, arith}
 use Rattle.std.specs.Prelude.{option_map}
 use Rattle.std.proofs.lemmas.List.{take_all}
-use Rattle.pf_io.specs.Disk.{Name, Files, File, Disk, Image, IsImage, IsImageAt, reading, read_of}
+use Rattle.pf_io.specs.Disk.{Name, Files, File, Disk, Image, IsImageAt, reading, read_of}
 use Rattle.pf_io.specs.Host.{Both, ReadsFrom, contents}
 use Rattle.pf_io.specs.Moments.{Honest, Does, Ran, Where}
 use Rattle.pf_io.specs.Steps.{KeepsOthers, Stays}
@@ -10,7 +10,7 @@ use Rattle.pf_io.proofs.Runs.{started, goes_on, goes_on_ran}
 use Rattle.pf_io.proofs.Images.{others_then}
 use Rattle.pf_io.proofs.Telling.{both_weaker}
 use Rattle.pf_tool.specs.Sheet.{StandsFor}
-use Rattle.pf_tool.specs.Crash.{HasShort, Begun, LeavesOthers, LeavesEither, IsSealed, OutputEnds, SealEnds, content_on, LeavesSealed, InputEnds}
+use Rattle.pf_tool.specs.Crash.{HasShort, Begun, LeavesOthers, LeavesEither, IsSealed, SealEnds, content_on, LeavesSealed, InputEnds}
 use Rattle.pf_tool.specs.Encrypting.{side_of}
 use Rattle.pf_tool.proofs.SealDisk.{not_side, either_left}
 

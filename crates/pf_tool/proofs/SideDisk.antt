@@ -1,12 +1,12 @@
 -- The side file on an honest disk.
-use Rattle.std.proofs.Common.{◌≡◌, ◌≢◌, ◌⊎◌, inl, inr, ⊎_elim, ℕ, ◌+◌, ◌-◌, ◌<◌, ◌≤◌, List, [], ◌∷◌, ◌++◌, length, take, drop, replicate, refl, subst, ap, ◌∙◌, sym, Option, Some, None, Result, Ok, Err, IsOk, arith, length-append}
+use Rattle.std.proofs.Common.{◌≡◌, ℕ, ◌+◌, ◌-◌, ◌<◌, ◌≤◌, List, [], ◌∷◌, ◌++◌, length, drop, replicate, subst, ap, ◌∙◌, Option, Result, Ok, Err, IsOk, arith}
 use Rattle.std.proofs.lemmas.List.{append-nil, drop_all}
-use Rattle.pf_io.specs.Disk.{Name, File, Disk, Image, IsImage, IsImageAt, IsSettledFile}
+use Rattle.pf_io.specs.Disk.{Name, Disk}
 use Rattle.pf_io.specs.Host.{Both}
 use Rattle.pf_io.specs.Moments.{Honest, Does, Ran}
-use Rattle.pf_io.specs.Steps.{overwrite, Follows, KeepsOthers, Changes, Writes, Syncs, Makes, AtOnce}
+use Rattle.pf_io.specs.Steps.{overwrite, KeepsOthers, Changes, Writes, Syncs, Makes}
 use Rattle.pf_io.proofs.Images.{others_image, others_then, follows_at}
-use Rattle.pf_tool.specs.Crash.{LeavesOthers, HasShort, Begun}
+use Rattle.pf_tool.specs.Crash.{LeavesOthers, HasShort}
 use Rattle.pf_io.proofs.Runs.{started, goes_on}
 
 -- from where nothing was done, one call that changes this name alone

@@ -1,17 +1,16 @@
 -- What a host answered and which words were taken, over the parts of `encrypt`.
-use Rattle.std.proofs.Common.{◌≡◌, ◌≢◌, ℕ, ◌<◌, ◌≤◌, List, [], ◌∷◌, ◌++◌, length, take, drop, refl, subst, ap, ◌∙◌, sym, Option, Some, None, Result, Ok, Err, OnOk, IfErr, IfSome, arith, append_assoc}
+use Rattle.std.proofs.Common.{◌≡◌, ℕ, ◌≤◌, List, [], ◌∷◌, ◌++◌, take, drop, refl, subst, ap, ◌∙◌, sym, Option, Some, None, Result, Ok, Err, OnOk, IfErr, IfSome, append_assoc}
 use Rattle.std.specs.List.{AllByRecursion}
 use Rattle.std.proofs.lemmas.Option.{IfSome_then}
 use Rattle.std.proofs.lemmas.List.{append-nil}
-use Rattle.pf_io.specs.Counts.{Rose}
 use Rattle.pf_io.specs.Disk.{Name, Files}
-use Rattle.pf_io.specs.Host.{Answer, LengthWas, Gave, HostState, Both, IsMore, OnHonest, ReadsFrom, KeepsRest, contents, files_of}
+use Rattle.pf_io.specs.Host.{Answer, LengthWas, Gave, HostState, Both, IsMore, OnHonest, contents, files_of}
 use Rattle.pf_io.specs.Words.{WordsState}
 use Rattle.pf_io.proofs.Telling.{both_then, both_same, told_on}
 use Rattle.pf_tool.specs.Answered.{Answered, IsAnswerOf}
-use Rattle.pf_tool.specs.Encrypting.{Went, AreNonce, node_of, begun_answers, published_answers, side_of}
-use Rattle.pf_tool.specs.SideFile.{Draws, Begins, Publishes, ChangeFault, host_failed, random_failed}
-use Rattle.pf_tool.specs.Sealing.{Reached, Fails, by_host, by_random, Ends}
+use Rattle.pf_tool.specs.Encrypting.{Went, node_of, begun_answers, published_answers}
+use Rattle.pf_tool.specs.SideFile.{Begins, Publishes, ChangeFault, host_failed, random_failed}
+use Rattle.pf_tool.specs.Sealing.{Reached, by_host, by_random, Ends}
 use Rattle.pf_tool.specs.Steps.{Ending, Done}
 use Rattle.pf_tool.specs.declared.fault.Fault.{Fault}
 use Rattle.pf_tool.proofs.Writing.{rose_later}
@@ -58,8 +57,8 @@ pub went_read : (input output : Name) (size : ℕ) (user bytes : List ℕ) (s0 s
 went_read input output size user bytes s0 s1 s2 s3 r0 r1 asked b told known =
     subst (λ (ts : List (List ℕ)). Went (LengthWas input (Some size) ∷ begun_answers output (node_of user b.nonce output []) ++ Gave input 0 3073 bytes ∷ []) ts s0 s3 r0 r1) (append-nil b.draws.taken)
     (went_then (LengthWas input (Some size) ∷ begun_answers output (node_of user b.nonce output [])) (Gave input 0 3073 bytes ∷ []) b.draws.taken [] s0 s2 s3 r0 r1 r1
-        (went_begun input output size user s0 s1 s2 r0 r1 asked b) told (both_same (λ before rest. before ≡ [] ++ rest) r1.left r1.left refl (λ left. refl))
-        (IfSome_then (files_of s0) known (λ f is. (is, tt))))
+    (went_begun input output size user s0 s1 s2 r0 r1 asked b) told (both_same (λ before rest. before ≡ [] ++ rest) r1.left r1.left refl (λ left. refl))
+    (IfSome_then (files_of s0) known (λ f is. (is, tt))))
 
 -- and the side file published
 pub went_published : (input output : Name) (size : ℕ) (user bytes : List ℕ) (s0 s1 s2 s3 s4 : HostState) (r0 r1 r2 : WordsState) → Answered (LengthWas input (Some size) ∷ []) s0 s1 → (b : Begins user output s1 s2 r0 r1)

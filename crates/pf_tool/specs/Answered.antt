@@ -1,7 +1,7 @@
 -- What several calls of a host answered.
-use Rattle.std.specs.Prelude.{◌≡◌, ℕ, List, [], ◌∷◌, take, drop, Option}
+use Rattle.std.specs.Prelude.{◌≡◌, List, take, drop}
 use Rattle.std.specs.List.{AllByRecursion}
-use Rattle.pf_io.specs.Host.{Name, Files, Answer, LengthWas, Gave, Wrote, WasCut, Synced, Made, Swapped, Removed, HostState, Both, IsMore, KeepsFiles, OnHonest, length_of, contents}
+use Rattle.pf_io.specs.Host.{Files, Answer, LengthWas, Gave, Wrote, WasCut, Synced, Made, Swapped, Removed, HostState, Both, IsMore, KeepsFiles, OnHonest, length_of, contents}
 
 -- what was asked is answered as the files are; a change tells nothing of them
 abbrev pub IsAnswerOf : Files → Answer → Type 0

@@ -1,5 +1,5 @@
 -- What a run of calls leaves on an honest disk, at every moment of it and in the end.
-use Rattle.std.specs.Prelude.{◌≡◌, ◌≢◌, ◌⊎◌, ℕ, ◌≤◌, List, length, take, Option, Some, None, Result, Ok, Err}
+use Rattle.std.specs.Prelude.{◌≡◌, ◌≢◌, ◌⊎◌, ℕ, ◌≤◌, List, length, take, Option, Some, Result, Ok, Err}
 use Rattle.pf_io.specs.Disk.{Name, File, Disk, Image, IsImage, IsImageAt, IsSettledFile, reading}
 use Rattle.pf_io.specs.Host.{HostState, OnDisk, contents}
 use Rattle.pf_io.specs.Moments.{Ran}

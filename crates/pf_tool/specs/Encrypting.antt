@@ -1,5 +1,5 @@
 -- How `encrypt -w KEY -i IN -o OUT` ends, by what the host answers and which random words come.
-use Rattle.std.specs.Prelude.{◌≡◌, ◌≢◌, ◌⊎◌, ℕ, ◌<◌, ◌≤◌, List, [], ◌∷◌, ◌++◌, length, Option, Some, None, codes}
+use Rattle.std.specs.Prelude.{◌≡◌, ◌≢◌, ℕ, ◌<◌, ◌≤◌, List, [], ◌∷◌, ◌++◌, length, Some, None, codes}
 use Rattle.std.specs.List.{AllByRecursion}
 use Rattle.node_layout.specs.Metadata.{meta_block}
 use Rattle.pf_io.specs.Host.{Name, Answer, LengthWas, Gave, Wrote, Synced, Made, Swapped, HostState, Both, IsMore, OnHonest}

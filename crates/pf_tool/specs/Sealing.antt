@@ -1,7 +1,7 @@
 -- What the parts of `encrypt` come to.
 use Rattle.std.specs.Prelude.{◌≡◌, ℕ, List, [], Result, Ok, Err}
 use Rattle.pf_io.specs.Counts.{Rose}
-use Rattle.pf_io.specs.Host.{Name, Answer, HostState}
+use Rattle.pf_io.specs.Host.{Answer, HostState}
 use Rattle.pf_io.specs.Words.{WordsState}
 use Rattle.pf_tool.specs.Steps.{Ending, Done}
 use Rattle.pf_tool.specs.Encrypting.{Went}

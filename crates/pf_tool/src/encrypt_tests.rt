@@ -5,6 +5,7 @@ use std::process::Abort;
 use std::test::Fail;
 
 const ENCRYPT: &str = "encrypt -w k -i a -o a.pf";
+
 const EACH_TEAR: [Tear; 3] = [Tear::Kept, Tear::Lost, Tear::Fill(b'-')];
 
 // Runs a line of words with as many random words, each another one.
@@ -13,13 +14,7 @@ fn ran_drawing(alloc: Global, host: &mut MemHost, line: &str, count: u8) -> Resu
     for word in 0..count {
         random.push([word; 16])?;
     }
-    Ok(ran_with(
-        alloc,
-        host,
-        line,
-        MemSink::new(alloc),
-        &mut random,
-    )?)
+    Ok(ran_with(alloc, host, line, MemSink::new(alloc), &mut random)?)
 }
 
 // A host with a key `k` and a plain file `a`.

@@ -35,9 +35,7 @@ pub(crate) fn ran_with(
     let mut input = MemSource::new(Bytes::from(Vec::new(alloc)));
     let mut out = output;
     let mut log = MemSink::new(alloc);
-    let status = run(
-        alloc, &words, host, &mut input, &mut out, &mut log, random,
-    );
+    let status = run(alloc, &words, host, &mut input, &mut out, &mut log, random);
     Ok(Outcome { status, out, log })
 }
 

@@ -39,7 +39,9 @@ fn decrypt_of(words: &[String]) -> Option<Decrypt<'_>>
     let [command, key_option, key, input_option, input] = words else {
         return None;
     };
-    if command.as_str() == "decrypt" && key_option.as_str() == "-w" && input_option.as_str() == "-i"
+    if command.as_str() == "decrypt"
+        && key_option.as_str() == "-w"
+        && input_option.as_str() == "-i"
     {
         Some(Decrypt {
             key: key.as_str(),
@@ -60,7 +62,16 @@ fn encrypt_of(words: &[String]) -> Option<Encrypt<'_>>
     ensures found { IfSome result (λ command. texts words.now ≡ encrypt_words command.key.now command.input.now command.output.now) }
     ensures none { IfNone result ((key input output : List ℕ) → texts words.now ≡ encrypt_words key input output → ⊥) }
 {
-    let [command, key_option, key, input_option, input, output_option, output] = words else {
+    let [
+        command,
+        key_option,
+        key,
+        input_option,
+        input,
+        output_option,
+        output,
+    ] = words
+    else {
         return None;
     };
     if !is_encrypt(

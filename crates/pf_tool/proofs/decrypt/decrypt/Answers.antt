@@ -1,9 +1,6 @@
-use Rattle.std.proofs.Common.{◌≡◌, ◌≤◌, ℕ, List, [], ◌∷◌, ◌++◌, length, take, refl, ap, ◌∙◌, sym, arith, rules, subst}
+use Rattle.std.proofs.Common.{[], take, refl, sym, arith, subst}
 use Rattle.std.proofs.lemmas.Result.{err_from_is_err_and}
-use Rattle.pf_io.specs.Host.{Answer, HostState}
-use Rattle.pf_tool.specs.Answered.{Answered}
-use Rattle.pf_tool.specs.Faults.{EndsBy, Finished}
-use Rattle.pf_tool.specs.Steps.{Ending, Done, KeyRefused, NodeRefused, Opens, OpensTo, Decrypts, key_refused, key_read, node_refused, node_read, content_whole, key_answers, node_answers}
+use Rattle.pf_tool.specs.Steps.{KeyRefused, NodeRefused, OpensTo, Decrypts, key_refused, key_read, node_refused, node_read, content_whole}
 use Rattle.pf_tool.specs.Run.{DecryptFails, by_host, by_output}
 use Rattle.pf_tool.specs.declared.fault.Fault.{Fault}
 use Rattle.pf_tool.proofs.Answering.{answered_none, answered_then}

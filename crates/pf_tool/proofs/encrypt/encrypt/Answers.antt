@@ -1,10 +1,9 @@
-use Rattle.std.proofs.Common.{◌≡◌, ◌⊎◌, inl, inr, ◌∙◌, List, ℕ, take, refl, subst, sym, rules, IsErr, IfSome}
+use Rattle.std.proofs.Common.{inl, inr, refl, subst, sym, IsErr}
 use Rattle.std.proofs.lemmas.Result.{err_from_is_err_and}
 use Rattle.std.proofs.lemmas.Option.{IfSome_then}
 use Rattle.pf_io.specs.Disk.{Files}
-use Rattle.pf_io.specs.Host.{files_of, contents}
-use Rattle.pf_io.specs.Names.{IsTarget}
-use Rattle.pf_tool.specs.Encrypting.{IsInput, Encrypts}
+use Rattle.pf_io.specs.Host.{files_of}
+use Rattle.pf_tool.specs.Encrypting.{Encrypts}
 use Rattle.pf_tool.specs.Sealing.{Fails}
 use Rattle.pf_tool.specs.declared.fault.Fault.{Fault}
 use Rattle.pf_tool.proofs.Lists.{never_true}
@@ -43,8 +42,8 @@ returns-then-not-is_target-clause-ends g c =
     let output = c.args.command.now.output.now in
     names_refused key input output c.in_ok-user.user old new words c.in_ok-user.ensures.key c.in_ok-user.ensures.read
     (elim c.then-not-is_target.branch [
-      then-not-is_target-via-then-not-is_target w ↦ inl (λ target. never_true (w.if-not-is_target.ensures.1 target))
-    | then-not-is_target-via-else-not-is_target+then-not-is_input w ↦ inr (w.if-not-is_target.ensures.0 refl, λ fit. never_true (w.if-not-is_input.ensures.1 fit))
+      | then-not-is_target-via-then-not-is_target w ↦ inl (λ target. never_true (w.if-not-is_target.ensures.1 target))
+      | then-not-is_target-via-else-not-is_target+then-not-is_input w ↦ inr (w.if-not-is_target.ensures.0 refl, λ fit. never_true (w.if-not-is_input.ensures.1 fit))
     ])
 
 pub returns-then-not-is_target-clause-disk : goal.returns-then-not-is_target-clause-disk

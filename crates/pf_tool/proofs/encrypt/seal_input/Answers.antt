@@ -1,13 +1,13 @@
-use Rattle.std.proofs.Common.{◌≡◌, ℕ, ◌≤◌, List, [], ◌∷◌, ◌++◌, length, take, None, refl, subst, sym, ap, ◌∙◌, arith, rules, IsErr, Option, IfSome, Result, Err}
+use Rattle.std.proofs.Common.{◌≡◌, ℕ, [], ◌∷◌, ◌++◌, length, take, None, refl, subst, sym, arith, rules, IsErr, Option, IfSome}
 use Rattle.std.proofs.lemmas.Result.{err_from_is_err_and}
-use Rattle.pf_io.specs.Disk.{Disk, Files}
+use Rattle.pf_io.specs.Disk.{Files}
 use Rattle.pf_io.specs.Host.{ReadsFrom, contents, LengthWas, files_of}
 use Rattle.std.proofs.lemmas.Option.{IfSome_then}
 use Rattle.std.proofs.lemmas.List.{length-take-le}
 use Rattle.pf_tool.specs.Answered.{Answered}
 use Rattle.pf_tool.specs.Sealing.{by_answers}
 use Rattle.pf_io.specs.Steps.{KeepsOthers}
-use Rattle.pf_tool.specs.Crash.{Begun, BeginEnds}
+use Rattle.pf_tool.specs.Crash.{Begun}
 use Rattle.pf_tool.specs.Encrypting.{side_of, EncryptsTo, input_absent, input_large, published}
 use Rattle.pf_tool.proofs.SealInput.{asked, beginning, begun_from, kept_from, reading_on, ending_early, publishing, with_content, known_before}
 use Rattle.pf_tool.proofs.Answering.{answered_length}
@@ -51,7 +51,7 @@ returns-in_err-begin-clause-disk g c =
     let is : side ≡ side_of output = search rules in
     let first = asked user input output _ _ c.len.ensures.disk in
     ending_early c.from_residual-in_err-begin.result (KeepsOthers (side_of output)) user input output _ _ failed (λ d e keeps. keeps)
-        (beginning (KeepsOthers (side_of output)) (KeepsOthers side) user input output side _ _ _ is (λ d e f keeps kept. kept_from side output d e f is keeps kept) first c.in_err-begin.ensures.disk)
+    (beginning (KeepsOthers (side_of output)) (KeepsOthers side) user input output side _ _ _ is (λ d e f keeps kept. kept_from side output d e f is keeps kept) first c.in_err-begin.ensures.disk)
 
 pub returns-in_err-given-clause-disk : goal.returns-in_err-given-clause-disk
 returns-in_err-given-clause-disk g c =
@@ -65,7 +65,7 @@ returns-in_err-given-clause-disk g c =
     let first = asked user input output _ _ c.len.ensures.disk in
     let begun = beginning (Begun 4096 (side_of output)) (Begun 4096 side) user input output side _ _ _ is (λ d e f keeps kept. begun_from side output d e f is keeps kept) first c.in_ok-begin.ensures.disk in
     ending_early c.from_residual-in_err-given.result (Begun 4096 (side_of output)) user input output _ _ failed (λ d e begun. begun.others)
-        (reading_on (Begun 4096 (side_of output)) user input output _ _ _ (λ d e begun. begun.others) begun c.read_at.ensures.disk)
+    (reading_on (Begun 4096 (side_of output)) user input output _ _ _ (λ d e begun. begun.others) begun c.read_at.ensures.disk)
 
 pub returns-then-given-gt3072-clause-disk : goal.returns-then-given-gt3072-clause-disk
 returns-then-given-gt3072-clause-disk g c =
@@ -77,7 +77,7 @@ returns-then-given-gt3072-clause-disk g c =
     let first = asked user input output _ _ c.len.ensures.disk in
     let begun = beginning (Begun 4096 (side_of output)) (Begun 4096 side) user input output side _ _ _ is (λ d e f keeps kept. begun_from side output d e f is keeps kept) first c.in_ok-begin.ensures.disk in
     ending_early _ (Begun 4096 (side_of output)) user input output _ _ refl (λ d e begun. begun.others)
-        (reading_on (Begun 4096 (side_of output)) user input output _ _ _ (λ d e begun. begun.others) begun c.read_at.ensures.disk)
+    (reading_on (Begun 4096 (side_of output)) user input output _ _ _ (λ d e begun. begun.others) begun c.read_at.ensures.disk)
 
 pub returns-clause-disk : goal.returns-clause-disk
 returns-clause-disk g c =
@@ -165,10 +165,10 @@ returns-clause-ends g c =
     let b = c.in_ok-begin.ensures.begun in
     let long : length bytes ≡ c.in_ok-given.given = length-take-le c.in_ok-given.given c.read_at.new.to (omega (arith, c.in_ok-given.ensures.rest.within, c.in_ok-given.ensures.rest.same_length)) in
     publish_ends (EncryptsTo user input output) c.publish.result user output bytes s0 s3 s4 r0 r1 r2 c.publish.ensures.published c.publish.ensures.failed
-        (omega (arith, c.len.ensures.cause.later, c.begin.ensures.faults, c.read_at.ensures.cause.later)) c.begin.ensures.random_faults
-        (λ p. record {
-          these = _;
-          taken = b.draws.taken ++ p.draws.taken;
-          went = went_published input output c.in-Some.field-0 user bytes s0 s1 s2 s3 s4 r0 r1 r2 there b c.in_ok-given.ensures.told read p;
-          came = published c.in-Some.field-0 b.nonce p.nonce bytes b.draws.taken p.draws.taken c.requires.target c.requires.input b.draws.is_nonce p.draws.is_nonce refl (omega (arith, long, c.if-given-gt3072.false)) refl refl;
-        })
+    (omega (arith, c.len.ensures.cause.later, c.begin.ensures.faults, c.read_at.ensures.cause.later)) c.begin.ensures.random_faults
+    (λ p. record {
+      these = _;
+      taken = b.draws.taken ++ p.draws.taken;
+      went = went_published input output c.in-Some.field-0 user bytes s0 s1 s2 s3 s4 r0 r1 r2 there b c.in_ok-given.ensures.told read p;
+      came = published c.in-Some.field-0 b.nonce p.nonce bytes b.draws.taken p.draws.taken c.requires.target c.requires.input b.draws.is_nonce p.draws.is_nonce refl (omega (arith, long, c.if-given-gt3072.false)) refl refl;
+    })

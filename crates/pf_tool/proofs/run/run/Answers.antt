@@ -1,5 +1,5 @@
-use Rattle.std.proofs.Common.{◌≡◌, ℕ, List, ◌∙◌, sym, subst}
-use Rattle.pf_io.specs.Host.{Name, WhereTold}
+use Rattle.std.proofs.Common.{ℕ, List, ◌∙◌, sym, subst}
+use Rattle.pf_io.specs.Host.{WhereTold}
 use Rattle.pf_tool.specs.Commands.{IsCommandOf}
 use Rattle.pf_tool.specs.EncryptRun.{HonestEncrypt}
 use Rattle.pf_tool.specs.Reports.{Wrote}

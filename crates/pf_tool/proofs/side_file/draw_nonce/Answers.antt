@@ -1,4 +1,4 @@
-use Rattle.std.proofs.Common.{◌≡◌, ◌++◌, ◌∷◌, [], length, ℕ, rules, List, subst, sym, refl, length-append, arith}
+use Rattle.std.proofs.Common.{◌≡◌, ◌∷◌, [], length, ℕ, rules, List, subst, sym, refl, length-append, arith}
 use Rattle.pf_tool.specs.SideFile.{Draws}
 use Rattle.pf_tool.proofs.Drawing.{halves, drawn_both}
 use Rattle.pf_tool.proofs.side_file.draw_nonce.Goals as goal

@@ -1,7 +1,5 @@
-use Rattle.std.proofs.Common.{◌≡◌, ◌++◌, length, ℕ, List, drop, replicate, ap, ◌∙◌, Some, Option, IfSome, subst}
+use Rattle.std.proofs.Common.{◌≡◌, ◌++◌, length, ℕ, List, drop, replicate, ap, ◌∙◌, Option, IfSome, subst}
 use Rattle.node_layout.specs.Metadata.{meta_block, meta_text}
-use Rattle.pf_tool.specs.Steps.{MOST_FIRST}
-use Rattle.pf_tool.specs.Encrypting.{node_of}
 use Rattle.pf_tool.proofs.Drawing.{content_padded}
 use Rattle.pf_tool.proofs.side_file.make_node.Goals as goal
 

@@ -1,4 +1,4 @@
-use Rattle.std.proofs.Common.{◌≡◌, ℕ, List, [], ◌∷◌, length, refl, subst, sym, ap, arith, rules, IsErr, IsOk}
+use Rattle.std.proofs.Common.{◌≡◌, ℕ, List, [], ◌∷◌, length, refl, subst, rules, IsErr}
 use Rattle.std.proofs.lemmas.Result.{err_from_is_err_and}
 use Rattle.pf_io.specs.Host.{Both, IsMore, Wrote, Synced, Swapped}
 use Rattle.pf_io.proofs.Telling.{told_on}
@@ -26,16 +26,16 @@ returns-in_err-swap_name-clause-disk g c =
     let long : length c.make_node-node.result ≡ 4096 = search rules in
     let drawn = c.in_ok-nonce.ensures.drawn in
     swapped c.from_residual-in_err-swap_name.result _ _ _ c.args.user.now c.in_ok-nonce.nonce c.make_node-node.result c.args.output.now c.args.content.now c.args.side.now _ _ _ _ c.requires.side refl refl long c.make_node-node.ensures
-        (swap_failed c.from_residual-in_err-swap_name.result c.args.user.now c.in_ok-nonce.nonce c.args.output.now c.args.content.now c.args.side.now c.requires.side failed c.requires.path drawn.long c.requires.small)
-        c.in_ok-write_at.ensures.disk c.in_ok-sync.ensures.disk c.in_err-swap_name.ensures.disk
+    (swap_failed c.from_residual-in_err-swap_name.result c.args.user.now c.in_ok-nonce.nonce c.args.output.now c.args.content.now c.args.side.now c.requires.side failed c.requires.path drawn.long c.requires.small)
+    c.in_ok-write_at.ensures.disk c.in_ok-sync.ensures.disk c.in_err-swap_name.ensures.disk
 
 pub returns-clause-disk : goal.returns-clause-disk
 returns-clause-disk g c =
     let long : length c.make_node-node.result ≡ 4096 = search rules in
     let drawn = c.in_ok-nonce.ensures.drawn in
     swapped _ _ _ _ c.args.user.now c.in_ok-nonce.nonce c.make_node-node.result c.args.output.now c.args.content.now c.args.side.now _ _ _ _ c.requires.side refl refl long c.make_node-node.ensures
-        (swap_done _ c.args.user.now c.in_ok-nonce.nonce c.args.output.now c.args.content.now c.args.side.now c.requires.side refl c.requires.path drawn.long c.requires.small)
-        c.in_ok-write_at.ensures.disk c.in_ok-sync.ensures.disk c.in_ok-swap_name.ensures.disk
+    (swap_done _ c.args.user.now c.in_ok-nonce.nonce c.args.output.now c.args.content.now c.args.side.now c.requires.side refl c.requires.path drawn.long c.requires.small)
+    c.in_ok-write_at.ensures.disk c.in_ok-sync.ensures.disk c.in_ok-swap_name.ensures.disk
 
 pub returns-clause-published : goal.returns-clause-published
 returns-clause-published g c =

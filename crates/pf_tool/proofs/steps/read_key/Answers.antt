@@ -1,9 +1,8 @@
-use Rattle.std.proofs.Common.{◌≡◌, ◌<◌, ◌≤◌, ℕ, List, [], ◌∷◌, ◌++◌, Some, Option, take, length, refl, ap, ◌∙◌, sym, arith, rules}
+use Rattle.std.proofs.Common.{◌≡◌, ℕ, [], ◌∷◌, Some, Option, take, length, refl, ap, ◌∙◌, sym, arith, rules}
 use Rattle.std.proofs.lemmas.List.{length-take-le}
-use Rattle.pf_io.specs.Host.{Answer, LengthWas, Gave}
+use Rattle.pf_io.specs.Host.{LengthWas, Gave}
 use Rattle.pf_io.specs.Names.{IsName}
-use Rattle.pf_tool.specs.Answered.{Answered}
-use Rattle.pf_tool.specs.Steps.{key_answers, key_length, key_short, KeyFile}
+use Rattle.pf_tool.specs.Steps.{key_length, key_short, KeyFile}
 use Rattle.pf_tool.proofs.Answering.{answered_length, answered_bytes, answered_then}
 use Rattle.pf_tool.proofs.OnlyReading.{read_once, read_on}
 use Rattle.pf_tool.proofs.steps.read_key.Goals as goal

@@ -1,11 +1,10 @@
-use Rattle.std.proofs.Common.{◌≡◌, ◌≤◌, ℕ, List, [], ◌∷◌, length, take, refl, ap, ◌∙◌, sym, arith, rules, subst}
+use Rattle.std.proofs.Common.{◌≡◌, ℕ, List, take, refl, sym, arith, rules, subst}
 use Rattle.std.proofs.lemmas.Result.{err_from_is_err_and}
 use Rattle.std.proofs.lemmas.List.{take_all, length-take}
 use Rattle.pf_io.specs.Names.{IsTarget}
-use Rattle.pf_tool.specs.Answered.{Answered}
 use Rattle.pf_tool.specs.Faults.{EndsBy}
 use Rattle.pf_tool.specs.Parts.{HasNode}
-use Rattle.pf_tool.specs.Steps.{node_answers, NodeRefused, node_fails, NodeFails, IsWhole}
+use Rattle.pf_tool.specs.Steps.{NodeRefused, node_fails, NodeFails}
 use Rattle.pf_tool.specs.declared.fault.Fault.{Fault}
 use Rattle.pf_tool.proofs.Answering.{answered_length, answered_bytes, answered_node}
 use Rattle.pf_tool.proofs.Ending.{refusal_ends}

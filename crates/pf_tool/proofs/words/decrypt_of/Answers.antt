@@ -1,5 +1,5 @@
-use Rattle.std.proofs.Common.{◌≡◌, List, [], ◌∷◌, ap, ◌∙◌, ℕ, rules}
-use Rattle.std.specs.Prelude.{string_bytes, codes}
+use Rattle.std.proofs.Common.{◌≡◌, ap, ◌∙◌, rules}
+use Rattle.std.specs.Prelude.{codes}
 use Rattle.pf_tool.specs.Words.{texts}
 use Rattle.pf_tool.proofs.Lists.{five}
 use Rattle.pf_tool.proofs.words.decrypt_of.Goals as goal
