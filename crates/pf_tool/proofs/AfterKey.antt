@@ -113,14 +113,14 @@ key_disk key input output o p only =
     (λ d e f same stays. stays ∙ same)
 
 -- `encrypt` ended before it changed anything
-pub refused_disk : {T E : Type 0} (r : Result T E) (key input output : Name) (o p : Option Honest) → IsErr r → Both o p (Ran IsImage (λ before now. now ≡ before))
+pub refused_disk : {T : Type 0} (r : Result T Fault) (key input output : Name) (o p : Option Honest) → IsErr r → Both o p (Ran IsImage (λ before now. now ≡ before))
     → Both o p (Ran (LeavesEncrypted key input output) (EncryptEnds r key input output))
 refused_disk r key input output o p failed only =
     both_weaker (Ran (LeavesEncrypted key input output) (λ before now. now ≡ before)) (Ran (LeavesEncrypted key input output) (EncryptEnds r key input output)) o p (key_disk key input output o p only)
     (λ a b run. record { leaves = run.leaves; ends = ended_early r (user_on a.now key) input output a.now b.now failed (λ other ne. ap (λ (x : Disk). x other) run.ends) })
 
 -- the sealing after the reading of the key
-pub sealing_disk : {T E : Type 0} (r : Result T E) (key input output : Name) (user : List ℕ) (o p q : Option Honest) → Both o p (Ran IsImage (λ before now. now ≡ before))
+pub sealing_disk : {T : Type 0} (r : Result T Fault) (key input output : Name) (user : List ℕ) (o p q : Option Honest) → Both o p (Ran IsImage (λ before now. now ≡ before))
     → IfSome (option_map (λ host. reading host.now) o) (λ files. user ≡ take 16 (contents (files key)))
     → Both p q (Ran (LeavesSealed user input output) (InputEnds r user input output)) → Both o q (Ran (LeavesEncrypted key input output) (EncryptEnds r key input output))
 sealing_disk r key input output user o p q only known next =

@@ -1,5 +1,5 @@
 -- From how `encrypt` ended to what a run says.
-use Rattle.std.proofs.Common.{◌≡◌, ◌≢◌, inl, inr, ℕ, [], subst, Option, Some, IfSome, Result, Ok, Err, IsOk, arith}
+use Rattle.std.proofs.Common.{◌≡◌, ◌≢◌, ◌⊎◌, inl, inr, ℕ, [], subst, Option, Some, IfSome, Result, Ok, Err, arith, ⊎_elim, List, sym}
 use Rattle.std.specs.List.{AllByRecursion}
 use Rattle.pf_io.specs.Counts.{Rose}
 use Rattle.pf_io.specs.Disk.{Disk}
@@ -9,7 +9,7 @@ use Rattle.pf_io.specs.Streams.{SinkState}
 use Rattle.pf_io.specs.Words.{WordsState}
 use Rattle.pf_io.proofs.Telling.{both_weaker}
 use Rattle.pf_tool.specs.Answered.{IsAnswerOf}
-use Rattle.pf_tool.specs.Crash.{LeavesEncrypted, EncryptEnds}
+use Rattle.pf_tool.specs.Crash.{IsSealed, LeavesEncrypted, EncryptEnds, user_on, content_on}
 use Rattle.pf_tool.specs.Encrypting.{Encrypts}
 use Rattle.pf_tool.specs.EncryptRun.{EncryptRuns, encrypted, encrypt_refused, encrypt_host_failed, encrypt_random_failed, encrypt_starved, EncryptEnding, HonestEncrypt, EncryptLeft, EncryptDisk}
 use Rattle.pf_tool.specs.Faults.{ending_line, ending_status, fault_line, fault_status, memory_line}
@@ -86,22 +86,49 @@ fault_nonzero faults.Stream = omega arith
 fault_nonzero faults.Memory = omega arith
 fault_nonzero faults.Random = omega arith
 
-pub fault_no_zero : (fault : Fault) (status : ℕ) (log said : SinkState) → Reported (fault_line fault) (fault_status fault) log said status → status ≢ 0
+fault_no_zero : (fault : Fault) (status : ℕ) (log said : SinkState) → Reported (fault_line fault) (fault_status fault) log said status → status ≢ 0
 fault_no_zero fault status log said reported = no_zero (fault_line fault) (fault_status fault) status log said (fault_nonzero fault) reported
 
-never_ok : (T : Type 0) {E : Type 0} (fault : E) → ¬ (IsOk {T = T} {E = E} (Err fault))
-never_ok T fault ok = absurd (cc)
+-- what `encrypt` leaves where it is done
+pub done_disk : {T : Type 0} (value : T) (key input output : Name) (old new : HostState) → OnDisk old new (Ran (LeavesEncrypted key input output) (EncryptEnds (Ok value) key input output))
+    → EncryptDisk 0 key input output old new
+done_disk value key input output old new ran =
+    both_weaker (Ran (LeavesEncrypted key input output) (EncryptEnds (Ok value) key input output)) (Ran (LeavesEncrypted key input output) (EncryptLeft 0 key input output)) _ _ ran
+    (λ a b run. record {
+      leaves = run.leaves;
+      ends = record { done = λ zero. run.ends.here; refused = λ status. absurd (⊎_elim (λ (three : 0 ≡ 3). omega arith) (λ (six : 0 ≡ 6). omega arith) status); failed = inr run.ends.here; others = run.ends.others };
+    })
 
-left_of : {T E : Type 0} (r : Result T E) (status : ℕ) (key input output : Name) (d e : Disk) → (status ≡ 0 → IsOk r) → EncryptEnds r key input output d e → EncryptLeft status key input output d e
-left_of {T} {E} (Ok value) status key input output d e done ends = record { done = λ zero. ends.here; failed = inr ends.here; others = ends.others }
-left_of {T} {E} (Err fault) status key input output d e done ends = record { done = λ zero. absurd (never_ok T fault (done zero)); failed = ends.here; others = ends.others }
+-- a fault of the host is reported with a status of its own
+host_status : (text : List ℕ) (status : ℕ) (log said : SinkState) → Reported text 4 log said status → ¬ ((status ≡ 3) ⊎ (status ≡ 6))
+host_status text status log said (line_written e wrote) (inl three) = omega arith
+host_status text status log said (line_written e wrote) (inr six) = omega arith
+host_status text status log said (no_memory e wrote) (inl three) = omega arith
+host_status text status log said (no_memory e wrote) (inr six) = omega arith
+host_status text status log said (log_failed e failed) (inl three) = omega arith
+host_status text status log said (log_failed e failed) (inr six) = omega arith
 
--- what a result leaves, by the status that it ends with
-pub left_disk : {T E : Type 0} (r : Result T E) (status : ℕ) (key input output : Name) (old new : HostState) → (status ≡ 0 → IsOk r)
-    → OnDisk old new (Ran (LeavesEncrypted key input output) (EncryptEnds r key input output)) → EncryptDisk status key input output old new
-left_disk r status key input output old new done ran =
-    both_weaker (Ran (LeavesEncrypted key input output) (EncryptEnds r key input output)) (Ran (LeavesEncrypted key input output) (EncryptLeft status key input output)) _ _ ran
-    (λ a b run. record { leaves = run.leaves; ends = left_of r status key input output a.now b.now done run.ends })
+either_output : (fault : Fault) (status : ℕ) (user : List ℕ) (output : Name) (content : List ℕ) (log said : SinkState) (d e : Disk) → Reported (fault_line fault) (fault_status fault) log said status
+    → (e output ≡ d output) ⊎ ((fault ≡ faults.Host) × IsSealed user output content (e output)) → (status ≡ 3) ⊎ (status ≡ 6) → e output ≡ d output
+either_output fault status user output content log said d e reported (inl same) is = same
+either_output fault status user output content log said d e reported (inr both) is = absurd (host_status _ status log said (said_as fault faults.Host log said status both.0 reported) is)
+
+-- and where it failed
+pub failed_disk : {T : Type 0} (fault : Fault) (r : Result T Fault) (status : ℕ) (key input output : Name) (log said : SinkState) (old new : HostState) → r ≡ Err fault
+    → Reported (fault_line fault) (fault_status fault) log said status → OnDisk old new (Ran (LeavesEncrypted key input output) (EncryptEnds r key input output)) → EncryptDisk status key input output old new
+failed_disk fault (Ok value) status key input output log said old new is reported ran = absurd (cc)
+failed_disk fault (Err other) status key input output log said old new is reported ran =
+    let same : other ≡ fault = cc in
+    both_weaker (Ran (LeavesEncrypted key input output) (EncryptEnds (Err other) key input output)) (Ran (LeavesEncrypted key input output) (EncryptLeft status key input output)) _ _ ran
+    (λ a b run. record {
+      leaves = run.leaves;
+      ends = record {
+        done = λ zero. absurd (fault_no_zero fault status log said reported zero);
+        refused = λ refused. either_output other status (user_on a.now key) output (content_on a.now input) log said a.now b.now (subst (λ (f : Fault). Reported (fault_line f) (fault_status f) log said status) (sym same) reported) run.ends.here refused;
+        failed = ⊎_elim (λ kept. inl kept) (λ both. inr both.1) run.ends.here;
+        others = run.ends.others;
+      };
+    })
 
 -- one list of words has one key, one input and one output
 pub for_encrypt_names : (P : Name → Name → Name → Type 0) (a b c key input output : Name) → encrypt_words a b c ≡ encrypt_words key input output → P a b c → P key input output

@@ -13,6 +13,8 @@ use Rattle.pf_tool.specs.Crash.{HasShort, LeavesEither, IsSealed, SealEnds}
 use Rattle.pf_tool.specs.Encrypting.{side_of, node_of}
 use Rattle.pf_tool.specs.Sheet.{one_node, image_of, StandsFor}
 use Rattle.pf_tool.specs.Steps.{MOST_FIRST}
+use Rattle.pf_tool.specs.declared.fault.Fault.{Fault}
+use Rattle.pf_tool.specs.declared.fault.Fault.TheVariants as faults
 use Rattle.pf_io.proofs.Runs.{started, goes_on}
 use Rattle.pf_tool.proofs.SideDisk.{overwrite_whole}
 
@@ -141,23 +143,24 @@ side_first A user output content R step o q does go =
     (λ a. (go d f a from_d).1, λ image is a. either_left user output content d f (go d f a from_d).0 image is))
 
 -- an end in which only the side file changed
-same_output : {T E : Type 0} (r : Result T E) (user : List ℕ) (output : Name) (content : List ℕ) (d f : Disk) → IsErr r → KeepsOthers (side_of output) d f → SealEnds r user output content d f
+same_output : {T : Type 0} (r : Result T Fault) (user : List ℕ) (output : Name) (content : List ℕ) (d f : Disk) → IsErr r → KeepsOthers (side_of output) d f → SealEnds r user output content d f
 same_output (Ok v) user output content d f failed keeps = absurd (cc)
 same_output (Err x) user output content d f failed keeps = record { here = inl (keeps output (not_side output)); others = λ other ne side. keeps other side }
 
-faulted_swap : {T E : Type 0} (r : Result T E) (user nonce : List ℕ) (output : Name) (content : List ℕ) (d e f : Disk) → IsErr r → IsPath output → length nonce ≡ 32 → length content ≤ MOST_FIRST
+faulted_swap : {T : Type 0} (r : Result T Fault) (user nonce : List ℕ) (output : Name) (content : List ℕ) (d e f : Disk) → r ≡ Err faults.Host → IsPath output → length nonce ≡ 32 → length content ≤ MOST_FIRST
     → Keeps (node_of user nonce output content) (side_of output) d e → Swaps (side_of output) output e f ⊎ (f ≡ e)
     → SealEnds r user output content d f × ((image : Image) → IsImage f image → LeavesEither user output content d image)
 faulted_swap (Ok v) user nonce output content d e f failed path long small keeps swap = absurd (cc)
 faulted_swap (Err x) user nonce output content d e f failed path long small keeps (inl swaps) =
+    let is_host : x ≡ faults.Host = cc in
     let done = swapped_seals user nonce output content d e f path long small keeps swaps in
-    (record { here = inr done.0; others = done.1 }, swapped_left user nonce output content d e f path long small keeps swaps)
+    (record { here = inr (is_host, done.0); others = done.1 }, swapped_left user nonce output content d e f path long small keeps swaps)
 faulted_swap (Err x) user nonce output content d e f failed path long small keeps (inr same) =
     let kept : KeepsOthers (side_of output) d f = λ other ne. ap (λ (disk : Disk). disk other) same ∙ keeps.others other ne in
-    (same_output (Err x) user output content d f failed kept, either_left user output content d f kept)
+    (same_output (Err x) user output content d f refl kept, either_left user output content d f kept)
 
 -- what a publishing run has at its end, whatever stands before it
-abbrev Publishing : {T E : Type 0} → Result T E → List ℕ → Name → List ℕ → Name → Option Honest → Option Honest → Type 0
+abbrev Publishing : {T : Type 0} → Result T Fault → List ℕ → Name → List ℕ → Name → Option Honest → Option Honest → Type 0
 Publishing r user output content side o q = Both o q (Where (HasShort 4096 side) (Ran (LeavesEither user output content) (SealEnds r user output content)))
 
 -- a run in which the side file was written, and then synced
@@ -178,7 +181,7 @@ synced s user node output content o p q ok ran does =
     (λ d e f short holds change. let keeps = synced_keeps s (side_of output) node d e f ok holds change in (keeps.others, keeps))
 
 -- the write failed
-pub write_failed : {T E T2 E2 : Type 0} (r : Result T E) (w : Result T2 E2) (user node : List ℕ) (output : Name) (content : List ℕ) (side : Name) (o p : Option Honest) → IsErr r → side ≡ side_of output
+pub write_failed : {T T2 E2 : Type 0} (r : Result T Fault) (w : Result T2 E2) (user node : List ℕ) (output : Name) (content : List ℕ) (side : Name) (o p : Option Honest) → IsErr r → side ≡ side_of output
     → Both o p (Does (Changes side (Writes 0 node w))) → Publishing r user output content side o p
 write_failed r w user node output content side o p failed is =
     subst (λ (s : Name). Both o p (Does (Changes s (Writes 0 node w))) → Publishing r user output content s o p) (sym is)
@@ -187,7 +190,7 @@ write_failed r w user node output content side o p failed is =
     (λ d f short change. (change.others, same_output r user output content d f failed change.others))))
 
 -- the sync failed
-pub sync_failed : {T E T2 E2 T3 E3 : Type 0} (r : Result T E) (w : Result T2 E2) (s : Result T3 E3) (user node : List ℕ) (output : Name) (content : List ℕ) (side : Name) (o p q : Option Honest) → IsErr r → side ≡ side_of output
+pub sync_failed : {T T2 E2 T3 E3 : Type 0} (r : Result T Fault) (w : Result T2 E2) (s : Result T3 E3) (user node : List ℕ) (output : Name) (content : List ℕ) (side : Name) (o p q : Option Honest) → IsErr r → side ≡ side_of output
     → IsOk w → length node ≡ 4096 → Both o p (Does (Changes side (Writes 0 node w))) → Both p q (Does (Changes side (Syncs s))) → Publishing r user output content side o q
 sync_failed r w s user node output content side o p q failed is ok long =
     subst (λ (n : Name). Both o p (Does (Changes n (Writes 0 node w))) → Both p q (Does (Changes n (Syncs s))) → Publishing r user output content n o q) (sym is)
@@ -196,7 +199,7 @@ sync_failed r w s user node output content side o p q failed is ok long =
     (λ d e f short holds change. let keeps = others_then (side_of output) d e f holds.others change.others in (keeps, same_output r user output content d f failed keeps))))
 
 -- the swap, done or failed, after a write and a sync
-pub swapped : {T E T2 E2 T3 E3 : Type 0} (r : Result T E) (w : Result T2 E2) (s : Result T3 E3) (step : Disk → Disk → Type 0) (user nonce node : List ℕ) (output : Name) (content : List ℕ) (side : Name) (o p q t : Option Honest)
+pub swapped : {T T2 E2 T3 E3 : Type 0} (r : Result T Fault) (w : Result T2 E2) (s : Result T3 E3) (step : Disk → Disk → Type 0) (user nonce node : List ℕ) (output : Name) (content : List ℕ) (side : Name) (o p q t : Option Honest)
     → side ≡ side_of output → IsOk w → IsOk s → length node ≡ 4096 → node ≡ node_of user nonce output content
     → ((d e f : Disk) → Keeps (node_of user nonce output content) (side_of output) d e → step e f → SealEnds r user output content d f × ((image : Image) → IsImage f image → LeavesEither user output content d image))
     → Both o p (Does (Changes side (Writes 0 node w))) → Both p q (Does (Changes side (Syncs s))) → Both q t (Does step) → Publishing r user output content side o t
@@ -208,13 +211,13 @@ swapped r w s step user nonce node output content side o p q t is ok oks long no
     (goes_on _ _ _ step o q t ran swaps
     (λ d e f keeps step_is. (λ short. (go d e f (keeps short) step_is).0, λ image left short. (go d e f (keeps short) step_is).1 image left))))
 
-pub swap_failed : {T E : Type 0} (r : Result T E) (user nonce : List ℕ) (output : Name) (content : List ℕ) (side : Name) → side ≡ side_of output → IsErr r → IsPath output → length nonce ≡ 32 → length content ≤ MOST_FIRST
+pub swap_failed : {T : Type 0} (r : Result T Fault) (user nonce : List ℕ) (output : Name) (content : List ℕ) (side : Name) → side ≡ side_of output → r ≡ Err faults.Host → IsPath output → length nonce ≡ 32 → length content ≤ MOST_FIRST
     → (d e f : Disk) → Keeps (node_of user nonce output content) (side_of output) d e → Swaps side output e f ⊎ (f ≡ e)
     → SealEnds r user output content d f × ((image : Image) → IsImage f image → LeavesEither user output content d image)
 swap_failed r user nonce output content side is failed path long small d e f keeps swap =
     faulted_swap r user nonce output content d e f failed path long small keeps (subst (λ (n : Name). Swaps n output e f ⊎ (f ≡ e)) is swap)
 
-pub swap_done : {T E : Type 0} (r : Result T E) (user nonce : List ℕ) (output : Name) (content : List ℕ) (side : Name) → side ≡ side_of output → IsOk r → IsPath output → length nonce ≡ 32 → length content ≤ MOST_FIRST
+pub swap_done : {T : Type 0} (r : Result T Fault) (user nonce : List ℕ) (output : Name) (content : List ℕ) (side : Name) → side ≡ side_of output → IsOk r → IsPath output → length nonce ≡ 32 → length content ≤ MOST_FIRST
     → (d e f : Disk) → Keeps (node_of user nonce output content) (side_of output) d e → Swaps side output e f
     → SealEnds r user output content d f × ((image : Image) → IsImage f image → LeavesEither user output content d image)
 swap_done (Err x) user nonce output content side is ok path long small d e f keeps swap = absurd (cc)

@@ -12,6 +12,7 @@ use Rattle.pf_io.proofs.Telling.{both_weaker}
 use Rattle.pf_tool.specs.Sheet.{StandsFor}
 use Rattle.pf_tool.specs.Crash.{HasShort, Begun, LeavesOthers, LeavesEither, IsSealed, SealEnds, content_on, LeavesSealed, InputEnds}
 use Rattle.pf_tool.specs.Encrypting.{side_of}
+use Rattle.pf_tool.specs.declared.fault.Fault.{Fault}
 use Rattle.pf_tool.proofs.SealDisk.{not_side, either_left}
 
 -- what is known of the files at the end of a run
@@ -31,7 +32,7 @@ pub same_input : (input output : Name) (d e : Disk) → input ≢ side_of output
 same_input input output d e ne keeps = ap (λ (o : Option File). contents (read_of o)) (keeps input ne)
 
 -- a run that ended before anything was changed but the side file
-pub ended_early : {T E : Type 0} (r : Result T E) (user : List ℕ) (input output : Name) (d e : Disk) → IsErr r → KeepsOthers (side_of output) d e → InputEnds r user input output d e
+pub ended_early : {T : Type 0} (r : Result T Fault) (user : List ℕ) (input output : Name) (d e : Disk) → IsErr r → KeepsOthers (side_of output) d e → InputEnds r user input output d e
 ended_early (Ok v) user input output d e failed keeps = absurd (cc)
 ended_early (Err x) user input output d e failed keeps = record { here = inl (keeps output (not_side output)); others = λ other ne side. keeps other side }
 
@@ -42,13 +43,13 @@ either_back user output content content2 d e image same keeps left = record {
   others = λ other ne side. subst (λ (o : Option File). IsImageAt o (image other)) (keeps other side) (left.others other ne side);
 }
 
-pub seal_back : {T E : Type 0} (r : Result T E) (user : List ℕ) (output : Name) (content content2 : List ℕ) (d e f : Disk) → content ≡ content2 → KeepsOthers (side_of output) d e → SealEnds r user output content e f → SealEnds r user output content2 d f
+pub seal_back : {T : Type 0} (r : Result T Fault) (user : List ℕ) (output : Name) (content content2 : List ℕ) (d e f : Disk) → content ≡ content2 → KeepsOthers (side_of output) d e → SealEnds r user output content e f → SealEnds r user output content2 d f
 seal_back (Ok v) user output content content2 d e f same keeps ends = record {
   here = subst (λ (c : List ℕ). IsSealed user output c (f output)) same ends.here;
   others = λ other ne side. ends.others other ne side ∙ keeps other side;
 }
 seal_back (Err x) user output content content2 d e f same keeps ends = record {
-  here = ⊎_elim (λ before. inl (before ∙ keeps output (not_side output))) (λ sealed. inr (subst (λ (c : List ℕ). IsSealed user output c (f output)) same sealed)) ends.here;
+  here = ⊎_elim (λ before. inl (before ∙ keeps output (not_side output))) (λ both. inr (both.0, subst (λ (c : List ℕ). IsSealed user output c (f output)) same both.1)) ends.here;
   others = λ other ne side. ends.others other ne side ∙ keeps other side;
 }
 
@@ -94,14 +95,14 @@ reading_on Q user input output o p q kept first does =
     (there, λ image is. either_left user output (content_on d input) d f (kept d f there) image is))
 
 -- a run that ends in a fault or a refusal while only the side file has changed
-pub ending_early : {T E : Type 0} (r : Result T E) (Q : Disk → Disk → Type 0) (user : List ℕ) (input output : Name) (o p : Option Honest) → IsErr r → ((d e : Disk) → Q d e → KeepsOthers (side_of output) d e)
+pub ending_early : {T : Type 0} (r : Result T Fault) (Q : Disk → Disk → Type 0) (user : List ℕ) (input output : Name) (o p : Option Honest) → IsErr r → ((d e : Disk) → Q d e → KeepsOthers (side_of output) d e)
     → Beginning Q user input output o p → Beginning (InputEnds r user input output) user input output o p
 ending_early r Q user input output o p failed kept ran =
     both_weaker (Ran (LeavesSealed user input output) Q) (Ran (LeavesSealed user input output) (InputEnds r user input output)) o p ran
     (λ a b run. record { leaves = run.leaves; ends = ended_early r user input output a.now b.now failed (kept a.now b.now run.ends) })
 
 -- the publishing of what was read
-pub publishing : {T E : Type 0} (r : Result T E) (user : List ℕ) (input output side : Name) (content : List ℕ) (o p q : Option Honest) → side ≡ side_of output
+pub publishing : {T : Type 0} (r : Result T Fault) (user : List ℕ) (input output side : Name) (content : List ℕ) (o p q : Option Honest) → side ≡ side_of output
     → Beginning (λ d e. Begun 4096 (side_of output) d e × (content ≡ content_on d input)) user input output o p
     → Both p q (Where (HasShort 4096 side) (Ran (LeavesEither user output content) (SealEnds r user output content))) → Beginning (InputEnds r user input output) user input output o q
 publishing r user input output side content (Some a) (Some b) (Some c) is ran next =

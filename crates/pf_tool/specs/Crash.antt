@@ -6,6 +6,8 @@ use Rattle.pf_io.specs.Moments.{Ran}
 use Rattle.pf_io.specs.Steps.{KeepsOthers}
 use Rattle.pf_tool.specs.Encrypting.{side_of}
 use Rattle.pf_tool.specs.Sheet.{StandsFor}
+use Rattle.pf_tool.specs.declared.fault.Fault.{Fault}
+use Rattle.pf_tool.specs.declared.fault.Fault.TheVariants as faults
 
 -- a crash leaves every name but one as before
 abbrev pub LeavesOthers : Name → Disk → Image → Type 0
@@ -39,12 +41,12 @@ pub record IsSealed (user : List ℕ) (output : Name) (content : List ℕ) (here
   pub settled : IsSettledFile file
   pub stands : StandsFor user output content (Some file.bytes)
 
--- how the sealing ends: done, or with the output as before or done
-abbrev pub OutputEnds : {T E : Type 0} → Result T E → List ℕ → Name → List ℕ → Disk → Disk → Type 0
+-- how the sealing ends: done, or with the output as before, or done where the host failed in the last call
+abbrev pub OutputEnds : {T : Type 0} → Result T Fault → List ℕ → Name → List ℕ → Disk → Disk → Type 0
 OutputEnds (Ok value) user output content old new = IsSealed user output content (new output)
-OutputEnds (Err fault) user output content old new = (new output ≡ old output) ⊎ IsSealed user output content (new output)
+OutputEnds (Err fault) user output content old new = (new output ≡ old output) ⊎ ((fault ≡ faults.Host) × IsSealed user output content (new output))
 
-pub record SealEnds {T E : Type 0} (result : Result T E) (user : List ℕ) (output : Name) (content : List ℕ) (old new : Disk) : Type 0 where
+pub record SealEnds {T : Type 0} (result : Result T Fault) (user : List ℕ) (output : Name) (content : List ℕ) (old new : Disk) : Type 0 where
   pub here : OutputEnds result user output content old new
   pub others : (other : Name) → other ≢ output → other ≢ side_of output → new other ≡ old other
 
@@ -63,12 +65,12 @@ content_on disk input = contents (reading disk input)
 abbrev pub LeavesSealed : List ℕ → Name → Name → Disk → Image → Type 0
 LeavesSealed user input output disk image = LeavesEither user output (content_on disk input) disk image
 
-abbrev pub InputEnds : {T E : Type 0} → Result T E → List ℕ → Name → Name → Disk → Disk → Type 0
+abbrev pub InputEnds : {T : Type 0} → Result T Fault → List ℕ → Name → Name → Disk → Disk → Type 0
 InputEnds result user input output old new = SealEnds result user output (content_on old input) old new
 
 -- `encrypt` at every moment, and in the end, on the disk before it
 abbrev pub LeavesEncrypted : Name → Name → Name → Disk → Image → Type 0
 LeavesEncrypted key input output disk image = LeavesEither (user_on disk key) output (content_on disk input) disk image
 
-abbrev pub EncryptEnds : {T E : Type 0} → Result T E → Name → Name → Name → Disk → Disk → Type 0
+abbrev pub EncryptEnds : {T : Type 0} → Result T Fault → Name → Name → Name → Disk → Disk → Type 0
 EncryptEnds result key input output old new = SealEnds result (user_on old key) output (content_on old input) old new

@@ -37,10 +37,11 @@ pub record HonestEncrypt (key input output : Name) (files : Files) (log said : S
   pub comes : ((ending : Ending) × EncryptEnding key input output files ending × (status ≡ ending_status ending) × Wrote (ending_line ending) log said)
       ⊎ ((status ≡ 5) × Wrote memory_line log said)
 
--- What the run leaves of the disk: at status 0 the output stands for the input's content under the key, and else it is as
--- before, or so. Every other name but the side file's is as before.
+-- What the run leaves of the disk: at status 0 the output stands for the input's content under the key; where the run was
+-- refused or had no random words it is as before, and else it is either. Every other name but the side file's is as before.
 pub record EncryptLeft (status : ℕ) (key input output : Name) (old new : Disk) : Type 0 where
   pub done : status ≡ 0 → IsSealed (user_on old key) output (content_on old input) (new output)
+  pub refused : (status ≡ 3) ⊎ (status ≡ 6) → new output ≡ old output
   pub failed : (new output ≡ old output) ⊎ IsSealed (user_on old key) output (content_on old input) (new output)
   pub others : (other : Name) → other ≢ output → other ≢ side_of output → new other ≡ old other
 

@@ -1,8 +1,10 @@
-use Rattle.std.proofs.Common.{◌≡◌, ℕ, List, [], ◌∷◌, length, refl, subst, rules, IsErr}
+use Rattle.std.proofs.Common.{◌≡◌, ℕ, List, [], ◌∷◌, length, refl, subst, rules, IsErr, ◌∙◌, ap, Err}
 use Rattle.std.proofs.lemmas.Result.{err_from_is_err_and}
 use Rattle.pf_io.specs.Host.{Both, IsMore, Wrote, Synced, Swapped}
 use Rattle.pf_io.proofs.Telling.{told_on}
 use Rattle.pf_tool.specs.Encrypting.{published_answers}
+use Rattle.pf_tool.specs.declared.fault.Fault.{Fault}
+use Rattle.pf_tool.specs.declared.fault.Fault.TheVariants as faults
 use Rattle.pf_tool.proofs.SealDisk.{write_failed, sync_failed, swapped, swap_failed, swap_done}
 use Rattle.pf_tool.proofs.side_file.publish.Goals as goal
 
@@ -22,11 +24,11 @@ returns-in_err-sync-clause-disk g c =
 pub returns-in_err-swap_name-clause-disk : goal.returns-in_err-swap_name-clause-disk
 returns-in_err-swap_name-clause-disk g c =
     let p = err_from_is_err_and c.from_residual-in_err-swap_name.result c.from_residual-in_err-swap_name.ensures.1 in
-    let failed : IsErr c.from_residual-in_err-swap_name.result = rw p.1 refl in
+    let host_failed : c.from_residual-in_err-swap_name.result ≡ Err faults.Host = p.1 ∙ ap (λ (f : Fault). Err f) p.2 in
     let long : length c.make_node-node.result ≡ 4096 = search rules in
     let drawn = c.in_ok-nonce.ensures.drawn in
     swapped c.from_residual-in_err-swap_name.result _ _ _ c.args.user.now c.in_ok-nonce.nonce c.make_node-node.result c.args.output.now c.args.content.now c.args.side.now _ _ _ _ c.requires.side refl refl long c.make_node-node.ensures
-    (swap_failed c.from_residual-in_err-swap_name.result c.args.user.now c.in_ok-nonce.nonce c.args.output.now c.args.content.now c.args.side.now c.requires.side failed c.requires.path drawn.long c.requires.small)
+    (swap_failed c.from_residual-in_err-swap_name.result c.args.user.now c.in_ok-nonce.nonce c.args.output.now c.args.content.now c.args.side.now c.requires.side host_failed c.requires.path drawn.long c.requires.small)
     c.in_ok-write_at.ensures.disk c.in_ok-sync.ensures.disk c.in_err-swap_name.ensures.disk
 
 pub returns-clause-disk : goal.returns-clause-disk
