@@ -19,7 +19,7 @@ pub trait Host {
         ensures honest { IfOk result (λ length. OnHonest (state self.old) (λ files. length ≡ length_of (files name.now))) };
 
     /// Reads from the byte at `at` on, as far as the room of `to` and the file reach, and answers how many bytes.
-    /// It is 0 past the end, and where the name is absent.
+    /// It is 0 past the end, and where the name is absent. After a fault the bytes of `to` may be any.
     fn read_at(&mut self, name: &str, at: u64, to: &mut [u8]) -> Result<usize, HostFault>
         ensures rest { IfOk result (λ n. KeepsRest n to.old to.new) }
         ensures cause { HasCause (state self.old).faults (state self.new).faults result }

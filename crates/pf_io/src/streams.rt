@@ -12,7 +12,7 @@ pub trait Source {
     ghost state: { Self → SourceState };
 
     /// Reads into the front of `to`, and answers how many bytes. The answer 0, for room that is not empty, says that
-    /// the stream has ended.
+    /// the stream has ended. After a fault the bytes of `to` may be any.
     fn read(&mut self, to: &mut [u8]) -> Result<usize, StreamFault>
         ensures rest { IfOk result (λ n. KeepsRest n to.old to.new) }
         ensures cause { HasCause (state self.old).faults (state self.new).faults result }
