@@ -12,5 +12,5 @@ made_same make a b c d e f g h i j p q r s t = cc
 pub returns-clause-one_secret : goal.returns-clause-one_secret
 returns-clause-one_secret c text secret other h k =
     let same = fields_same text secret.path secret.size secret.root_key secret.root_tag secret.first other.path other.size other.root_key other.root_tag other.first h k in
-    let make : List ℕ → ℕ → List ℕ → List ℕ → List ℕ → MetaSecret = λ path size root_key root_tag first. record { path = path; size = size; root_key = root_key; root_tag = root_tag; first = first; } in
+    let make : List ℕ → ℕ → List ℕ → List ℕ → List ℕ → MetaSecret = λ path size root_key root_tag first. record { path = path; size = size; root_key = root_key; root_tag = root_tag; first = first } in
     made_same make secret.path secret.size secret.root_key secret.root_tag secret.first other.path other.size other.root_key other.root_tag other.first same.0 same.1 same.2 same.3 same.4

@@ -1,4 +1,4 @@
-use Rattle.std.proofs.Common.{◌≡◌, ap, arith, length, List, ℕ, subst, sym, ◌∙◌}
+use Rattle.std.proofs.Common.{◌≡◌, ap, arith, List, ℕ, subst, sym, ◌∙◌}
 use Rattle.node_layout.specs.Metadata.{IsPlain, meta_block, meta_opens}
 use Rattle.node_layout.proofs.Blocks.{IsPlain-meta_block, meta_opens-meta_block}
 use Rattle.node_layout.proofs.sealing.seal_meta.Goals as goal
