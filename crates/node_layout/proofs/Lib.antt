@@ -1,2 +1,6 @@
 pub mod Fields
 pub mod Texts
+pub mod Lengths
+pub mod Blocks
+pub mod Rows
+pub mod Secrets

@@ -1,16 +1,15 @@
 -- The text of an encrypted part, by its places.
-use Rattle.std.proofs.Common.{◌≡◌, ℕ, ◌+◌, ◌-◌, ◌<◌, ◌≤◌, List, ◌++◌, length, get_or, take, drop, replicate, refl, sym, ap, ◌∙◌, arith, append_assoc, w64, ⊎_elim}
+use Rattle.std.proofs.Common.{◌≡◌, ℕ, ◌+◌, ◌-◌, ◌<◌, ◌≤◌, ◌==◌, List, [], ◌++◌, length, get_or, take, drop, replicate, refl, sym, ap, ◌∙◌, arith, append_assoc, w64, ⊎_elim}
 use Rattle.std.proofs.lemmas.Bool.{cases_lt}
 use Rattle.std.specs.Int.{to_le_bytes, from_le_bytes}
 use Rattle.std.proofs.Math.Seq.{take-add}
-use Rattle.std.proofs.lemmas.List.{length-append, length-replicate, length-take-le, length-take, length-drop, get_or-take, get_or-drop, get_or_past, take_at, drop_at, take_all}
+use Rattle.std.proofs.lemmas.List.{append-nil, length-append, length-replicate, length-take, get_or-take, get_or-drop, get_or_past, take_all}
 use Rattle.std.proofs.lemmas.Nat.{from_le_bytes-to_le_bytes_8}
 use Rattle.node_layout.specs.Metadata.{IsPath, path_field, IsMetaText}
 use Rattle.node_layout.specs.Faults.{size_at}
-
--- the length of a piece within a list
-length-piece : {X : Type 0} (a n : ℕ) (xs : List X) → a + n ≤ length xs → length (take n (drop a xs)) ≡ n
-length-piece a n xs le = length-take-le n (drop a xs) (omega (arith, length-drop a xs))
+use Rattle.node_layout.proofs.Fields.{before_first-path_field}
+use Rattle.node_layout.proofs.Rows.{length-piece, piece_at}
+use Rattle.std.specs.List.{before_first}
 
 -- a piece of bytes has bytes
 pub piece-fits : (a n : ℕ) (xs : List ℕ) → ((i : ℕ) → get_or xs i 0 < 256) → (i : ℕ) → get_or (take n (drop a xs)) i 0 < 256
@@ -46,24 +45,46 @@ IsMetaText-from_fields part path size l is field number le = record {
 pub length-path_field : (path : List ℕ) → IsPath path → length (path_field path) ≡ 768
 length-path_field path h = let long = h.not_long in omega (arith, length-append path (replicate (768 - length path) 0), length-replicate {A = ℕ} (768 - length path) 0)
 
--- the first of five pieces, and the second
-first_piece : {X : Type 0} (n : ℕ) (xs a b c d e : List X) → length a ≡ n → xs ≡ a ++ b ++ c ++ d ++ e → take n xs ≡ a
-first_piece n xs a b c d e l is =
-    let flat : a ++ b ++ c ++ d ++ e ≡ a ++ (b ++ (c ++ (d ++ e))) = simp append_assoc in
-    ap (take n) (is ∙ flat) ∙ take_at a _ n l
-
-second_piece : {X : Type 0} (n m : ℕ) (xs a b c d e : List X) → length a ≡ n → length b ≡ m → xs ≡ a ++ b ++ c ++ d ++ e → take m (drop n xs) ≡ b
-second_piece n m xs a b c d e l k is =
-    let flat : a ++ b ++ c ++ d ++ e ≡ a ++ (b ++ (c ++ (d ++ e))) = simp append_assoc in
-    ap (λ t. take m (drop n t)) (is ∙ flat) ∙ (ap (take m) (drop_at a _ n l) ∙ take_at b _ m k)
-
 -- the field of the path in a text
 pub path-from_text : (part path : List ℕ) (size : ℕ) (root_key root_tag first : List ℕ) → IsMetaText part path size root_key root_tag first → take 768 part ≡ path_field path
 path-from_text part path size root_key root_tag first h =
-    first_piece 768 part (path_field path) (to_le_bytes w64 size) root_key root_tag first (length-path_field path h.path_is) h.text_is
+    piece_at 0 768 part [] (path_field path) (to_le_bytes w64 size ++ (root_key ++ (root_tag ++ first))) (h.text_is ∙ simp append_assoc) refl (length-path_field path h.path_is)
 
 -- the number in the field of the size in a text
 pub size-from_text : (part path : List ℕ) (size : ℕ) (root_key root_tag first : List ℕ) → IsMetaText part path size root_key root_tag first → size_at part ≡ size
 size-from_text part path size root_key root_tag first h =
     let le = h.not_large in
-    ap (from_le_bytes w64) (second_piece 768 8 part (path_field path) (to_le_bytes w64 size) root_key root_tag first (length-path_field path h.path_is) refl h.text_is) ∙ from_le_bytes-to_le_bytes_8 size (omega arith)
+    ap (from_le_bytes w64) (piece_at 768 8 part (path_field path) (to_le_bytes w64 size) (root_key ++ (root_tag ++ first)) (h.text_is ∙ simp append_assoc) (length-path_field path h.path_is) refl) ∙ from_le_bytes-to_le_bytes_8 size (omega arith)
+
+-- the key and the tag of the root and the first bytes in a text
+key-from_text : (part path : List ℕ) (size : ℕ) (root_key root_tag first : List ℕ) → IsMetaText part path size root_key root_tag first → take 16 (drop 776 part) ≡ root_key
+key-from_text part path size root_key root_tag first h =
+    let l = length-path_field path h.path_is in
+    let before = path_field path ++ to_le_bytes w64 size in
+    piece_at 776 16 part before root_key (root_tag ++ first) (h.text_is ∙ simp append_assoc) (omega (arith, length-append (path_field path) (to_le_bytes w64 size))) h.root_key_length
+
+tag-from_text : (part path : List ℕ) (size : ℕ) (root_key root_tag first : List ℕ) → IsMetaText part path size root_key root_tag first → take 16 (drop 792 part) ≡ root_tag
+tag-from_text part path size root_key root_tag first h =
+    let l = length-path_field path h.path_is in
+    let k = h.root_key_length in
+    let before = path_field path ++ to_le_bytes w64 size ++ root_key in
+    piece_at 792 16 part before root_tag first (h.text_is ∙ simp append_assoc) (omega (arith, length-append (path_field path ++ to_le_bytes w64 size) root_key, length-append (path_field path) (to_le_bytes w64 size))) h.root_tag_length
+
+first-from_text : (part path : List ℕ) (size : ℕ) (root_key root_tag first : List ℕ) → IsMetaText part path size root_key root_tag first → take 3072 (drop 808 part) ≡ first
+first-from_text part path size root_key root_tag first h =
+    let l = length-path_field path h.path_is in
+    let k = h.root_key_length in
+    let t = h.root_tag_length in
+    let before = path_field path ++ to_le_bytes w64 size ++ root_key ++ root_tag in
+    piece_at 808 3072 part before first [] (h.text_is ∙ sym (ap (λ t. before ++ t) (append-nil first))) (omega (arith, length-append (path_field path ++ to_le_bytes w64 size ++ root_key) root_tag, length-append (path_field path ++ to_le_bytes w64 size) root_key, length-append (path_field path) (to_le_bytes w64 size))) h.first_length
+
+-- a text is one of no other fields
+pub fields_same : (text path : List ℕ) (size : ℕ) (root_key root_tag first other_path : List ℕ) (other_size : ℕ) (other_key other_tag other_first : List ℕ) → IsMetaText text path size root_key root_tag first → IsMetaText text other_path other_size other_key other_tag other_first → (path ≡ other_path) × (size ≡ other_size) × (root_key ≡ other_key) × (root_tag ≡ other_tag) × (first ≡ other_first)
+fields_same text path size root_key root_tag first other_path other_size other_key other_tag other_first h other =
+    let field : path_field path ≡ path_field other_path = sym (path-from_text text path size root_key root_tag first h) ∙ path-from_text text other_path other_size other_key other_tag other_first other in (
+      sym (before_first-path_field path h.path_is) ∙ (ap (before_first (λ b. b == 0)) field ∙ before_first-path_field other_path other.path_is),
+      sym (size-from_text text path size root_key root_tag first h) ∙ size-from_text text other_path other_size other_key other_tag other_first other,
+      sym (key-from_text text path size root_key root_tag first h) ∙ key-from_text text other_path other_size other_key other_tag other_first other,
+      sym (tag-from_text text path size root_key root_tag first h) ∙ tag-from_text text other_path other_size other_key other_tag other_first other,
+      sym (first-from_text text path size root_key root_tag first h) ∙ first-from_text text other_path other_size other_key other_tag other_first other,
+    )

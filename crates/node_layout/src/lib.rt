@@ -3,13 +3,17 @@
 
 mod bytes;
 mod damage;
+mod laws;
 mod metadata;
 mod opening;
 mod path;
+mod sealing;
 #[cfg(test)]
 mod tests;
 
 pub use damage::{Damage, Kind};
+pub use laws::{sealed_meta_opens, text_gives_its_fields};
 pub use metadata::{MetaPlain, MetaSecret, PlainFault, SecretFault};
 pub use opening::open_meta;
 pub use path::PathText;
+pub use sealing::seal_meta;

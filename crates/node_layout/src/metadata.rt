@@ -1,13 +1,13 @@
 // The metadata node: what stands in the open, and the text of its encrypted part.
-ghost use Rattle.std.specs.Prelude.{◌≡◌, ◌↔◌, IsOk, IfOk, IfErr};
-ghost use Rattle.node_layout.specs.Metadata.{IsPlain, nonce_at, tag_at, flag_at, IsMetaText};
+ghost use Rattle.std.specs.Prelude.{◌≡◌, ◌↔◌, ◌≤◌, IsOk, IfOk, IfErr};
+ghost use Rattle.node_layout.specs.Metadata.{IsPlain, nonce_at, tag_at, flag_at, meta_text, IsMetaText, MOST_SIZE};
 ghost use Rattle.node_layout.specs.Faults.{IsPlainFault, IsSecretFault, IsSomeMetaText};
 
-use crate::bytes::array_at;
+use crate::bytes::{array_at, put_array};
 use crate::path::PathText;
 
 // The bytes that a protected file begins with.
-const MAGIC: [u8; 8] = *b"GRPFTOOL";
+pub(crate) const MAGIC: [u8; 8] = *b"GRPFTOOL";
 
 // The most bytes that a protected file's content may have.
 const MAX_SIZE: u64 = 1 << 32;
@@ -108,5 +108,18 @@ impl MetaSecret {
             root_tag: array_at(part, 792),
             first: array_at(part, 808),
         })
+    }
+    /// Writes the text of the encrypted part, all of its bytes.
+    ///
+    /// `MetaSecret::read` gives the same fields again, where the size is at most 2^32.
+    pub fn write(&self, part: &mut [u8; 3880])
+        ensures text { part.new ≡ meta_text self.now.path self.now.size self.now.root_key self.now.root_tag self.now.first }
+        ensures read_again { self.now.size ≤ MOST_SIZE → IsMetaText part.new self.now.path self.now.size self.now.root_key self.now.root_tag self.now.first }
+    {
+        put_array(part, 0, self.path.field());
+        put_array(part, 768, &self.size.to_le_bytes());
+        put_array(part, 776, &self.root_key);
+        put_array(part, 792, &self.root_tag);
+        put_array(part, 808, &self.first);
     }
 }

@@ -64,6 +64,14 @@ impl PathText {
         }
     }
 
+    // The path in its 768 bytes.
+    pub(crate) fn field(&self) -> &[u8; 768]
+        ensures padded { result.now ≡ path_field self.now }
+        ensures is_path { IsPath self.now }
+    {
+        &self.field
+    }
+
     // The path that this field holds. `None` where it holds none.
     pub(crate) fn from_field(field: &[u8; 768]) -> Option<PathText>
         ensures is_field { IsSome result ↔ IsPathField field.now }
