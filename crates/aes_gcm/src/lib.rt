@@ -6,6 +6,7 @@ mod counter;
 mod gcm;
 mod ghash;
 mod sbox;
+mod tower;
 mod vectors;
 
 pub use block::{Key, encrypt_block};
