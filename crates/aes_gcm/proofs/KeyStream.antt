@@ -28,12 +28,12 @@ block_added key old text pad new n i m before place next room long is e =
     let fits : n + length sum ≤ length text = omega (arith, before.same_length) in
     let here : (j : ℕ) → j < 16 → get_or (put_chunk n text sum) (n + j) 0 ≡ bit_xor (get_or old (n + j) 0) (key_stream_byte key (n + j)) =
     λ j h.
-        let block : (n + j) / 16 ≡ i = omega arith in
-        let within : (n + j) % 16 ≡ j = omega arith in
-        get_or-put_chunk_at n text sum j 0 (omega arith) fits
-        ∙ get_or-zip2 bit_xor (chunk n 16 text) pad j 0 0 0 (omega arith) (omega arith)
-        ∙ ap₂ bit_xor (get_or-chunk n 16 text j 0 h ∙ before.not_yet (n + j) (omega arith))
-        (ap (λ p. get_or p j 0) is ∙ sym (ap₂ (λ b m. get_or (cipher key (counter_block (2 + b))) m 0) block within)) in
+    let block : (n + j) / 16 ≡ i = omega arith in
+    let within : (n + j) % 16 ≡ j = omega arith in
+    get_or-put_chunk_at n text sum j 0 (omega arith) fits
+    ∙ get_or-zip2 bit_xor (chunk n 16 text) pad j 0 0 0 (omega arith) (omega arith)
+    ∙ ap₂ bit_xor (get_or-chunk n 16 text j 0 h ∙ before.not_yet (n + j) (omega arith))
+    (ap (λ p. get_or p j 0) is ∙ sym (ap₂ (λ b m. get_or (cipher key (counter_block (2 + b))) m 0) block within)) in
     record {
       same_length = ap length e ∙ length-put_chunk n text sum ∙ before.same_length;
       added = λ k h. elim (cases_lt k n) [

@@ -6,9 +6,9 @@ use Rattle.std.proofs.lemmas.Simd.{map-map}
 use Rattle.std.specs.List.{range_with_len}
 use lib.Lanes.{zip2}
 use Rattle.aes_gcm.specs.Field.{times, sub_byte}
-use Rattle.aes_gcm.specs.Cipher.{after_round, below, cipher, mix_columns, mixed, round_key, shift_rows, sub_bytes, xor_bytes}
+use Rattle.aes_gcm.specs.Cipher.{below, mix_columns, mixed, shift_rows, sub_bytes, xor_bytes}
 use Rattle.aes_gcm.specs.Tower.{absorbed, standard, sub_linear}
-use Rattle.aes_gcm.specs.KeptKey.{KeptKeys, shifted_and_mixed}
+use Rattle.aes_gcm.specs.KeptKey.{shifted_and_mixed}
 use Rattle.aes_gcm.proofs.Lanes.{map_same}
 use Rattle.aes_gcm.proofs.TowerSums.{last_byte, mixed_byte, standard-xor, xor_cancel}
 
@@ -55,13 +55,13 @@ round_is xs once twice all key e eo et o t is =
     ap (λ a. map standard (xor_bytes a key)) is
     ∙ places standard absorbed _ (mixed (shift_rows (sub_bytes s))) 0 16 key
     (λ i k h.
-        mixed_byte (below (shift_rows s) i 0) (below (shift_rows s) i 1) (below (shift_rows s) i 2) (below (shift_rows s) i 3)
-        (below (shift_rows twice) i 0) (below (shift_rows once) i 1) (below (shift_rows twice) i 1) (below (shift_rows once) i 2) (below (shift_rows once) i 3) k
-        (below-standard (λ b. times 2 (sub_linear b)) twice s i 0 et long h twofold) (below-standard sub_linear once s i 1 eo long h o)
-        (below-standard (λ b. times 2 (sub_linear b)) twice s i 1 et long h twofold)
-        (below-standard sub_linear once s i 2 eo long h o) (below-standard sub_linear once s i 3 eo long h o)
-        ∙ ap (λ m. bit_xor m (absorbed k)) (sym (ap₂ bit_xor (ap₂ bit_xor (ap (times 2) (below-map sub_byte s i 0 long h)) (ap (times 3) (below-map sub_byte s i 1 long h)))
-        (ap₂ bit_xor (below-map sub_byte s i 2 long h) (below-map sub_byte s i 3 long h)))))
+    mixed_byte (below (shift_rows s) i 0) (below (shift_rows s) i 1) (below (shift_rows s) i 2) (below (shift_rows s) i 3)
+    (below (shift_rows twice) i 0) (below (shift_rows once) i 1) (below (shift_rows twice) i 1) (below (shift_rows once) i 2) (below (shift_rows once) i 3) k
+    (below-standard (λ b. times 2 (sub_linear b)) twice s i 0 et long h twofold) (below-standard sub_linear once s i 1 eo long h o)
+    (below-standard (λ b. times 2 (sub_linear b)) twice s i 1 et long h twofold)
+    (below-standard sub_linear once s i 2 eo long h o) (below-standard sub_linear once s i 3 eo long h o)
+    ∙ ap (λ m. bit_xor m (absorbed k)) (sym (ap₂ bit_xor (ap₂ bit_xor (ap (times 2) (below-map sub_byte s i 0 long h)) (ap (times 3) (below-map sub_byte s i 1 long h)))
+    (ap₂ bit_xor (below-map sub_byte s i 2 long h) (below-map sub_byte s i 3 long h)))))
 
 pub last_is : (s shifted key : List ℕ) → length s ≡ 16 → shifted ≡ shift_rows (map sub_linear s)
     → xor_bytes shifted key ≡ xor_bytes (shift_rows (sub_bytes s)) (map (bit_xor 99) key)
@@ -70,6 +70,6 @@ last_is s shifted key e is =
     ∙ sym (map_same (xor_bytes (shift_rows (map sub_linear s)) key))
     ∙ places (λ b. b) (bit_xor 99) (λ k. get_or (map sub_linear s) ((k + 4 * (k % 4)) % 16) 0) (λ k. get_or (map sub_byte s) ((k + 4 * (k % 4)) % 16) 0) 0 16 key
     (λ i k h.
-        let m : ℕ = (i + 4 * (i % 4)) % 16 in
-        ap (λ b. bit_xor b k) (get_or-map sub_linear s m 0 0 (omega arith)) ∙ last_byte (get_or s m 0) k
-        ∙ ap (λ b. bit_xor b (bit_xor 99 k)) (sym (get_or-map sub_byte s m 0 0 (omega arith))))
+    let m : ℕ = (i + 4 * (i % 4)) % 16 in
+    ap (λ b. bit_xor b k) (get_or-map sub_linear s m 0 0 (omega arith)) ∙ last_byte (get_or s m 0) k
+    ∙ ap (λ b. bit_xor b (bit_xor 99 k)) (sym (get_or-map sub_byte s m 0 0 (omega arith))))

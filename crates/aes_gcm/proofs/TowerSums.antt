@@ -1,5 +1,5 @@
 -- Sums of bytes in the tower basis, and a round of the cipher byte by byte.
-use Rattle.std.proofs.Common.{◌≡◌, ℕ, ◌+◌, ◌/◌, ◌%◌, ◌<◌, ◌≤◌, ap, ap₂, ◌∙◌, sym, arith, refl, bit_xor, List, [], ◌∷◌}
+use Rattle.std.proofs.Common.{◌≡◌, ℕ, ◌+◌, ◌/◌, ◌%◌, ◌<◌, ap, ap₂, ◌∙◌, sym, arith, refl, bit_xor, List, [], ◌∷◌}
 use Rattle.std.specs.Int.Bits.{xor_zero_l, xor_self, xor_assoc, xor_shr}
 use Rattle.std.proofs.lemmas.Nat.{xor_comm}
 use Rattle.std.proofs.lemmas.Nat.Bits.{bit_at_lowest, bit_at_xor}

@@ -1,11 +1,11 @@
 -- The tables of the tower basis, each checked by computing it at every byte.
-use Rattle.std.proofs.Common.{◌≡◌, ℕ, ◌<◌, refl, ap, ◌∙◌, sym, List, map, bit_xor}
+use Rattle.std.proofs.Common.{◌≡◌, ℕ, ◌<◌, refl, ap, ◌∙◌, List, map, bit_xor}
 use Rattle.std.proofs.lemmas.Simd.{zip2_of_maps}
 use lib.Lanes.{zip2}
 use Rattle.std.specs.List.{range_with_len}
 use Rattle.aes_gcm.specs.Field.{sub_byte, affine, inverse, power, times}
 use Rattle.aes_gcm.specs.Tower.{entry, low_nibble, high_nibble, first_index, second_index, standard, sub_linear}
-use Rattle.aes_gcm.specs.declared.tower.TheConstants.{INVERSE, SCALED, IN_LOW, IN_HIGH, ONCE_FIRST, ONCE_SECOND, TWICE_FIRST, TWICE_SECOND, OUT_FIRST, OUT_SECOND}
+use Rattle.aes_gcm.specs.declared.tower.TheConstants.{IN_LOW, IN_HIGH, ONCE_FIRST, ONCE_SECOND, TWICE_FIRST, TWICE_SECOND, OUT_FIRST, OUT_SECOND}
 use Rattle.aes_gcm.proofs.Bytes.{same_from_tables}
 use Rattle.aes_gcm.proofs.Lanes.{map_then}
 

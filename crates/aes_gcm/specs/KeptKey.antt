@@ -1,5 +1,5 @@
 -- A key's round keys as they are kept, and a round over the S-box's bytes and their doubles.
-use Rattle.std.specs.Prelude.{◌≡◌, ℕ, ◌+◌, ◌*◌, ◌/◌, ◌%◌, ◌<◌, bit_xor, List, [], length, map, slice_index, slice_index_or}
+use Rattle.std.specs.Prelude.{◌≡◌, ℕ, ◌+◌, ◌<◌, bit_xor, List, [], length, map, slice_index_or}
 use Rattle.std.specs.List.{range_with_len}
 use Rattle.aes_gcm.specs.Cipher.{below, round_key, shift_rows}
 use Rattle.aes_gcm.specs.Tower.{absorbed}
@@ -14,6 +14,6 @@ pub record KeptKeys (key : List ℕ) (middle : List (List ℕ)) (last : List ℕ
 unfoldable pub shifted_and_mixed : List ℕ → List ℕ → List ℕ
 shifted_and_mixed once twice =
     map (λ k. bit_xor
-        (bit_xor (below (shift_rows twice) k 0) (bit_xor (below (shift_rows once) k 1) (below (shift_rows twice) k 1)))
-        (bit_xor (below (shift_rows once) k 2) (below (shift_rows once) k 3)))
+    (bit_xor (below (shift_rows twice) k 0) (bit_xor (below (shift_rows once) k 1) (below (shift_rows twice) k 1)))
+    (bit_xor (below (shift_rows once) k 2) (below (shift_rows once) k 3)))
     (range_with_len 0 16)

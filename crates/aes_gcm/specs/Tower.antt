@@ -1,5 +1,5 @@
 -- Bytes in another basis of the field of FIPS 197, in which SubBytes is computed by reading tables at nibbles.
-use Rattle.std.specs.Prelude.{ℕ, ◌+◌, ◌*◌, ◌/◌, ◌%◌, ◌==◌, bit_and, bit_xor, List, [], ◌∷◌, nat_le, slice_index_or, if◌then◌else◌}
+use Rattle.std.specs.Prelude.{ℕ, ◌/◌, ◌%◌, ◌==◌, bit_and, bit_xor, List, [], ◌∷◌, nat_le, slice_index_or, if◌then◌else◌}
 use Rattle.aes_gcm.specs.Field.{sub_byte}
 use Rattle.aes_gcm.specs.declared.tower.TheConstants.{INVERSE, SCALED}
 

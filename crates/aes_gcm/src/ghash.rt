@@ -1,5 +1,5 @@
 //! GHASH of SP 800-38D: products of blocks, by a table of multiples of the hash key.
-ghost use Rattle.std.specs.Prelude.{◌≡◌, ◌*◌, ◌-◌, ◌≤◌, ◌++◌, length, map, replicate};
+ghost use Rattle.std.specs.Prelude.{◌≡◌, ◌*◌, ◌-◌, ◌≤◌, ◌++◌, length, map, replicate, bit_xor};
 ghost use Rattle.std.specs.List.{fold};
 ghost use Rattle.std.specs.Int.{from_be_bytes, w128};
 ghost use Rattle.aes_gcm.specs.Ghash.{times_x, sum_of_shifts, product, horner_step, ghash};
@@ -79,26 +79,38 @@ fn times_half(table: &Table, first: usize, half: u64) -> u128
     sum
 }
 
+// The product of a block in two parts, those of its higher and of its lower half.
+#[inline(always)]
+fn halves(table: &Table, block: u128) -> (u128, u128)
+    requires { IsTable table.now }
+    ensures { bit_xor result.0 result.1 ≡ product block (factor table.now) }
+{
+    let high = (block >> 64) as u64;
+    let low = (block & 0xffff_ffff_ffff_ffff) as u64;
+    (times_half(table, 0, high), times_half(table, 16, low))
+}
+
 #[inline(always)]
 fn times(table: &Table, block: u128) -> u128
     requires { IsTable table.now }
     ensures { result ≡ product block (factor table.now) }
 {
-    let high = (block >> 64) as u64;
-    let low = (block & 0xffff_ffff_ffff_ffff) as u64;
-    times_half(table, 0, high) ^ times_half(table, 16, low)
+    let (high, low) = halves(table, block);
+    high ^ low
 }
 
-// Horner's rule: the hash of what `hash` is of, and then the blocks.
+// Horner's rule: the hash of what `hash` is of, and then the blocks. The hash is kept in two parts, so that
+// the sums of both are formed at the same time.
 fn add_blocks(table: &Table, hash: u128, blocks: &[[u8; 16]]) -> u128
     requires { IsTable table.now }
     ensures { result ≡ fold (horner_step (factor table.now)) hash (map (from_be_bytes w128) blocks.now) }
 {
-    let mut sum = hash;
+    let mut high = hash;
+    let mut low = 0;
     for block in blocks {
-        sum = times(table, sum ^ u128::from_be_bytes(*block));
+        (high, low) = halves(table, high ^ low ^ u128::from_be_bytes(*block));
     }
-    sum
+    high ^ low
 }
 
 // A last block, with zeros at its end.

@@ -1,4 +1,4 @@
-use Rattle.std.proofs.Common.{◌≡◌, ℕ, List, ap, ◌∙◌, arith, map, length}
+use Rattle.std.proofs.Common.{◌≡◌, ap, ◌∙◌, arith, map}
 use Rattle.aes_gcm.specs.Cipher.{after_round, cipher}
 use Rattle.aes_gcm.specs.Tower.{standard}
 use Rattle.aes_gcm.specs.KeptKey.{KeptKeys}

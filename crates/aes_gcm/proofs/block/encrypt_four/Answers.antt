@@ -1,6 +1,6 @@
 use Rattle.std.proofs.Common.{◌≡◌, ℕ, List, [], ◌∷◌, ap, ap₂, ◌∙◌, sym, arith, map, get_or}
-use Rattle.aes_gcm.specs.Cipher.{after_round, cipher, mix_columns, shift_rows, sub_bytes, xor_bytes}
-use Rattle.aes_gcm.specs.Tower.{absorbed, standard}
+use Rattle.aes_gcm.specs.Cipher.{after_round, cipher}
+use Rattle.aes_gcm.specs.Tower.{standard}
 use Rattle.aes_gcm.specs.KeptKey.{KeptKeys}
 use Rattle.aes_gcm.proofs.Lists.{four_written_out}
 use Rattle.aes_gcm.proofs.Rounds.{started, next_round, ended}

@@ -1,4 +1,4 @@
-use Rattle.std.proofs.Common.{◌≡◌, ℕ, ◌+◌, ◌*◌, ◌/◌, List, [], ap, ◌∙◌, arith, rules, get_or, length}
+use Rattle.std.proofs.Common.{◌≡◌, ℕ, ◌+◌, ◌*◌, ◌/◌, [], ap, ◌∙◌, arith, rules, get_or, length}
 use Rattle.aes_gcm.specs.Cipher.{cipher}
 use Rattle.aes_gcm.specs.Gcm.{counter_block}
 use Rattle.aes_gcm.proofs.KeyStream.{Added, none_added, block_added, byte_added, crypted_when_added}

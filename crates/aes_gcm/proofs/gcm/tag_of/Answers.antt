@@ -1,9 +1,9 @@
-use Rattle.std.proofs.Common.{◌≡◌, ℕ, List, [], ap, ap₂, ◌∙◌, get_or}
+use Rattle.std.proofs.Common.{◌≡◌, [], ap, ap₂, ◌∙◌, get_or}
 use Rattle.std.specs.Prelude.{replicate}
 use Rattle.std.specs.Int.{to_be_bytes, from_be_bytes, w128}
 use Rattle.aes_gcm.specs.Cipher.{cipher, xor_bytes}
 use Rattle.aes_gcm.specs.Ghash.{ghash}
-use Rattle.aes_gcm.specs.Gcm.{tag_of, counter_block, hash_key, hashed_blocks}
+use Rattle.aes_gcm.specs.Gcm.{tag_of, counter_block, hashed_blocks}
 use Rattle.aes_gcm.proofs.gcm.tag_of.Goals as goal
 
 pub returns : goal.returns

@@ -1,7 +1,7 @@
-use Rattle.std.proofs.Common.{ℕ, ◌≡◌, ap, ◌∙◌, bit_xor, map, arith, length}
+use Rattle.std.proofs.Common.{◌≡◌, ap, ◌∙◌, bit_xor, map, arith, length}
 use Rattle.std.proofs.lemmas.Simd.{map-map, zip2_splat_left}
 use Rattle.aes_gcm.specs.Field.{sub_byte}
-use Rattle.aes_gcm.specs.Tower.{standard, sub_linear}
+use Rattle.aes_gcm.specs.Tower.{sub_linear}
 use Rattle.aes_gcm.proofs.Lanes.{below-256, same_maps}
 use Rattle.aes_gcm.proofs.TowerSums.{xor_cancel}
 use Rattle.aes_gcm.proofs.tower.sub_bytes.Goals as goal

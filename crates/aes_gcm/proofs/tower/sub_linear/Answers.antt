@@ -1,4 +1,4 @@
-use Rattle.std.proofs.Common.{ℕ, ◌≡◌, ◌∙◌, sym, map}
+use Rattle.std.proofs.Common.{◌≡◌, ◌∙◌, sym, map}
 use Rattle.std.proofs.lemmas.Simd.{map-map}
 use Rattle.aes_gcm.specs.Tower.{standard, sub_linear}
 use Rattle.aes_gcm.specs.declared.tower.TheConstants.{OUT_FIRST, OUT_SECOND}

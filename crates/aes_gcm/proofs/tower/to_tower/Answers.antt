@@ -1,4 +1,4 @@
-use Rattle.std.proofs.Common.{ℕ, ◌≡◌, ap, ◌∙◌, bit_xor, map}
+use Rattle.std.proofs.Common.{◌≡◌, ap, ◌∙◌, bit_xor, map}
 use Rattle.std.proofs.lemmas.Simd.{map-map, zip2_of_maps}
 use Rattle.aes_gcm.specs.Tower.{entry, low_nibble, high_nibble, standard}
 use Rattle.aes_gcm.specs.declared.tower.TheConstants.{IN_LOW, IN_HIGH}

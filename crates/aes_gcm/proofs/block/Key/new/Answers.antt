@@ -1,8 +1,7 @@
-use Rattle.std.proofs.Common.{◌≡◌, ℕ, ◌+◌, ◌<◌, List, [], map, bit_xor, ap, ◌∙◌, sym, arith, rules, get_or, length, below_more, get_or-set_same, get_or-set_other}
+use Rattle.std.proofs.Common.{◌≡◌, ℕ, ◌+◌, List, [], map, bit_xor, ap, ◌∙◌, sym, arith, rules, length, below_more, get_or-set_same, get_or-set_other}
 use Rattle.std.proofs.lemmas.Simd.{zip2_splat_left}
 use Rattle.aes_gcm.specs.Cipher.{four_words, round_key}
 use Rattle.aes_gcm.specs.Tower.{absorbed, standard}
-use Rattle.aes_gcm.specs.KeptKey.{KeptKeys}
 use Rattle.aes_gcm.proofs.TowerRounds.{cancelled}
 use Rattle.aes_gcm.proofs.block.Key.new.Goals as goal
 

@@ -2,7 +2,7 @@ use Rattle.std.proofs.Common.{refl, ap₂, ◌∙◌, sym, bit_xor}
 use Rattle.aes_gcm.specs.Ghash.{product}
 use Rattle.aes_gcm.specs.Multiples.{shifted, factor}
 use Rattle.aes_gcm.proofs.Multiples.{sum-mask, sum-split}
-use Rattle.aes_gcm.proofs.ghash.times.Goals as goal
+use Rattle.aes_gcm.proofs.ghash.halves.Goals as goal
 
 pub returns : goal.returns
 unfolding product shifted
