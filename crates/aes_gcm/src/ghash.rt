@@ -51,18 +51,17 @@ fn row(v: u128) -> [u128; 16]
     ]
 }
 
+// In place, so that no copy of the table is made.
 #[inline(always)]
-fn table_of(h: u128) -> Table
-    ensures table { IsTable result }
-    ensures factor { factor result ≡ h }
+fn fill_table(table: &mut Table, h: u128)
+    ensures table { IsTable table.new }
+    ensures factor { factor table.new ≡ h }
 {
-    let mut table = [[0; 16]; 32];
     let mut v = h;
     for k in 0..32usize {
         table[k] = row(v);
         v = times_x(times_x(times_x(times_x(v))));
     }
-    table
 }
 
 // The product of half a block, whose bits the 16 rows from `first` on are for.
@@ -143,7 +142,8 @@ pub fn hash(h: u128, aad: &[u8], text: &[u8]) -> u128
     requires text { length text.now ≤ 65536 }
     ensures { result ≡ ghash h (hashed_blocks aad.now text.now) }
 {
-    let table = table_of(h);
+    let mut table = [[0; 16]; 32];
+    fill_table(&mut table, h);
     let hash = add_padded(&table, 0, aad);
     let hash = add_padded(&table, hash, text);
     let lengths = ((8 * aad.len()) as u128) << 64 | (8 * text.len()) as u128;

@@ -5,7 +5,7 @@ use Rattle.std.proofs.lemmas.List.{get_or-set_same, get_or-set_other, length-set
 use Rattle.aes_gcm.specs.Ghash.{times_x, sum_of_shifts}
 use Rattle.aes_gcm.specs.Multiples.{shifted, IsRow, factor}
 use Rattle.aes_gcm.proofs.Multiples.{shifted-shifted}
-use Rattle.aes_gcm.proofs.ghash.table_of.Goals as goal
+use Rattle.aes_gcm.proofs.ghash.fill_table.Goals as goal
 
 row_at : (table : List (List ℕ)) (row : List ℕ) (k v h : ℕ) → k < length table → v ≡ shifted (4 * k) h → IsRow row v
     → ((j : ℕ) → j < k → IsRow (slice_index_or table j []) (shifted (4 * j) h))
@@ -30,7 +30,7 @@ factor_is table h is = is 8 (omega arith) ∙ xor_zero_r h
 
 pub loop-k-init : goal.loop-k-init
 unfolding shifted
-loop-k-init c = (refl, refl, λ j h. absurd (omega arith))
+loop-k-init c = (c.told-table, refl, λ j h. absurd (omega arith))
 
 pub loop-k-preserved : goal.loop-k-preserved
 loop-k-preserved c =
