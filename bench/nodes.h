@@ -4,7 +4,7 @@
 #include <stdlib.h>
 #include <string.h>
 
-enum { NODE_LEN = 4096, TAG_LEN = 16, KEY_LEN = 16, IV_LEN = 12, SEALED_NODES = 8 };
+enum { NODE_LEN = 4096, TAG_LEN = 16, KEY_LEN = 16, IV_LEN = 12, SEALED_NODES = 2 };
 
 static const uint8_t ZERO_IV[IV_LEN];
 

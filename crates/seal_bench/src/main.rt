@@ -8,19 +8,20 @@ mod nodes;
 use nodes::{open_nodes, seal_nodes};
 use std::{env, io};
 
+const USAGE: &str = "usage: seal_bench seal|open NODES";
+
 fn main(rt: HostRuntime) -> io::Result<()> {
-    let mut words = env::args(&rt)?;
-    let _program = words.next();
+    let mut words = env::args(&rt)?.skip(1);
     let (Some(mode), Some(count)) = (words.next(), words.next()) else {
-        return println!(rt; "usage: seal_bench seal|open NODES");
+        return println!(rt; "{USAGE}");
     };
     let Ok(count) = count.parse::<usize>() else {
-        return println!(rt; "usage: seal_bench seal|open NODES");
+        return println!(rt; "{USAGE}");
     };
-    let checksum = if mode.as_str() == "open" {
-        open_nodes(count)
-    } else {
-        seal_nodes(count)
+    let checksum = match mode.as_str() {
+        "seal" => seal_nodes(count),
+        "open" => open_nodes(count),
+        _ => return println!(rt; "{USAGE}"),
     };
     println!(rt; "{checksum}")
 }
