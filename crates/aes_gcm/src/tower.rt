@@ -10,10 +10,13 @@ ghost use Rattle.aes_gcm.specs.Tower.{entry, first_index, high_nibble, low_nibbl
 
 use std::simd::prelude::*;
 
+// Inverses of nibbles. 128 stands for that of 0.
 const INVERSE: [u8; 16] = [128, 1, 8, 13, 15, 6, 5, 14, 2, 12, 11, 10, 9, 3, 7, 4];
 
+// The same, each times a constant of the tower.
 const SCALED: [u8; 16] = [128, 7, 11, 15, 6, 10, 4, 1, 9, 8, 5, 2, 12, 14, 13, 3];
 
+// The lower and the higher nibble of a byte of FIPS 197, in this basis.
 const IN_LOW: [u8; 16] = [
     0, 112, 42, 90, 152, 232, 178, 194, 8, 120, 34, 82, 144, 224, 186, 202,
 ];
@@ -22,6 +25,7 @@ const IN_HIGH: [u8; 16] = [
     0, 77, 124, 49, 125, 48, 1, 76, 129, 204, 253, 176, 252, 177, 128, 205,
 ];
 
+// SubBytes without its constant, in this basis: the sum of two entries.
 const ONCE_FIRST: [u8; 16] = [
     0, 62, 80, 203, 143, 225, 155, 177, 68, 245, 42, 20, 110, 122, 223, 165,
 ];
@@ -30,6 +34,7 @@ const ONCE_SECOND: [u8; 16] = [
     0, 35, 226, 250, 21, 212, 24, 54, 239, 217, 46, 13, 193, 204, 247, 59,
 ];
 
+// Twice that.
 const TWICE_FIRST: [u8; 16] = [
     0, 36, 113, 11, 198, 147, 122, 226, 205, 47, 152, 188, 85, 233, 183, 94,
 ];
@@ -38,6 +43,7 @@ const TWICE_SECOND: [u8; 16] = [
     0, 41, 225, 10, 64, 136, 235, 105, 74, 35, 130, 171, 200, 99, 161, 194,
 ];
 
+// SubBytes without its constant, in the basis of FIPS 197.
 const OUT_FIRST: [u8; 16] = [
     0, 199, 189, 111, 23, 109, 210, 208, 120, 168, 2, 197, 122, 191, 170, 21,
 ];
