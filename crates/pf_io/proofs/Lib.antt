@@ -1,5 +1,13 @@
 pub mod Telling
 pub mod Loans
+pub mod Runs
+pub mod Images
+mod Replacing
+mod Exemplified
 mod Stored
+mod Recorded
+mod Stepping
 mod Reading
 mod Filling
+mod Faulted
+mod Crashed

@@ -1,85 +1,98 @@
--- A host in memory: its files, the calls that it answered, and its counts.
-use Rattle.std.specs.Prelude.{◌≡◌, ◌≢◌, ◌⊎◌, ℕ, ◌≤◌, cond, List, [], ◌∷◌, ◌++◌, map, Contains, Some, None, Result, Ok, Err, OnErr, OnOk, IsErr, bytes_eq}
+-- A host in memory: its events, its counts, and the calls that are to fault.
+use Rattle.std.specs.Prelude.{◌≡◌, ◌⊎◌, ℕ, ◌≤◌, min, List, [], ◌∷◌, ◌++◌, Contains, Option, Some, None, option_map, Result, OnErr, OnOk, IsErr, IsSomeAnd}
 use Rattle.pf_io.specs.Counts.{counted, Rose}
-use Rattle.pf_io.specs.Host.{Name, Files, Answer, LengthWas, Gave, HostState}
-use Rattle.pf_io.specs.declared.storage.Entry.{Entry}
-use Rattle.pf_io.specs.declared.told.Told.{Told}
-use Rattle.pf_io.specs.declared.told.Told.TheVariants.{Length, Given}
-use Rattle.pf_io.specs.declared.mem_host.MemHost.{MemHost}
+use Rattle.pf_io.specs.Disk.{Name, Disk, IsSettledFile, File, reading, IsCrashOf}
+use Rattle.pf_io.specs.Steps.{KeepsOthers}
+use Rattle.pf_io.specs.Host.{HostState}
+use Rattle.pf_io.specs.Replay.{Event, Put, answers_of, after_all, empty, disk_of, honest_of}
+use Rattle.pf_io.specs.Storage.{events_of, stored_after, torn_bytes}
+use Rattle.pf_io.specs.declared.tear.Tear.{Tear}
+use Rattle.pf_io.specs.declared.memory.MemHost.{MemHost}
 
--- what a list of files has at a name
-abbrev pub look : List Entry → Files
-look [] name = None
-look (entry ∷ entries) name = cond (bytes_eq entry.name.items name) (Some entry.bytes.items) (look entries name)
-
--- the name has these bytes, and each other name what it had
-pub record Stores (name : Name) (bytes : List ℕ) (old new : List Entry) : Type 0 where
-  pub there : look new name ≡ Some bytes
-  pub others : (other : Name) → other ≢ name → look new other ≡ look old other
-
-abbrev pub answer_of : Told → Answer
-answer_of (Length name length) = LengthWas name.items length
-answer_of (Given name place room bytes) = Gave name.items place room bytes.items
-
-abbrev pub answers_of : List Told → List Answer
-answers_of told = map answer_of told
-
--- An answer is recorded, and a fault is none.
-abbrev pub Records : {T E : Type 0} → Result T E → (T → Answer) → List Told → List Told → Type 0
-Records (Ok value) answer old new = answers_of new ≡ answers_of old ++ answer value ∷ []
-Records (Err fault) answer old new = answers_of new ≡ answers_of old
-
--- the calls made so far, the numbers of the calls that are to fault, and how many calls found no memory
+-- the events so far, the calls made so far, the numbers of the calls that are to fault, and how many calls found no memory
 pub record MemState : Type 0 where
   pub faults : ℕ
   pub reads : ℕ
-  pub given : List Answer
-  pub files : Files
+  pub writes : ℕ
+  pub widest : ℕ
+  pub events : List Event
   pub calls : ℕ
   pub failing : List ℕ
+  pub stop : Option ℕ
   pub starved : ℕ
 
 abbrev pub memory_of : MemHost → MemState
 memory_of host = record {
   faults = host.faults;
   reads = host.reads;
-  given = answers_of host.told.items;
-  files = look host.files.items;
+  writes = host.writes;
+  widest = host.widest;
+  events = events_of host.told.items;
   calls = host.calls;
   failing = host.failing.items;
+  stop = host.stop;
   starved = host.starved;
 }
 
--- what it tells as a host: it is honest
+-- what it tells as a host: it is honest, and all is told from its events
 abbrev pub host_of : MemState → HostState
-host_of state = record { faults = state.faults; reads = state.reads; given = Some state.given; files = Some state.files }
+host_of state = record {
+  faults = state.faults;
+  reads = state.reads;
+  writes = state.writes;
+  widest = state.widest;
+  given = Some (answers_of state.events);
+  honest = Some (honest_of state.events);
+}
 
--- no call was made, and there is no file
-pub record IsNew (state : MemState) : Type 0 where
+abbrev pub disk_now : MemState → Disk
+disk_now state = disk_of (after_all state.events empty)
+
+-- no call was made or is to fault, and nothing is counted
+pub record IsUnused (state : MemState) : Type 0 where
   pub faults : state.faults ≡ 0
   pub reads : state.reads ≡ 0
-  pub given : state.given ≡ []
-  pub files : (name : Name) → state.files name ≡ None
+  pub writes : state.writes ≡ 0
+  pub widest : state.widest ≡ 0
+  pub given : answers_of state.events ≡ []
   pub calls : state.calls ≡ 0
   pub failing : state.failing ≡ []
+  pub stop : state.stop ≡ None
   pub starved : state.starved ≡ 0
 
--- the name has these bytes, and nothing else changes
+-- The name has a file of these bytes, at which nothing is pending. No other name changes, and neither does any count.
 pub record Puts (name : Name) (bytes : List ℕ) (old new : MemState) : Type 0 where
-  pub there : new.files name ≡ Some bytes
-  pub others : (other : Name) → other ≢ name → new.files other ≡ old.files other
-  pub rest : record new { files = old.files } ≡ old
+  pub there : (file : File) × (disk_now new name ≡ Some file) × (file.bytes ≡ bytes) × IsSettledFile file
+  pub others : KeepsOthers name (disk_now old) (disk_now new)
+  pub event : new.events ≡ old.events ++ Put name bytes ∷ []
+  pub rest : record new { events = old.events } ≡ old
 
 -- the call is to fault as well as those named before, and nothing else changes
 pub record NamesCall (call : ℕ) (old new : MemState) : Type 0 where
   pub named : new.failing ≡ old.failing ++ call ∷ []
   pub rest : record new { failing = old.failing } ≡ old
 
--- A call of the trait: it is counted, it fails where it is to fail, and else only for want of memory, which is counted apart.
+-- the earlier of two stops
+abbrev pub earlier : Option ℕ → ℕ → ℕ
+earlier None call = call
+earlier (Some stop) call = min stop call
+
+-- the next call is one that is to fault
+abbrev pub IsToFail : MemState → Type 0
+IsToFail state = Contains state.failing state.calls ⊎ IsSomeAnd state.stop (λ stop. stop ≤ state.calls)
+
+-- A call of the trait: it is counted, it fails where it is to fail, and else only for want of memory, which alone is counted apart.
 pub record IsCall {T E : Type 0} (result : Result T E) (old new : MemState) : Type 0 where
   pub calls : new.calls ≡ counted old.calls
   pub failing : new.failing ≡ old.failing
-  pub fails : Contains old.failing old.calls → IsErr result
+  pub stop : new.stop ≡ old.stop
+  pub fails : IsToFail old → IsErr result × (new.starved ≡ old.starved)
   pub later : old.starved ≤ new.starved
-  pub starved : OnErr result (Contains old.failing old.calls ⊎ Rose old.starved new.starved)
+  pub starved : OnErr result (IsToFail old ⊎ Rose old.starved new.starved)
   pub no_fault : OnOk result ((new.faults ≡ old.faults) × (new.starved ≡ old.starved))
+
+-- One outcome of a crash: each name has its bytes as the tear says, which is an image of the old disk, and nothing is pending.
+pub record IsAfterCrash (tear : Tear) (old new : MemState) : Type 0 where
+  pub unused : IsUnused new
+  pub torn : (name : Name) → reading (disk_now new) name ≡ option_map (torn_bytes tear) (stored_after old.events name)
+  pub crash : IsCrashOf (disk_now old) (disk_now new)

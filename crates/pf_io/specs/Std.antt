@@ -1,7 +1,8 @@
--- Files and writers of std.
+-- Files, writers and the random device of the system.
 use Rattle.std.specs.Prelude.{ℕ, List, Option, None}
 use Rattle.pf_io.specs.Host.{HostState}
 use Rattle.pf_io.specs.Streams.{SinkState}
+use Rattle.pf_io.specs.Words.{WordsState}
 
 -- a writer as a sink, with the bytes that the writer holds where they are known
 pub record StdSinkState : Type 0 where
@@ -15,6 +16,15 @@ sink_of state = record { faults = state.faults; bytes = None }
 pub record DiskState : Type 0 where
   pub faults : ℕ
   pub reads : ℕ
+  pub writes : ℕ
+  pub widest : ℕ
 
 abbrev pub host_of : DiskState → HostState
-host_of state = record { faults = state.faults; reads = state.reads; given = None; files = None }
+host_of state = record { faults = state.faults; reads = state.reads; writes = state.writes; widest = state.widest; given = None; honest = None }
+
+-- the random device: nothing is told of its words
+pub record DeviceState : Type 0 where
+  pub faults : ℕ
+
+abbrev pub device_words_of : DeviceState → WordsState
+device_words_of state = record { faults = state.faults; left = None }

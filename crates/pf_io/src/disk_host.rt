@@ -7,7 +7,7 @@ ghost use Rattle.pf_io.specs.Std.{DiskState, host_of};
 use crate::counts::raise;
 use crate::open_files::OpenFiles;
 use crate::{Host, HostFault};
-use std::fs::{self, File};
+use std::fs::{self, File, OpenOptions};
 use std::io::{self, ErrorKind};
 use std::marker::Model;
 use std::os::unix::fs::FileExt;
@@ -25,6 +25,8 @@ pub struct DiskHost<R: Files<File = File> + AllocGlobal + Drop> {
     open: OpenFiles,
     faults: u64,
     reads: u64,
+    writes: u64,
+    widest: usize,
 }
 
 impl<R: Files<File = File> + AllocGlobal + Drop> Model for DiskHost<R> {
@@ -32,13 +34,13 @@ impl<R: Files<File = File> + AllocGlobal + Drop> Model for DiskHost<R> {
 
     ghost Value = { DiskState };
 
-    ghost view = { λ d. record { faults = d.faults; reads = d.reads } };
+    ghost view = { λ d. record { faults = d.faults; reads = d.reads; writes = d.writes; widest = d.widest } };
 }
 
 impl<R: Files<File = File> + AllocGlobal + Drop> DiskHost<R> {
     /// The files of the system.
     pub fn new(system: R) -> Self
-        ensures { result ≡ record { faults = 0; reads = 0 } }
+        ensures { result ≡ record { faults = 0; reads = 0; writes = 0; widest = 0 } }
     {
         let open = OpenFiles::new(system.alloc());
         DiskHost {
@@ -46,6 +48,8 @@ impl<R: Files<File = File> + AllocGlobal + Drop> DiskHost<R> {
             open,
             faults: 0,
             reads: 0,
+            writes: 0,
+            widest: 0,
         }
     }
 }
@@ -149,8 +153,80 @@ fn read_file<R: Files<File = File>>(
     Ok(n)
 }
 
+// Opens a file that is to be changed, or answers `None` where it is absent.
+fn open_to_change<R: Files<File = File>>(system: &R, name: &str) -> io::Result<Option<File>> {
+    match OpenOptions::new().read(true).write(true).open(system, name) {
+        Ok(file) => Ok(Some(file)),
+        Err(error) if is_absent(&error) => Ok(None),
+        Err(error) => Err(error),
+    }
+}
+
+fn write_file<R: Files<File = File>>(
+    system: &R,
+    name: &str,
+    at: u64,
+    from: &[u8],
+) -> io::Result<()> {
+    let Some(file) = open_to_change(system, name)? else {
+        return Ok(());
+    };
+    file.write_all_at(from, at)
+}
+
+fn cut_file<R: Files<File = File>>(system: &R, name: &str, len: u64) -> io::Result<()> {
+    let Some(file) = open_to_change(system, name)? else {
+        return Ok(());
+    };
+    if len < file.metadata()?.len() {
+        file.set_len(len)?;
+    }
+    Ok(())
+}
+
+fn sync_file<R: Files<File = File>>(system: &R, name: &str) -> io::Result<()> {
+    match open_file(system, name)? {
+        Some(file) => file.sync_all(),
+        None => Ok(()),
+    }
+}
+
+// Makes a change of names in the folder of a file last.
+fn sync_folder<R: Files<File = File>>(system: &R, name: &str) -> io::Result<()> {
+    let folder = match name.rsplit_once('/') {
+        Some(("", _)) => "/",
+        Some((folder, _)) => folder,
+        None => ".",
+    };
+    File::open(system, folder)?.sync_all()
+}
+
+fn make_file<R: Files<File = File>>(system: &R, name: &str) -> io::Result<()> {
+    File::create(system, name)?.sync_all()?;
+    sync_folder(system, name)
+}
+
+fn swap_file<R: Files<File = File>>(system: &R, from: &str, to: &str) -> io::Result<()> {
+    if file_len(system, from)?.is_none() {
+        return Ok(());
+    }
+    fs::rename(system, from, to)?;
+    sync_folder(system, from)?;
+    sync_folder(system, to)
+}
+
+fn remove_file<R: Files<File = File>>(system: &R, name: &str) -> io::Result<()> {
+    match fs::remove_file(system, name) {
+        Ok(()) => sync_folder(system, name),
+        Err(error) if is_absent(&error) => Ok(()),
+        Err(error) => Err(error),
+    }
+}
+
 impl<R: Files<File = File> + AllocGlobal + Drop> Host for DiskHost<R> {
     ghost state = { host_of };
+
+    ghost reads_as_image = { λ _. tt };
 
     fn len(&mut self, name: &str) -> Result<Option<u64>, HostFault> {
         self.open.forget(name);
@@ -159,7 +235,38 @@ impl<R: Files<File = File> + AllocGlobal + Drop> Host for DiskHost<R> {
 
     fn read_at(&mut self, name: &str, at: u64, to: &mut [u8]) -> Result<usize, HostFault> {
         raise(&mut self.reads);
+        self.widest = self.widest.max(to.len());
         let outcome = read_file(&self.system, &mut self.open, name, at, to);
         count_fault(&mut self.faults, outcome)
+    }
+
+    fn write_at(&mut self, name: &str, at: u64, from: &[u8]) -> Result<(), HostFault> {
+        raise(&mut self.writes);
+        self.widest = self.widest.max(from.len());
+        count_fault(&mut self.faults, write_file(&self.system, name, at, from))
+    }
+
+    fn cut(&mut self, name: &str, len: u64) -> Result<(), HostFault> {
+        count_fault(&mut self.faults, cut_file(&self.system, name, len))
+    }
+
+    fn sync(&mut self, name: &str) -> Result<(), HostFault> {
+        count_fault(&mut self.faults, sync_file(&self.system, name))
+    }
+
+    fn make(&mut self, name: &str) -> Result<(), HostFault> {
+        self.open.forget(name);
+        count_fault(&mut self.faults, make_file(&self.system, name))
+    }
+
+    fn swap_name(&mut self, from: &str, to: &str) -> Result<(), HostFault> {
+        self.open.forget(from);
+        self.open.forget(to);
+        count_fault(&mut self.faults, swap_file(&self.system, from, to))
+    }
+
+    fn remove(&mut self, name: &str) -> Result<(), HostFault> {
+        self.open.forget(name);
+        count_fault(&mut self.faults, remove_file(&self.system, name))
     }
 }

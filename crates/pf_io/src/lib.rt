@@ -3,31 +3,42 @@
 
 mod buffers;
 mod counts;
+pub mod crash_examples;
+mod device_words;
 mod disk_host;
 mod faults;
 mod host;
 mod list_words;
+mod mem_calls;
 mod mem_host;
+mod memory;
 mod names;
 mod open_files;
+mod replace;
 mod std_sink;
 mod storage;
 mod streams;
+mod tear;
 mod text;
 mod told;
 mod words;
 
 pub use buffers::{MemSink, MemSource};
+pub use device_words::DeviceWords;
 pub use disk_host::DiskHost;
 pub use faults::{HostFault, Memory, StreamFault, WordsFault};
 pub use host::Host;
 pub use list_words::ListWords;
-pub use mem_host::MemHost;
+pub use memory::MemHost;
 pub use names::{is_name, is_target};
+pub use replace::replace_by_side_file;
 pub use std_sink::StdSink;
 pub use streams::{Sink, Source};
+pub use tear::Tear;
 pub use text::{Bytes, Text};
 pub use words::Words;
 
+#[cfg(test)]
+mod crash_tests;
 #[cfg(test)]
 mod tests;

@@ -1,6 +1,6 @@
 use crate::{
-    Bytes, DiskHost, Host, HostFault, ListWords, MemHost, MemSink, MemSource, Sink, Source,
-    StdSink, StreamFault, Text, Words, WordsFault, is_name, is_target,
+    Bytes, DeviceWords, DiskHost, Host, HostFault, ListWords, MemHost, MemSink, MemSource, Sink,
+    Source, StdSink, StreamFault, Text, Words, WordsFault, is_name, is_target,
 };
 use std::alloc::Global;
 use std::fs::{self, File};
@@ -246,5 +246,80 @@ fn a_writer_is_a_sink(rt: HostRuntime) -> Result<(), Fail> {
     assert_eq!(rt; StdSink::new(rt.stdout()).write(b""), Ok(()));
     assert_eq!(rt; StdSink::new(rt.stderr()).write(b""), Ok(()));
     fs::remove_file(&rt, path)?;
+    Ok(())
+}
+
+#[test]
+fn each_call_changes_real_files(rt: HostRuntime) -> Result<(), Fail> {
+    let folder = passing(&rt, "change")?;
+    let folder = folder.as_str();
+    fs::create_dir(&rt, folder)?;
+    let a = below(rt.alloc(), folder, "a")?;
+    let a = a.as_str();
+    let b = below(rt.alloc(), folder, "b")?;
+    let b = b.as_str();
+    let mut host = DiskHost::new(rt.clone()?);
+    assert_eq!(rt; host.make(a), Ok(()));
+    assert_eq!(rt; host.len(a), Ok(Some(0)));
+    assert_eq!(rt; host.write_at(a, 2, b"xyz"), Ok(()));
+    assert_eq!(rt; host.write_at(a, 1, b"w"), Ok(()));
+    assert_eq!(rt; opened(&mut host, a, 0), Ok((Some(5), 4, *b"\0wxy")));
+    assert_eq!(rt; host.cut(a, 9), Ok(()));
+    assert_eq!(rt; host.cut(a, 3), Ok(()));
+    assert_eq!(rt; host.sync(a), Ok(()));
+    assert_eq!(rt; opened(&mut host, a, 0), Ok((Some(3), 3, *b"\0wx\t")));
+    assert_eq!(rt; host.make(b), Ok(()));
+    assert_eq!(rt; host.swap_name(a, b), Ok(()));
+    assert_eq!(rt; opened(&mut host, a, 0), Ok((None, 0, [9; 4])));
+    assert_eq!(rt; opened(&mut host, b, 1), Ok((Some(3), 2, *b"wx\t\t")));
+    assert_eq!(rt; host.swap_name(b, b), Ok(()));
+    assert_eq!(rt; host.make(b), Ok(()));
+    assert_eq!(rt; opened(&mut host, b, 0), Ok((Some(0), 0, [9; 4])));
+    assert_eq!(rt; host.remove(b), Ok(()));
+    assert_eq!(rt; host.len(b), Ok(None));
+    fs::remove_dir(&rt, folder)?;
+    Ok(())
+}
+
+#[test]
+fn real_calls_on_absent_names_change_nothing(rt: HostRuntime) -> Result<(), Fail> {
+    let folder = passing(&rt, "absent")?;
+    let folder = folder.as_str();
+    fs::create_dir(&rt, folder)?;
+    let a = below(rt.alloc(), folder, "a")?;
+    let a = a.as_str();
+    let inner = below(rt.alloc(), folder, "none/b")?;
+    let inner = inner.as_str();
+    let mut host = DiskHost::new(rt.clone()?);
+    for absent in [a, inner] {
+        assert_eq!(rt; host.write_at(absent, 0, b"x"), Ok(()));
+        assert_eq!(rt; host.cut(absent, 0), Ok(()));
+        assert_eq!(rt; host.sync(absent), Ok(()));
+        assert_eq!(rt; host.swap_name(absent, a), Ok(()));
+        assert_eq!(rt; host.remove(absent), Ok(()));
+        assert_eq!(rt; host.len(absent), Ok(None));
+    }
+    assert_eq!(rt; host.make(inner), Err(HostFault));
+    assert_eq!(rt; host.make(a), Ok(()));
+    assert_eq!(rt; host.swap_name(a, inner), Err(HostFault));
+    assert_eq!(rt; host.len(a), Ok(Some(0)));
+    assert_eq!(rt; host.write_at(a, u64::MAX, b"x"), Err(HostFault));
+    for call in [
+        host.make(folder),
+        host.write_at(folder, 0, b"x"),
+        host.remove(folder),
+    ] {
+        assert_eq!(rt; call, Err(HostFault));
+    }
+    fs::remove_dir_all(&rt, folder)?;
+    Ok(())
+}
+
+#[test]
+fn the_device_gives_words_that_differ(rt: HostRuntime) -> Result<(), Fail> {
+    let mut words = DeviceWords::new(rt.clone()?);
+    let first = words.next16();
+    assert!(rt; first.is_ok());
+    assert_ne!(rt; words.next16(), first);
     Ok(())
 }

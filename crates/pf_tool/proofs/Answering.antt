@@ -1,18 +1,18 @@
 -- Calls of a host and what they answered.
-use Rattle.std.proofs.Common.{◌≡◌, ℕ, ◌+◌, ◌-◌, ◌≤◌, min, List, [], ◌∷◌, ◌++◌, length, take, drop, Option, Some, None, IfSome, refl, ap, ◌∙◌, sym, arith, subst, length-drop}
+use Rattle.std.proofs.Common.{◌≡◌, ℕ, min, List, [], ◌∷◌, ◌++◌, length, take, drop, Option, Some, None, IfSome, refl, ap, ◌∙◌, arith, subst, length-drop}
 use Rattle.std.specs.List.{AllByRecursion}
 use Rattle.std.proofs.lemmas.List.{take_min}
 use Rattle.std.proofs.lemmas.Option.{IfSome_then}
-use Rattle.pf_io.specs.Host.{Name, Files, Answer, LengthWas, Gave, HostState, Both, IsMore, KeepsFiles, OnHonest, ReadsFrom, KeepsRest, length_of, contents}
+use Rattle.pf_io.specs.Host.{Name, Files, Answer, LengthWas, Gave, HostState, Both, IsMore, KeepsFiles, OnHonest, ReadsFrom, KeepsRest, length_of, contents, files_of}
 use Rattle.pf_io.proofs.Telling.{told_on, told_none}
 use Rattle.pf_tool.specs.Answered.{Answered, IsAnswerOf}
 use Rattle.pf_tool.specs.Steps.{node_answers}
 
-both_honest : (P Q R : Files → Type 0) (files : Option Files) → ((f : Files) → P f → Q f → R f) → IfSome files P → IfSome files Q → IfSome files R
+pub both_honest : (P Q R : Files → Type 0) (files : Option Files) → ((f : Files) → P f → Q f → R f) → IfSome files P → IfSome files Q → IfSome files R
 both_honest P Q R (Some f) go one two = go f one two
 both_honest P Q R None go one two = tt
 
-all_append : (P : Answer → Type 0) (xs ys : List Answer) → AllByRecursion P xs → AllByRecursion P ys → AllByRecursion P (xs ++ ys)
+pub all_append : (P : Answer → Type 0) (xs ys : List Answer) → AllByRecursion P xs → AllByRecursion P ys → AllByRecursion P (xs ++ ys)
 all_append P [] ys one two = two
 all_append P (x ∷ xs) ys one two = (one.0, all_append P xs ys one.1 two)
 
@@ -22,7 +22,7 @@ none_honest None = tt
 
 -- no call
 pub answered_none : (state : HostState) → Answered [] state state
-answered_none state = record { told = told_none state state refl; files = refl; honest = none_honest state.files }
+answered_none state = record { told = told_none state state refl; files = refl; honest = none_honest (files_of state) }
 
 -- the length of a file
 pub answered_length : (name : Name) (length : Option ℕ) (old new : HostState) → Both old.given new.given (IsMore (LengthWas name length ∷ [])) → KeepsFiles old new
@@ -30,11 +30,11 @@ pub answered_length : (name : Name) (length : Option ℕ) (old new : HostState) 
 answered_length name length old new told files honest = record {
   told = told;
   files = files;
-  honest = IfSome_then old.files honest (λ f is. (is, tt));
+  honest = IfSome_then (files_of old) honest (λ f is. (is, tt));
 }
 
 -- what was read is what the files have, as far as there was room
-read_whole : (at n room : ℕ) (before buffer bytes : List ℕ) → KeepsRest n before buffer → length before ≡ room → ReadsFrom at n buffer bytes → take n buffer ≡ take room (drop at bytes)
+pub read_whole : (at n room : ℕ) (before buffer bytes : List ℕ) → KeepsRest n before buffer → length before ≡ room → ReadsFrom at n buffer bytes → take n buffer ≡ take room (drop at bytes)
 read_whole at n room before buffer bytes rest long reads =
     let count : n ≡ min room (length (drop at bytes)) = omega (arith, reads.count, rest.same_length, long, length-drop at bytes) in
     reads.filled ∙ ap (λ (k : ℕ). take k (drop at bytes)) count ∙ take_min room (drop at bytes)
@@ -46,7 +46,7 @@ pub answered_bytes : (name : Name) (at n room : ℕ) (before buffer : List ℕ) 
 answered_bytes name at n room before buffer old new rest long told files honest = record {
   told = told;
   files = files;
-  honest = IfSome_then old.files honest (λ f reads. (read_whole at n room before buffer (contents (f name)) rest long reads, tt));
+  honest = IfSome_then (files_of old) honest (λ f reads. (read_whole at n room before buffer (contents (f name)) rest long reads, tt));
 }
 
 -- answers after others
@@ -54,7 +54,7 @@ pub answered_then : (xs ys : List Answer) (old mid new : HostState) → Answered
 answered_then xs ys old mid new first second = record {
   told = told_on xs ys old mid new first.told second.told;
   files = second.files ∙ first.files;
-  honest = both_honest _ _ _ old.files (λ f one two. all_append (IsAnswerOf f) xs ys one two) first.honest
+  honest = both_honest _ _ _ (files_of old) (λ f one two. all_append (IsAnswerOf f) xs ys one two) first.honest
       (subst (λ (f : Option Files). IfSome f (λ g. AllByRecursion (IsAnswerOf g) ys)) first.files second.honest);
 }
 

@@ -1,9 +1,8 @@
 -- From the end of a part to the end of the whole.
-use Rattle.std.proofs.Common.{◌≡◌, ℕ, ◌≤◌, List, ◌++◌, Some, refl, ap, ◌∙◌, sym, subst}
-use Rattle.pf_io.specs.Host.{Name, Answer, HostState}
-use Rattle.pf_io.specs.Names.{IsTarget}
+use Rattle.std.proofs.Common.{◌≤◌, List, ◌++◌}
+use Rattle.pf_io.specs.Host.{Answer, HostState}
 use Rattle.pf_tool.specs.Answered.{Answered}
-use Rattle.pf_tool.specs.Steps.{Ending, Done, NotFound, KeyFile, Damaged, Unbuilt, node_answers, NodeFails, NodeRefused, node_fails}
+use Rattle.pf_tool.specs.Steps.{Ending}
 use Rattle.pf_tool.specs.Faults.{Finished, EndsBy, Refuses}
 use Rattle.pf_tool.proofs.Answering.{answered_then}
 use Rattle.pf_tool.proofs.Writing.{rose_later}
@@ -23,6 +22,7 @@ refusal_ends P Q these old new faults.Unbuilt answered go refused = record { the
 refusal_ends P Q these old new faults.Host answered go refused = absurd refused
 refusal_ends P Q these old new faults.Stream answered go refused = refused
 refusal_ends P Q these old new faults.Memory answered go refused = refused
+refusal_ends P Q these old new faults.Random answered go refused = refused
 
 -- calls came to an end after others
 pub finished_after : (P Q : List Answer → Ending → Type 0) (xs : List Answer) (old mid new : HostState) (ending : Ending) → Answered xs old mid
@@ -43,3 +43,4 @@ ends_after P Q xs old mid new faults.Unbuilt first later go last = finished_afte
 ends_after P Q xs old mid new faults.Host first later go last = rose_later old.faults mid.faults new.faults later last
 ends_after P Q xs old mid new faults.Stream first later go last = last
 ends_after P Q xs old mid new faults.Memory first later go last = last
+ends_after P Q xs old mid new faults.Random first later go last = last

@@ -4,3 +4,11 @@ pub mod Answering
 pub mod Given
 pub mod Ending
 pub mod Running
+pub mod Drawing
+pub mod OnlyReading
+pub mod SideDisk
+pub mod SealDisk
+pub mod SealInput
+pub mod AfterKey
+pub mod Tracing
+pub mod EncryptRunning

@@ -1,19 +1,19 @@
 -- From how `decrypt` ended to what a run says.
-use Rattle.std.proofs.Common.{◌≡◌, ◌≢◌, ◌⊎◌, inl, inr, ℕ, ◌<◌, ◌≤◌, List, [], ◌∷◌, ◌++◌, length, take, Option, Some, None, IfSome, refl, ap, ◌∙◌, sym, subst, arith}
+use Rattle.std.proofs.Common.{◌≡◌, ◌≢◌, ◌⊎◌, inl, inr, ℕ, ◌<◌, ◌≤◌, List, [], ◌++◌, length, take, Option, Some, IfSome, refl, ap, ◌∙◌, sym, subst, arith}
 use Rattle.std.proofs.lemmas.List.{append-nil}
 use Rattle.std.specs.List.{AllByRecursion}
 use Rattle.node_layout.specs.Opening.{IsOpenFault}
 use Rattle.node_layout.specs.declared.damage.Kind.{Kind}
 use Rattle.node_layout.specs.declared.damage.Kind.TheVariants as kinds
 use Rattle.pf_io.specs.Counts.{Rose}
-use Rattle.pf_io.specs.Host.{Name, Files, Answer, HostState, WhereTold, IsMore, Both}
+use Rattle.pf_io.specs.Host.{Name, Files, Answer, HostState, WhereTold, IsMore, files_of}
 use Rattle.pf_io.specs.Streams.{SinkState}
 use Rattle.pf_io.proofs.Telling.{told_by, both_same}
-use Rattle.pf_tool.specs.Answered.{Answered, IsAnswerOf}
-use Rattle.pf_tool.specs.Faults.{Finished, EndsBy, ending_line, ending_status, ending_output, fault_line, fault_status, host_line, memory_line, stream_line}
+use Rattle.pf_tool.specs.Answered.{IsAnswerOf}
+use Rattle.pf_tool.specs.Faults.{Finished, EndsBy, ending_line, ending_status, ending_output, fault_line, fault_status, memory_line}
 use Rattle.pf_tool.specs.Reports.{Wrote, FailedIn, Reported, line_written, no_memory, log_failed}
 use Rattle.pf_tool.specs.Run.{DecryptFails, by_host, by_output, DecryptRuns, accepted, refused, host_failed, output_failed, GaveContent, GaveDamage, HonestRun, HonestEnding}
-use Rattle.pf_tool.specs.Steps.{key_answers, Ending, Done, BadName, NotFound, KeyFile, NotProtected, Damaged, Unbuilt, Decrypts, key_refused, key_read, KeyRefused, key_unnamed, key_absent, key_length, key_short, Opens, node_refused, node_read, NodeRefused, input_unnamed, input_absent, node_fails, OpensTo, meta_damaged, content_large, content_whole}
+use Rattle.pf_tool.specs.Steps.{key_answers, Ending, Done, BadName, NotFound, KeyFile, NotProtected, Damaged, Unbuilt, Decrypts, key_refused, key_read, key_unnamed, key_absent, key_length, key_short, node_refused, node_read, input_unnamed, input_absent, node_fails, meta_damaged, content_large, content_whole}
 use Rattle.pf_tool.specs.Words.{decrypt_words}
 use Rattle.pf_tool.specs.declared.fault.Fault.{Fault}
 use Rattle.pf_tool.specs.declared.fault.Fault.TheVariants as faults
@@ -30,6 +30,7 @@ by_ends key input old new before after log said faults.Unbuilt status ends same 
 by_ends key input old new before after log said faults.Host status ends same reported = host_failed ends same reported
 by_ends key input old new before after log said faults.Stream status ends same reported = absurd ends
 by_ends key input old new before after log said faults.Memory status ends same reported = absurd ends
+by_ends key input old new before after log said faults.Random status ends same reported = absurd ends
 
 pub runs_by_fault : (key input : Name) (old new : HostState) (before after log said : SinkState) (fault : Fault) (status : ℕ) → DecryptFails key input old new before after fault
     → Reported (fault_line fault) (fault_status fault) log said status → DecryptRuns key input old new before after log said status
@@ -115,10 +116,10 @@ run_damage key input old new before after log said status (refused ending finish
 run_damage key input old new before after log said status (host_failed rose same reported) is = absurd (no_damage log said _ 4 status reported (omega arith) is)
 run_damage key input old new before after log said status (output_failed content finished failed reported) is = absurd (no_damage log said _ 7 status reported (omega arith) is)
 
-wrote_nothing : (log said : SinkState) → said ≡ log → Wrote [] log said
+pub wrote_nothing : (log said : SinkState) → said ≡ log → Wrote [] log said
 wrote_nothing log said same = both_same (IsMore []) log.bytes said.bytes (ap (λ (s : SinkState). s.bytes) same) (λ bytes. sym (append-nil bytes))
 
-over_files : (key input : Name) (files : Files) (old new : HostState) (ending : Ending) → old.files ≡ Some files → Finished (Decrypts key input) old new ending → HonestEnding key input files ending
+over_files : (key input : Name) (files : Files) (old new : HostState) (ending : Ending) → files_of old ≡ Some files → Finished (Decrypts key input) old new ending → HonestEnding key input files ending
 over_files key input files old new ending is finished = record {
   these = finished.these;
   of_files = subst (λ (f : Option Files). IfSome f (λ g. AllByRecursion (IsAnswerOf g) finished.these)) is finished.answered.honest;
@@ -134,11 +135,11 @@ no_output NotProtected ne = refl
 no_output (Damaged kind) ne = refl
 no_output Unbuilt ne = refl
 
-fell : {text : List ℕ} {log said : SinkState} → FailedIn text log said ⊎ FailedIn memory_line log said → Rose log.faults said.faults
+pub fell : {text : List ℕ} {log said : SinkState} → FailedIn text log said ⊎ FailedIn memory_line log said → Rose log.faults said.faults
 fell (inl failed) = failed.rose
 fell (inr failed) = failed.rose
 
-honest_refusal : (key input : Name) (files : Files) (old new : HostState) (before after log said : SinkState) (ending : Ending) (status : ℕ) → old.files ≡ Some files
+honest_refusal : (key input : Name) (files : Files) (old new : HostState) (before after log said : SinkState) (ending : Ending) (status : ℕ) → files_of old ≡ Some files
     → Finished (Decrypts key input) old new ending → ending_status ending ≢ 0 → after ≡ before → ¬ (Rose log.faults said.faults)
     → Reported (ending_line ending) (ending_status ending) log said status → HonestRun key input files before after log said status
 honest_refusal key input files old new before after log said ending status is finished ne same calm (line_written e wrote) = record {
@@ -155,7 +156,7 @@ honest_refusal key input files old new before after log said ending status is fi
 
 -- where nothing failed, a run is that of the files
 pub run_honest : (key input : Name) (files : Files) (old new : HostState) (before after log said : SinkState) (status : ℕ) → DecryptRuns key input old new before after log said status
-    → old.files ≡ Some files → ¬ (Rose old.faults new.faults) → ¬ (Rose before.faults after.faults) → ¬ (Rose log.faults said.faults) → HonestRun key input files before after log said status
+    → files_of old ≡ Some files → ¬ (Rose old.faults new.faults) → ¬ (Rose before.faults after.faults) → ¬ (Rose log.faults said.faults) → HonestRun key input files before after log said status
 run_honest key input files old new before after log said status (accepted content finished wrote same e) is host_calm out_calm log_calm = record {
   ending = Done content;
   over_files = over_files key input files old new (Done content) is finished;
@@ -174,7 +175,20 @@ for_names P a b key input same holds =
     subst (λ (n : Name). P key n) input_is (subst (λ (n : Name). P n b) key_is holds)
 
 -- a content that came to be was given
-pub given_content : (key input : Name) (old new : HostState) (content : List ℕ) (W : List ℕ → Type 0) → Finished (Decrypts key input) old new (Done content) → W content
+given_content : (key input : Name) (old new : HostState) (content : List ℕ) (W : List ℕ → Type 0) → Finished (Decrypts key input) old new (Done content) → W content
     → WhereTold old new (λ these. (bytes : List ℕ) × GaveContent key input these bytes × W bytes)
 given_content key input old new content W finished wrote =
     told_by (λ these. (bytes : List ℕ) × GaveContent key input these bytes × W bytes) finished.these old new finished.answered.told (content, decrypts_content key input finished.these content finished.came, wrote)
+
+pub no_zero : (text : List ℕ) (wanted status : ℕ) (log said : SinkState) → wanted ≢ 0 → Reported text wanted log said status → status ≢ 0
+no_zero text wanted status log said ne (line_written e wrote) zero = ne (sym e ∙ zero)
+no_zero text wanted status log said ne (no_memory e wrote) zero = omega arith
+no_zero text wanted status log said ne (log_failed e failed) zero = omega arith
+
+-- a run of status 0 was given a content, and wrote it
+pub run_content : (key input : Name) (old new : HostState) (before after log said : SinkState) (status : ℕ) → DecryptRuns key input old new before after log said status → status ≡ 0
+    → WhereTold old new (λ these. (content : List ℕ) × GaveContent key input these content × Wrote content before after)
+run_content key input old new before after log said status (accepted content finished wrote same e) zero = given_content key input old new content (λ bytes. Wrote bytes before after) finished wrote
+run_content key input old new before after log said status (refused ending finished ne same reported) zero = absurd (no_zero _ (ending_status ending) status log said ne reported zero)
+run_content key input old new before after log said status (host_failed rose same reported) zero = absurd (no_zero _ 4 status log said (omega arith) reported zero)
+run_content key input old new before after log said status (output_failed content finished failed reported) zero = absurd (no_zero _ 7 status log said (omega arith) reported zero)

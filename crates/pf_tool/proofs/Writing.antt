@@ -1,6 +1,6 @@
 -- Several writes to a sink, one after the other.
-use Rattle.std.proofs.Common.{◌≡◌, ℕ, ◌+◌, ◌≤◌, min, List, ◌++◌, length, take, Option, Some, None, Result, Ok, Err, ap, ◌∙◌, sym, arith, append_assoc, subst}
-use Rattle.std.proofs.lemmas.List.{take_min, take-append-le, append-nil}
+use Rattle.std.proofs.Common.{◌≡◌, ℕ, ◌+◌, ◌≤◌, min, List, ◌++◌, length, take, Option, Result, Ok, Err, ap, ◌∙◌, sym, arith, append_assoc}
+use Rattle.std.proofs.lemmas.List.{take_min, take-append-le}
 use Rattle.std.proofs.Math.Seq.{take-append-add}
 use Rattle.pf_io.specs.Counts.{Rose}
 use Rattle.pf_io.specs.Host.{Both, IsMore}

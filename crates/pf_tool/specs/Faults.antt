@@ -1,5 +1,5 @@
 -- The line and the status of each ending and of each fault.
-use Rattle.std.specs.Prelude.{◌≡◌, ℕ, List, [], ◌∷◌, ◌++◌, codes}
+use Rattle.std.specs.Prelude.{ℕ, List, [], ◌∷◌, ◌++◌, codes}
 use Rattle.std.specs.Fmt.{decimal}
 use Rattle.node_layout.specs.declared.damage.Kind.{Kind}
 use Rattle.node_layout.specs.declared.damage.Kind.TheVariants as kinds
@@ -61,6 +61,9 @@ memory_line = line (codes "want of memory")
 abbrev pub stream_line : List ℕ
 stream_line = line (codes "stream fault")
 
+abbrev pub random_line : List ℕ
+random_line = line (codes "random fault")
+
 abbrev pub fault_line : Fault → List ℕ
 fault_line faults.NoCommand = no_command_line
 fault_line faults.BadName = ending_line BadName
@@ -72,6 +75,7 @@ fault_line faults.Unbuilt = ending_line Unbuilt
 fault_line faults.Host = host_line
 fault_line faults.Stream = stream_line
 fault_line faults.Memory = memory_line
+fault_line faults.Random = random_line
 
 abbrev pub fault_status : Fault → ℕ
 fault_status faults.NoCommand = 2
@@ -84,6 +88,7 @@ fault_status faults.Unbuilt = ending_status Unbuilt
 fault_status faults.Host = 4
 fault_status faults.Stream = 7
 fault_status faults.Memory = 5
+fault_status faults.Random = 6
 
 -- P of the ending that a refusal or a damage is; a fault of the host, of a stream or of memory is none
 abbrev pub Refuses : (Ending → Type 0) → Fault → Type 0
@@ -97,6 +102,7 @@ Refuses P faults.Unbuilt = P Unbuilt
 Refuses P faults.Host = ⊥
 Refuses P faults.Stream = ⊥
 Refuses P faults.Memory = ⊥
+Refuses P faults.Random = ⊥
 
 -- calls of the host came to this ending by what they answered
 pub record Finished (P : List Answer → Ending → Type 0) (old new : HostState) (ending : Ending) : Type 0 where
@@ -116,3 +122,4 @@ EndsBy P old new faults.Unbuilt = Finished P old new Unbuilt
 EndsBy P old new faults.Host = Rose old.faults new.faults
 EndsBy P old new faults.Stream = ⊥
 EndsBy P old new faults.Memory = ⊥
+EndsBy P old new faults.Random = ⊥

@@ -1,7 +1,14 @@
 pub mod Words
+pub mod Commands
 pub mod Answered
 pub mod Steps
 pub mod Faults
 pub mod Reports
 pub mod Parts
+pub mod Sheet
+pub mod Encrypting
+pub mod SideFile
+pub mod Sealing
+pub mod Crash
 pub mod Run
+pub mod EncryptRun

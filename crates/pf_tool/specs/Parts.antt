@@ -1,5 +1,5 @@
 -- What the parts of `decrypt` come to where nothing is refused.
-use Rattle.std.specs.Prelude.{◌≡◌, ℕ, ◌≤◌, List}
+use Rattle.std.specs.Prelude.{ℕ, ◌≤◌, List}
 use Rattle.pf_io.specs.Host.{Name, HostState}
 use Rattle.pf_io.specs.Names.{IsTarget}
 use Rattle.node_layout.specs.declared.metadata.MetaSecret.{MetaSecret}

@@ -1,5 +1,5 @@
 -- What is said on the log.
-use Rattle.std.specs.Prelude.{◌≡◌, ◌⊎◌, ℕ, ◌≤◌, List, Result, Ok, Err}
+use Rattle.std.specs.Prelude.{◌≡◌, ◌⊎◌, ℕ, List, Result, Ok, Err}
 use Rattle.pf_io.specs.Host.{Both, IsMore}
 use Rattle.pf_io.specs.Counts.{Rose}
 use Rattle.pf_io.specs.Streams.{SinkState, TakesFront}

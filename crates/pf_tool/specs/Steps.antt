@@ -1,5 +1,5 @@
 -- How `decrypt -w KEY -i IN` ends, by what the host answers. Each stage asks the host, and refuses or goes on.
-use Rattle.std.specs.Prelude.{◌≡◌, ◌≢◌, ◌⊎◌, ℕ, ◌<◌, ◌≤◌, List, [], ◌∷◌, ◌++◌, length, take, Option, Some, None}
+use Rattle.std.specs.Prelude.{◌≡◌, ◌≢◌, ◌⊎◌, ℕ, ◌<◌, ◌≤◌, List, [], ◌∷◌, ◌++◌, length, take, Some, None}
 use Rattle.pf_io.specs.Host.{Name, Answer, LengthWas, Gave}
 use Rattle.pf_io.specs.Names.{IsName, IsTarget}
 use Rattle.node_layout.specs.Metadata.{IsPlain, IsMetaText, magic, flag_at, meta_opens}

@@ -11,6 +11,11 @@ texts words = map string_bytes words
 abbrev pub decrypt_words : List ℕ → List ℕ → List (List ℕ)
 decrypt_words key input = codes "decrypt" ∷ codes "-w" ∷ key ∷ codes "-i" ∷ input ∷ []
 
--- `decrypt -w KEY -i IN` of some names is all that there is so far
-abbrev pub IsNoCommand : List (List ℕ) → Type 0
-IsNoCommand words = (key input : List ℕ) → words ≡ decrypt_words key input → ⊥
+-- `encrypt -w KEY -i IN -o OUT`
+abbrev pub encrypt_words : List ℕ → List ℕ → List ℕ → List (List ℕ)
+encrypt_words key input output = codes "encrypt" ∷ codes "-w" ∷ key ∷ codes "-i" ∷ input ∷ codes "-o" ∷ output ∷ []
+
+-- neither of the two, with any names
+pub record IsNoCommand (words : List (List ℕ)) : Type 0 where
+  pub no_decrypt : (key input : List ℕ) → words ≡ decrypt_words key input → ⊥
+  pub no_encrypt : (key input output : List ℕ) → words ≡ encrypt_words key input output → ⊥

@@ -3,11 +3,11 @@ ghost use Rattle.std.specs.Prelude.{◌≡◌, ◌++◌};
 ghost use Rattle.std.specs.Fmt.{decimal};
 ghost use Rattle.pf_tool.specs.Faults.{fault_line, fault_status, line, kind_word, memory_line};
 ghost use Rattle.pf_tool.specs.Reports.{Says, Written};
-ghost use Rattle.pf_tool.specs.declared.fault.Fault.TheVariants.{Host as HostFailed};
+ghost use Rattle.pf_tool.specs.declared.fault.Fault.TheVariants.{Host as HostFailed, Random as RandomFailed, Memory as MemoryFailed};
 ghost use Rattle.pf_tool.specs.declared.fault.Unsaid.TheVariants as unsaids;
 
 use node_layout::Kind;
-use pf_io::{HostFault, Sink, StreamFault};
+use pf_io::{HostFault, Memory, Sink, StreamFault, WordsFault};
 use std::alloc::{AllocError, Global};
 
 /// Why a command ends before its work is done.
@@ -33,6 +33,8 @@ pub(crate) enum Fault<'a> {
     Stream,
     /// There is no memory.
     Memory,
+    /// No random word came.
+    Random,
 }
 
 impl From<HostFault> for Fault<'_> {
@@ -65,6 +67,22 @@ impl From<StreamFault> for Unsaid {
 
     fn from(_: StreamFault) -> Self {
         Unsaid::Stream
+    }
+}
+
+impl From<WordsFault> for Fault<'_> {
+    ghost from_gives = { λ _ fault. fault ≡ RandomFailed };
+
+    fn from(_: WordsFault) -> Self {
+        Fault::Random
+    }
+}
+
+impl From<Memory> for Fault<'_> {
+    ghost from_gives = { λ _ fault. fault ≡ MemoryFailed };
+
+    fn from(_: Memory) -> Self {
+        Fault::Memory
     }
 }
 
@@ -126,6 +144,7 @@ impl Fault<'_> {
             Fault::Damaged(_) => 1,
             Fault::Host => 4,
             Fault::Memory => 5,
+            Fault::Random => 6,
             Fault::Stream => 7,
         }
     }
@@ -144,6 +163,7 @@ impl Fault<'_> {
             Fault::Unbuilt => say_line(log, "refused unbuilt", ""),
             Fault::Host => say_line(log, "host fault", ""),
             Fault::Memory => say_line(log, "want of memory", ""),
+            Fault::Random => say_line(log, "random fault", ""),
             Fault::Stream => say_line(log, "stream fault", ""),
         }
     }

@@ -2,14 +2,18 @@
 #![tactic(auto)]
 
 mod decrypt;
+mod encrypt;
+#[cfg(test)]
+mod encrypt_tests;
 mod fault;
 mod run;
+mod side_file;
 mod steps;
 #[cfg(test)]
 mod tests;
 mod words;
 
-use pf_io::{Bytes, DiskHost, ListWords, MemSource, StdSink};
+use pf_io::{Bytes, DeviceWords, DiskHost, MemSource, StdSink};
 use run::run;
 use std::env;
 use std::io::{self, ErrorKind};
@@ -32,7 +36,10 @@ fn main(rt: HostRuntime) -> ExitCode {
     let mut out = StdSink::new(rt.stdout());
     let mut log = StdSink::new(rt.stderr());
     let mut input = MemSource::new(Bytes::from(Vec::new(alloc)));
-    let mut random = ListWords::new(alloc);
+    let Ok(system) = rt.clone() else {
+        return ExitCode::from(5);
+    };
+    let mut random = DeviceWords::new(system);
     let mut host = DiskHost::new(rt);
     let status = run(
         alloc,

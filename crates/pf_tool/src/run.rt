@@ -1,15 +1,19 @@
 // A run of the program.
 ghost use Rattle.std.specs.Prelude.{◌≡◌, ◌≢◌, ◌≤◌, ◌⊎◌, List, ℕ, Some};
 ghost use Rattle.pf_io.specs.Counts.{Rose};
-ghost use Rattle.pf_io.specs.Host.{Name, Files, KeepsFiles, WhereTold};
-ghost use Rattle.pf_tool.specs.Words.{texts, decrypt_words, IsNoCommand};
+ghost use Rattle.pf_io.specs.Host.{Name, Files, KeepsFiles, WhereTold, files_of};
+ghost use Rattle.pf_tool.specs.Words.{texts, decrypt_words, encrypt_words};
+ghost use Rattle.pf_tool.specs.Commands.{IsNoCommand};
+ghost use Rattle.pf_tool.specs.Crash.{OnlyReads};
 ghost use Rattle.pf_tool.specs.Faults.{fault_line, fault_status, no_command_line};
 ghost use Rattle.pf_tool.specs.Reports.{Reported, Wrote};
 ghost use Rattle.pf_tool.specs.Run.{DecryptRuns, GaveContent, GaveDamage, HonestRun};
+ghost use Rattle.pf_tool.specs.EncryptRun.{EncryptRuns, HonestEncrypt, EncryptDisk, IsNoEncrypt};
 
 use crate::decrypt::decrypt;
+use crate::encrypt::encrypt;
 use crate::fault::{Fault, Unsaid, say_memory};
-use crate::words::command_of;
+use crate::words::{Command, Decrypt, Encrypt, command_of};
 use pf_io::{Host, Sink, Source, Words};
 use std::alloc::Global;
 
@@ -27,8 +31,43 @@ fn report<L: Sink>(alloc: Global, log: &mut L, fault: &Fault<'_>) -> u8
     }
 }
 
+// Runs `decrypt` and says how it ended.
+fn run_decrypt<H: Host, K: Sink, L: Sink>(
+    alloc: Global,
+    command: &Decrypt<'_>,
+    host: &mut H,
+    out: &mut K,
+    log: &mut L,
+) -> u8
+    ensures runs { DecryptRuns command.now.key.now command.now.input.now (H.state host.old) (H.state host.new) (K.state out.old) (K.state out.new) (L.state log.old) (L.state log.new) result }
+    ensures files { KeepsFiles (H.state host.old) (H.state host.new) }
+    ensures disk { OnlyReads (H.state host.old) (H.state host.new) }
+{
+    match decrypt(host, command, out) {
+        Ok(()) => 0,
+        Err(fault) => report(alloc, log, &fault),
+    }
+}
+
+// Runs `encrypt` and says how it ended.
+fn run_encrypt<H: Host, L: Sink, R: Words>(
+    alloc: Global,
+    command: &Encrypt<'_>,
+    host: &mut H,
+    log: &mut L,
+    random: &mut R,
+) -> u8
+    ensures runs { EncryptRuns command.now.key.now command.now.input.now command.now.output.now (H.state host.old) (H.state host.new) (R.state random.old) (R.state random.new) (L.state log.old) (L.state log.new) result }
+    ensures disk { EncryptDisk result command.now.key.now command.now.input.now command.now.output.now (H.state host.old) (H.state host.new) }
+{
+    match encrypt(alloc, host, random, command) {
+        Ok(()) => 0,
+        Err(fault) => report(alloc, log, &fault),
+    }
+}
+
 /// Runs the program on the words after its name, and answers the status that it ends with: 0 done, 1 damaged, 2 no
-/// command, 3 refused, 4 a fault of the host, 5 want of memory, 7 a fault of a stream.
+/// command, 3 refused, 4 a fault of the host, 5 want of memory, 6 a fault of the random words, 7 a fault of a stream.
 pub fn run<H: Host, S: Source, K: Sink, L: Sink, R: Words>(
     alloc: Global,
     words: &[String],
@@ -50,26 +89,43 @@ pub fn run<H: Host, S: Source, K: Sink, L: Sink, R: Words>(
         (λ these. (content : List ℕ) × GaveContent key name these content × Wrote content (K.state out.old) (K.state out.new)) }
     ensures damage { (key name : Name) → texts words.now ≡ decrypt_words key name → result ≡ 1 → WhereTold (H.state host.old) (H.state host.new)
         (λ these. GaveDamage key name these) }
+
+    // `encrypt` ends by what the host answered and which random words came, or because the host, the random words, the
+    // memory or the log failed.
+    ensures encrypts { (key name output : Name) → texts words.now ≡ encrypt_words key name output
+        → EncryptRuns key name output (H.state host.old) (H.state host.new) (R.state random.old) (R.state random.new) (L.state log.old) (L.state log.new) result }
+
     ensures host_fault { result ≡ 4 → Rose (H.state host.old).faults (H.state host.new).faults }
+    ensures random_fault { result ≡ 6 → Rose (R.state random.old).faults (R.state random.new).faults }
     ensures stream_fault { result ≡ 7 → Rose (K.state out.old).faults (K.state out.new).faults ⊎ Rose (L.state log.old).faults (L.state log.new).faults }
-    ensures statuses { (result ≤ 7) × (result ≢ 6) }
+    ensures statuses { result ≤ 7 }
 
     // Over an honest host, where nothing fails, what comes is what the steps give over its files.
-    ensures honest { (key name : Name) (files : Files) → texts words.now ≡ decrypt_words key name → (H.state host.old).files ≡ Some files
+    ensures honest { (key name : Name) (files : Files) → texts words.now ≡ decrypt_words key name → files_of (H.state host.old) ≡ Some files
         → ¬ (Rose (H.state host.old).faults (H.state host.new).faults) → ¬ (Rose (K.state out.old).faults (K.state out.new).faults)
         → ¬ (Rose (L.state log.old).faults (L.state log.new).faults)
         → HonestRun key name files (K.state out.old) (K.state out.new) (L.state log.old) (L.state log.new) result }
+    ensures honest_encrypt { (key name output : Name) (files : Files) → texts words.now ≡ encrypt_words key name output → files_of (H.state host.old) ≡ Some files
+        → ¬ (Rose (H.state host.old).faults (H.state host.new).faults) → ¬ (Rose (R.state random.old).faults (R.state random.new).faults)
+        → ¬ (Rose (L.state log.old).faults (L.state log.new).faults)
+        → HonestEncrypt key name output files (L.state log.old) (L.state log.new) result }
+
+    // On an honest disk, whatever fails: a crash at any moment of `encrypt` leaves the output as it was or whole, and every
+    // other name but the side file's as it was. No other words change anything.
+    ensures disk { (key name output : Name) → texts words.now ≡ encrypt_words key name output → EncryptDisk result key name output (H.state host.old) (H.state host.new) }
+    ensures disk_kept { IsNoEncrypt (texts words.now) → OnlyReads (H.state host.old) (H.state host.new) }
 
     // What stays.
-    ensures files { KeepsFiles (H.state host.old) (H.state host.new) }
+    ensures files { IsNoEncrypt (texts words.now) → KeepsFiles (H.state host.old) (H.state host.new) }
+    ensures undrawn { IsNoEncrypt (texts words.now) → R.state random.new ≡ R.state random.old }
+    ensures unwritten { (key name output : Name) → texts words.now ≡ encrypt_words key name output → K.state out.new ≡ K.state out.old }
     ensures unread { S.state input.new ≡ S.state input.old }
-    ensures undrawn { R.state random.new ≡ R.state random.old }
 {
     let Some(command) = command_of(words) else {
         return report(alloc, log, &Fault::NoCommand);
     };
-    match decrypt(host, &command, out) {
-        Ok(()) => 0,
-        Err(fault) => report(alloc, log, &fault),
+    match command {
+        Command::Decrypt(command) => run_decrypt(alloc, &command, host, out, log),
+        Command::Encrypt(command) => run_encrypt(alloc, &command, host, log, random),
     }
 }

@@ -1,19 +1,18 @@
 use crate::run::run;
-use aes_gcm::{Key, seal_in_place};
-use cmac_kdf::metadata_key;
-use pf_io::{Bytes, ListWords, MemHost, MemSink, MemSource};
+use node_layout::{MetaSecret, PathText, seal_meta};
+use pf_io::{Bytes, ListWords, MemHost, MemSink, MemSource, Memory};
 use std::alloc::{AllocError, Global};
 use std::process::Abort;
 use std::test::Fail;
 
-const USER: [u8; 16] = [0, 1, 2, 3, 4, 5, 6, 7, 8, 9, 10, 11, 12, 13, 14, 15];
+pub(crate) const USER: [u8; 16] = [0, 1, 2, 3, 4, 5, 6, 7, 8, 9, 10, 11, 12, 13, 14, 15];
 
 // What a run wrote, and its status.
 #[derive(Drop)]
-struct Outcome {
-    status: u8,
-    out: MemSink,
-    log: MemSink,
+pub(crate) struct Outcome {
+    pub(crate) status: u8,
+    pub(crate) out: MemSink,
+    pub(crate) log: MemSink,
 }
 
 fn words_of(alloc: Global, line: &str) -> Result<Vec<String>, AllocError> {
@@ -24,55 +23,52 @@ fn words_of(alloc: Global, line: &str) -> Result<Vec<String>, AllocError> {
     Ok(words)
 }
 
-// Runs a line of words; `failing` is the number of a write to the output that fails.
-fn ran(
+// Runs a line of words with this output and these random words.
+pub(crate) fn ran_with(
     alloc: Global,
     host: &mut MemHost,
     line: &str,
-    failing: Option<u64>,
+    output: MemSink,
+    random: &mut ListWords,
 ) -> Result<Outcome, AllocError> {
     let words = words_of(alloc, line)?;
     let mut input = MemSource::new(Bytes::from(Vec::new(alloc)));
-    let mut out = MemSink::new(alloc);
-    if let Some(call) = failing {
-        out.fail_at(call);
-    }
+    let mut out = output;
     let mut log = MemSink::new(alloc);
-    let mut random = ListWords::new(alloc);
-    let status = run(
-        alloc,
-        &words,
-        host,
-        &mut input,
-        &mut out,
-        &mut log,
-        &mut random,
-    );
+    let status = run(alloc, &words, host, &mut input, &mut out, &mut log, random);
     Ok(Outcome { status, out, log })
 }
 
+// Runs a line of words without random words.
+pub(crate) fn ran(alloc: Global, host: &mut MemHost, line: &str) -> Result<Outcome, AllocError> {
+    let mut random = ListWords::new(alloc);
+    ran_with(alloc, host, line, MemSink::new(alloc), &mut random)
+}
+
 // The metadata node of the path `hello.pf` and the content `hello`, under the key `USER`.
-fn hello_node() -> [u8; 4096] {
-    let mut nonce = [0; 32];
-    for (i, byte) in nonce.iter_mut().enumerate() {
-        *byte = i as u8;
-    }
-    let mut part = [0; 3880];
-    part[..8].copy_from_slice(b"hello.pf");
-    part[768] = 5;
-    part[808..813].copy_from_slice(b"hello");
-    let key = Key::new(&metadata_key(&USER, &nonce));
-    let tag = seal_in_place(&key, &[], &mut part);
+fn hello_node(rt: &impl Abort) -> [u8; 4096] {
+    let mut first = [0; 3072];
+    first[..5].copy_from_slice(b"hello");
+    let secret = MetaSecret {
+        path: PathText::new("hello.pf").expect(rt, "a path"),
+        size: 5,
+        root_key: [0; 16],
+        root_tag: [0; 16],
+        first,
+    };
     let mut node = [0; 4096];
-    node[..8].copy_from_slice(b"GRPFTOOL");
-    node[8] = 1;
-    node[10..42].copy_from_slice(&nonce);
-    node[42..58].copy_from_slice(&tag);
-    node[59..3939].copy_from_slice(&part);
+    seal_meta(&USER, &[7; 32], &secret, &mut node);
     node
 }
 
-fn expect(rt: &impl Abort, outcome: &Outcome, status: u8, out: &[u8], log: &[u8], case: &str) {
+pub(crate) fn expect(
+    rt: &impl Abort,
+    outcome: &Outcome,
+    status: u8,
+    out: &[u8],
+    log: &[u8],
+    case: &str,
+) {
     assert_eq!(rt; outcome.status, status, "{case}");
     assert_eq!(rt; outcome.out.bytes(), out, "{case}");
     assert_eq!(rt; outcome.log.bytes(), log, "{case}");
@@ -83,32 +79,47 @@ fn decrypt_writes_what_was_sealed(rt: HostRuntime) -> Result<(), Fail> {
     let alloc = rt.alloc();
     let mut host = MemHost::new(alloc);
     host.put("k", &USER)?;
-    host.put("hello.pf", &hello_node())?;
-    let outcome = ran(alloc, &mut host, "decrypt -w k -i hello.pf", None)?;
+    host.put("hello.pf", &hello_node(&rt))?;
+    let outcome = ran(alloc, &mut host, "decrypt -w k -i hello.pf")?;
     expect(&rt, &outcome, 0, b"hello", b"", "hello");
     assert_eq!(rt; host.starved(), 0);
     Ok(())
 }
 
-#[test]
-fn refusals_name_their_rule(rt: HostRuntime) -> Result<(), Fail> {
-    let alloc = rt.alloc();
+// Puts as many of the node's first bytes as a file.
+fn put_front(
+    host: &mut MemHost,
+    name: &str,
+    node: &[u8; 4096],
+    count: usize,
+) -> Result<(), Memory> {
+    host.put(name, &node[..count.min(4096)])
+}
+
+// A host with files that `decrypt` refuses.
+fn host_of_refused(alloc: Global, node: &[u8; 4096]) -> Result<MemHost, Memory> {
     let mut host = MemHost::new(alloc);
-    let node = hello_node();
     host.put("k", &USER)?;
     host.put("k15", &[7; 15])?;
     host.put("k17", &[7; 17])?;
     host.put("zero", &[0; 16])?;
-    host.put("hello.pf", &node)?;
-    host.put("magic", &node[..8])?;
-    host.put("seven", &node[..7])?;
-    host.put("short", &node[..4095])?;
-    let mut pending = node;
+    host.put("hello.pf", node)?;
+    put_front(&mut host, "magic", node, 8)?;
+    put_front(&mut host, "seven", node, 7)?;
+    put_front(&mut host, "short", node, 4095)?;
+    let mut pending = *node;
     pending[58] = 1;
     host.put("pending", &pending)?;
-    let mut newer = node;
+    let mut newer = *node;
     newer[8] = 2;
     host.put("newer", &newer)?;
+    Ok(host)
+}
+
+#[test]
+fn refusals_name_their_rule(rt: HostRuntime) -> Result<(), Fail> {
+    let alloc = rt.alloc();
+    let mut host = host_of_refused(alloc, &hello_node(&rt))?;
     let rows: [(&str, u8, &str); 14] = [
         ("decode", 2, "usage: unbuilt words\n"),
         ("decrypt -w k", 2, "usage: unbuilt words\n"),
@@ -126,7 +137,7 @@ fn refusals_name_their_rule(rt: HostRuntime) -> Result<(), Fail> {
         ("decrypt -w zero -i hello.pf", 1, "damaged node 0 tag\n"),
     ];
     for (line, status, log) in rows {
-        let outcome = ran(alloc, &mut host, line, None)?;
+        let outcome = ran(alloc, &mut host, line)?;
         expect(&rt, &outcome, status, b"", log.as_bytes(), line);
     }
     Ok(())
@@ -138,15 +149,24 @@ fn faults_name_what_failed(rt: HostRuntime) -> Result<(), Fail> {
     for call in 0..4 {
         let mut host = MemHost::new(alloc);
         host.put("k", &USER)?;
-        host.put("hello.pf", &hello_node())?;
+        host.put("hello.pf", &hello_node(&rt))?;
         host.fail_at(call)?;
-        let outcome = ran(alloc, &mut host, "decrypt -w k -i hello.pf", None)?;
+        let outcome = ran(alloc, &mut host, "decrypt -w k -i hello.pf")?;
         expect(&rt, &outcome, 4, b"", b"host fault\n", "host");
     }
     let mut host = MemHost::new(alloc);
     host.put("k", &USER)?;
-    host.put("hello.pf", &hello_node())?;
-    let outcome = ran(alloc, &mut host, "decrypt -w k -i hello.pf", Some(0))?;
+    host.put("hello.pf", &hello_node(&rt))?;
+    let mut out = MemSink::new(alloc);
+    out.fail_at(0);
+    let mut random = ListWords::new(alloc);
+    let outcome = ran_with(
+        alloc,
+        &mut host,
+        "decrypt -w k -i hello.pf",
+        out,
+        &mut random,
+    )?;
     expect(&rt, &outcome, 7, b"", b"stream fault\n", "output");
     Ok(())
 }

@@ -1,8 +1,9 @@
 // The words of the command line.
-ghost use Rattle.std.specs.Prelude.{◌≡◌, IfSome, IfNone};
-ghost use Rattle.pf_tool.specs.Words.{texts, decrypt_words, IsNoCommand};
+ghost use Rattle.std.specs.Prelude.{◌≡◌, ◌↔◌, IsTrue, IfSome, IfNone, List, ℕ, codes};
+ghost use Rattle.pf_tool.specs.Words.{texts, decrypt_words, encrypt_words};
+ghost use Rattle.pf_tool.specs.Commands.{IsCommandOf, IsNoCommand};
 
-/// What the words ask for.
+/// The words `decrypt -w KEY -i IN`.
 #[derive(Drop)]
 pub struct Decrypt<'a> {
     /// The name of the key file.
@@ -11,10 +12,29 @@ pub struct Decrypt<'a> {
     pub input: &'a str,
 }
 
-/// The command of the words, `decrypt -w KEY -i IN`, or `None` where they are no command.
-pub fn command_of(words: &[String]) -> Option<Decrypt<'_>>
+/// The words `encrypt -w KEY -i IN -o OUT`.
+#[derive(Drop)]
+pub struct Encrypt<'a> {
+    /// The name of the key file.
+    pub key: &'a str,
+    /// The name of the plain file.
+    pub input: &'a str,
+    /// The name of the protected file that is made.
+    pub output: &'a str,
+}
+
+/// What the words ask for.
+#[derive(Drop)]
+pub enum Command<'a> {
+    /// Writes the content of a protected file to the output.
+    Decrypt(Decrypt<'a>),
+    /// Makes a protected file of a plain one.
+    Encrypt(Encrypt<'a>),
+}
+
+fn decrypt_of(words: &[String]) -> Option<Decrypt<'_>>
     ensures found { IfSome result (λ command. texts words.now ≡ decrypt_words command.key.now command.input.now) }
-    ensures none { IfNone result (IsNoCommand (texts words.now)) }
+    ensures none { IfNone result ((key input : List ℕ) → texts words.now ≡ decrypt_words key input → ⊥) }
 {
     let [command, key_option, key, input_option, input] = words else {
         return None;
@@ -29,5 +49,56 @@ pub fn command_of(words: &[String]) -> Option<Decrypt<'_>>
         })
     } else {
         None
+    }
+}
+
+fn is_encrypt(command: &str, key_option: &str, input_option: &str, output_option: &str) -> bool
+    ensures { IsTrue result ↔ (command.now ≡ codes "encrypt") × (key_option.now ≡ codes "-w") × (input_option.now ≡ codes "-i") × (output_option.now ≡ codes "-o") }
+{
+    command == "encrypt" && key_option == "-w" && input_option == "-i" && output_option == "-o"
+}
+
+fn encrypt_of(words: &[String]) -> Option<Encrypt<'_>>
+    ensures found { IfSome result (λ command. texts words.now ≡ encrypt_words command.key.now command.input.now command.output.now) }
+    ensures none { IfNone result ((key input output : List ℕ) → texts words.now ≡ encrypt_words key input output → ⊥) }
+{
+    let [
+        command,
+        key_option,
+        key,
+        input_option,
+        input,
+        output_option,
+        output,
+    ] = words
+    else {
+        return None;
+    };
+    if !is_encrypt(
+        command.as_str(),
+        key_option.as_str(),
+        input_option.as_str(),
+        output_option.as_str(),
+    ) {
+        return None;
+    }
+    Some(Encrypt {
+        key: key.as_str(),
+        input: input.as_str(),
+        output: output.as_str(),
+    })
+}
+
+/// The command of the words, or `None` where they are none.
+pub fn command_of(words: &[String]) -> Option<Command<'_>>
+    ensures found { IfSome result (IsCommandOf (texts words.now)) }
+    ensures none { IfNone result (IsNoCommand (texts words.now)) }
+{
+    if let Some(command) = decrypt_of(words) {
+        return Some(Command::Decrypt(command));
+    }
+    match encrypt_of(words) {
+        Some(command) => Some(Command::Encrypt(command)),
+        None => None,
     }
 }

@@ -1,13 +1,11 @@
-use Rattle.std.proofs.Common.{◌≡◌, ◌≤◌, ℕ, List, [], ◌∷◌, ◌++◌, length, take, refl, ap, ◌∙◌, sym, arith, rules, subst}
+use Rattle.std.proofs.Common.{[], take, refl, sym, arith, subst}
 use Rattle.std.proofs.lemmas.Result.{err_from_is_err_and}
-use Rattle.pf_io.specs.Host.{Answer, HostState}
-use Rattle.pf_tool.specs.Answered.{Answered}
-use Rattle.pf_tool.specs.Faults.{EndsBy, Finished}
-use Rattle.pf_tool.specs.Steps.{Ending, Done, KeyRefused, NodeRefused, Opens, OpensTo, Decrypts, key_refused, key_read, node_refused, node_read, content_whole, key_answers, node_answers}
+use Rattle.pf_tool.specs.Steps.{KeyRefused, NodeRefused, OpensTo, Decrypts, key_refused, key_read, node_refused, node_read, content_whole}
 use Rattle.pf_tool.specs.Run.{DecryptFails, by_host, by_output}
 use Rattle.pf_tool.specs.declared.fault.Fault.{Fault}
 use Rattle.pf_tool.proofs.Answering.{answered_none, answered_then}
 use Rattle.pf_tool.proofs.Ending.{refusal_ends, ends_after}
+use Rattle.pf_tool.proofs.OnlyReading.{read_then}
 use Rattle.pf_tool.proofs.decrypt.decrypt.Goals as goal
 
 pub returns-in_err-user-clause-failed : goal.returns-in_err-user-clause-failed
@@ -81,3 +79,15 @@ returns-in-Err-clause-failed g c =
       came = key_read _ _ c.in_ok-user.ensures.key refl (node_read there.size _ there.is_target refl there.is_whole (content_whole _ _ _ _ _ held.opens held.small refl));
     })
     (record { rose = c.in-Err.ensures.cause.rose; front = c.in-Err.ensures.taken }) refl
+
+pub returns-in_err-node-clause-disk : goal.returns-in_err-node-clause-disk
+returns-in_err-node-clause-disk g c = read_then _ _ _ c.read_key.ensures.disk c.read_node.ensures.disk
+
+pub returns-in_err-secret-clause-disk : goal.returns-in_err-secret-clause-disk
+returns-in_err-secret-clause-disk g c = read_then _ _ _ c.read_key.ensures.disk c.read_node.ensures.disk
+
+pub returns-in-Ok-clause-disk : goal.returns-in-Ok-clause-disk
+returns-in-Ok-clause-disk g c = read_then _ _ _ c.read_key.ensures.disk c.read_node.ensures.disk
+
+pub returns-in-Err-clause-disk : goal.returns-in-Err-clause-disk
+returns-in-Err-clause-disk g c = read_then _ _ _ c.read_key.ensures.disk c.read_node.ensures.disk

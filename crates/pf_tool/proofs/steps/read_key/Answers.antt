@@ -1,10 +1,10 @@
-use Rattle.std.proofs.Common.{◌≡◌, ◌<◌, ◌≤◌, ℕ, List, [], ◌∷◌, ◌++◌, Some, Option, take, length, refl, ap, ◌∙◌, sym, arith, rules}
+use Rattle.std.proofs.Common.{◌≡◌, ℕ, [], ◌∷◌, Some, Option, take, length, refl, ap, ◌∙◌, sym, arith, rules}
 use Rattle.std.proofs.lemmas.List.{length-take-le}
-use Rattle.pf_io.specs.Host.{Answer, LengthWas, Gave}
+use Rattle.pf_io.specs.Host.{LengthWas, Gave}
 use Rattle.pf_io.specs.Names.{IsName}
-use Rattle.pf_tool.specs.Answered.{Answered}
-use Rattle.pf_tool.specs.Steps.{key_answers, key_length, key_short, KeyFile}
+use Rattle.pf_tool.specs.Steps.{key_length, key_short, KeyFile}
 use Rattle.pf_tool.proofs.Answering.{answered_length, answered_bytes, answered_then}
+use Rattle.pf_tool.proofs.OnlyReading.{read_once, read_on}
 use Rattle.pf_tool.proofs.steps.read_key.Goals as goal
 
 pub returns-then-length-ne16-clause-ended : goal.returns-then-length-ne16-clause-ended
@@ -35,3 +35,21 @@ returns-then-given-lt16-clause-ended g c =
       answered = answered_then _ _ old mid new asked read;
       came = key_short bytes named (omega (arith, long)) (ap (λ (o : Option ℕ). LengthWas c.args.name.now o ∷ Gave c.args.name.now 0 16 bytes ∷ []) sixteen) (ap KeyFile (sym long));
     }
+
+pub returns-in_err-length-clause-disk : goal.returns-in_err-length-clause-disk
+returns-in_err-length-clause-disk g c = read_once _ _ c.len.ensures.disk
+
+pub returns-in_default-clause-disk : goal.returns-in_default-clause-disk
+returns-in_default-clause-disk g c = read_once _ _ c.len.ensures.disk
+
+pub returns-then-length-ne16-clause-disk : goal.returns-then-length-ne16-clause-disk
+returns-then-length-ne16-clause-disk g c = read_once _ _ c.len.ensures.disk
+
+pub returns-in_err-given-clause-disk : goal.returns-in_err-given-clause-disk
+returns-in_err-given-clause-disk g c = read_on _ _ _ (read_once _ _ c.len.ensures.disk) c.read_at.ensures.disk
+
+pub returns-then-given-lt16-clause-disk : goal.returns-then-given-lt16-clause-disk
+returns-then-given-lt16-clause-disk g c = read_on _ _ _ (read_once _ _ c.len.ensures.disk) c.read_at.ensures.disk
+
+pub returns-clause-disk : goal.returns-clause-disk
+returns-clause-disk g c = read_on _ _ _ (read_once _ _ c.len.ensures.disk) c.read_at.ensures.disk

@@ -1,14 +1,14 @@
-use Rattle.std.proofs.Common.{◌≡◌, ◌≤◌, ℕ, List, [], ◌∷◌, length, take, refl, ap, ◌∙◌, sym, arith, rules, subst}
+use Rattle.std.proofs.Common.{◌≡◌, ℕ, List, take, refl, sym, arith, rules, subst}
 use Rattle.std.proofs.lemmas.Result.{err_from_is_err_and}
 use Rattle.std.proofs.lemmas.List.{take_all, length-take}
 use Rattle.pf_io.specs.Names.{IsTarget}
-use Rattle.pf_tool.specs.Answered.{Answered}
 use Rattle.pf_tool.specs.Faults.{EndsBy}
 use Rattle.pf_tool.specs.Parts.{HasNode}
-use Rattle.pf_tool.specs.Steps.{node_answers, NodeRefused, node_fails, NodeFails, IsWhole}
+use Rattle.pf_tool.specs.Steps.{NodeRefused, node_fails, NodeFails}
 use Rattle.pf_tool.specs.declared.fault.Fault.{Fault}
 use Rattle.pf_tool.proofs.Answering.{answered_length, answered_bytes, answered_node}
 use Rattle.pf_tool.proofs.Ending.{refusal_ends}
+use Rattle.pf_tool.proofs.OnlyReading.{read_once, read_on}
 use Rattle.pf_tool.proofs.steps.read_node.Goals as goal
 
 pub returns-in_err-check_node-clause-ended : goal.returns-in_err-check_node-clause-ended
@@ -42,3 +42,18 @@ returns-clause-read g c =
       answered = answered_node _ _ _ _ old mid new asked read c.in-Some.is;
       is_whole = whole;
     })
+
+pub returns-in_err-len-clause-disk : goal.returns-in_err-len-clause-disk
+returns-in_err-len-clause-disk g c = read_once _ _ c.len.ensures.disk
+
+pub returns-in_default-clause-disk : goal.returns-in_default-clause-disk
+returns-in_default-clause-disk g c = read_once _ _ c.len.ensures.disk
+
+pub returns-in_err-given-clause-disk : goal.returns-in_err-given-clause-disk
+returns-in_err-given-clause-disk g c = read_on _ _ _ (read_once _ _ c.len.ensures.disk) c.read_at.ensures.disk
+
+pub returns-in_err-check_node-clause-disk : goal.returns-in_err-check_node-clause-disk
+returns-in_err-check_node-clause-disk g c = read_on _ _ _ (read_once _ _ c.len.ensures.disk) c.read_at.ensures.disk
+
+pub returns-clause-disk : goal.returns-clause-disk
+returns-clause-disk g c = read_on _ _ _ (read_once _ _ c.len.ensures.disk) c.read_at.ensures.disk
