@@ -1,5 +1,5 @@
 -- Facts of every byte, each by one computed test of all bytes.
-use Rattle.std.proofs.Common.{◌≡◌, ℕ, zero, suc, ◌<◌, ◌≢◌, map, get_or, refl, ap, ◌∙◌, sym, arith, bit_xor}
+use Rattle.std.proofs.Common.{◌≡◌, ℕ, zero, suc, ◌<◌, ◌≢◌, map, get_or, refl, ap, ◌∙◌, sym, arith}
 use Rattle.std.proofs.lemmas.List.FromFn.{get_or-map-range_with_len}
 use Rattle.std.specs.List.{range_with_len}
 use Rattle.aes_gcm.specs.Field.{times, power, inverse}
@@ -8,13 +8,6 @@ use Rattle.aes_gcm.specs.Field.{times, power, inverse}
 pub same_from_tables : (f g : ℕ → ℕ) (n : ℕ) → map f (range_with_len 0 n) ≡ map g (range_with_len 0 n) → (x : ℕ) → x < n → f x ≡ g x
 same_from_tables f g n same x h =
     sym (get_or-map-range_with_len f 0 n x x 0 h (omega arith)) ∙ ap (λ t. get_or t x 0) same ∙ get_or-map-range_with_len g 0 n x x 0 h (omega arith)
-
-tripled : map (λ b. bit_xor (times 2 b) b) (range_with_len 0 256) ≡ map (times 3) (range_with_len 0 256)
-unfolding times
-tripled = refl
-
-pub times_3 : (b : ℕ) → b < 256 → bit_xor (times 2 b) b ≡ times 3 b
-times_3 = same_from_tables _ _ 256 tripled
 
 products : map (λ k. times (suc k) (inverse (suc k))) (range_with_len 0 255) ≡ map (λ k. 1) (range_with_len 0 255)
 unfolding times power inverse

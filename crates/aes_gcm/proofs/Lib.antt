@@ -9,3 +9,7 @@ pub mod HashedBlocks
 pub mod Schedule
 pub mod Sealed
 pub mod ZeroKey
+pub mod Shuffles
+pub mod TowerTables
+pub mod TowerSums
+pub mod TowerRounds

@@ -1,5 +1,6 @@
 -- Lists of known length, written out by their elements.
-use Rattle.std.proofs.Common.{◌≡◌, ℕ, ◌≤◌, List, [], ◌∷◌, get_or, map, length, take, refl, arith}
+use Rattle.std.proofs.Common.{◌≡◌, ℕ, ◌≤◌, List, [], ◌∷◌, get_or, map, length, take, refl, sym, ◌∙◌, arith}
+use Rattle.std.proofs.lemmas.List.{take_all}
 use Rattle.std.proofs.lemmas.List.FromFn.{fill_by_all}
 use Rattle.std.specs.List.{range_with_len}
 
@@ -12,3 +13,6 @@ first_four (a ∷ []) d h = absurd (omega arith)
 first_four (a ∷ b ∷ []) d h = absurd (omega arith)
 first_four (a ∷ b ∷ c ∷ []) d h = absurd (omega arith)
 first_four (a ∷ b ∷ c ∷ e ∷ xs) d h = refl
+
+pub four_written_out : {A : Type 0} (xs : List A) (d : A) → length xs ≡ 4 → xs ≡ get_or xs 0 d ∷ get_or xs 1 d ∷ get_or xs 2 d ∷ get_or xs 3 d ∷ []
+four_written_out xs d h = sym (take_all 4 xs (omega arith)) ∙ first_four xs d (omega arith)

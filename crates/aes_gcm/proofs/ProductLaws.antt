@@ -16,14 +16,14 @@ xor_swap a b c d =
     ∙ sym (xor_assoc a c (bit_xor b d))
 
 -- v where the bit c is 1
-abbrev chosen : ℕ → ℕ → ℕ
+abbrev pub chosen : ℕ → ℕ → ℕ
 chosen c v = if c == 1 then v else 0
 
 chosen-xor : (c v w : ℕ) → chosen c (bit_xor v w) ≡ bit_xor (chosen c v) (chosen c w)
 chosen-xor c v w =
     elim (c == 1) as (λ t. (if t then bit_xor v w else 0) ≡ bit_xor (if t then v else 0) (if t then w else 0)) [ true ↦ refl | false ↦ refl ]
 
-chosen-sum : (c d v : ℕ) → c < 2 → d < 2 → chosen ((c + d) % 2) v ≡ bit_xor (chosen c v) (chosen d v)
+pub chosen-sum : (c d v : ℕ) → c < 2 → d < 2 → chosen ((c + d) % 2) v ≡ bit_xor (chosen c v) (chosen d v)
 chosen-sum zero zero v h k = refl
 chosen-sum zero (suc zero) v h k = sym (xor_zero_l v)
 chosen-sum (suc zero) zero v h k = sym (xor_zero_r v)

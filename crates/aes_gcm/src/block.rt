@@ -1,25 +1,28 @@
 //! AES-128 on one block.
-ghost use Rattle.std.specs.Prelude.{◌≡◌, ℕ, ◌<◌, ◌≤◌, List, [], ◌++◌, map, slice_index_or};
-ghost use Rattle.std.specs.List.{range_with_len};
-ghost use Rattle.aes_gcm.specs.Cipher.{cipher, mix_columns, round_key, schedule, schedule_core, shift_rows, sub_bytes, xor_bytes};
+ghost use Rattle.std.specs.Prelude.{◌≡◌, ℕ, ◌<◌, ◌≤◌, List, ◌++◌, map, bit_xor};
+ghost use Rattle.aes_gcm.specs.Field.{sub_byte};
+ghost use Rattle.aes_gcm.specs.Cipher.{cipher, four_words, mix_columns, schedule, schedule_core, shift_rows, sub_bytes, xor_bytes};
+ghost use Rattle.aes_gcm.specs.Tower.{absorbed, standard};
+ghost use Rattle.aes_gcm.specs.KeptKey.{KeptKeys, shifted_and_mixed};
 
-use crate::sbox::{double, sub_byte, triple};
+use crate::tower::{once_and_twice, sub_bytes, sub_linear, to_tower};
 use std::marker::Model;
 use std::simd::prelude::*;
 
-/// An AES-128 key of 16 bytes, with its eleven round keys.
+/// An AES-128 key of 16 bytes, with its eleven round keys as the rounds use them.
 #[derive(Drop)]
 pub struct Key {
-    round_keys: [[u8; 16]; 11],
+    first: u8x16,
+    middle: [[u8; 16]; 9],
+    last: u8x16,
 }
 
 impl Model for Key {
     ghost Value = { List ℕ };
 
-    ghost view = { λ key. slice_index_or key.round_keys 0 [] };
+    ghost view = { λ key. map standard key.first };
 
-    ghost invariant = { λ key. key.round_keys
-        ≡ map (round_key (slice_index_or key.round_keys 0 [])) (range_with_len 0 11) };
+    ghost invariant = { λ key. KeptKeys (map standard key.first) key.middle key.last };
 }
 
 impl Key {
@@ -28,12 +31,15 @@ impl Key {
         ensures { result ≡ bytes.now }
     {
         let words = expand_key(bytes);
-        let mut round_keys = [[0; 16]; 11];
-        for round in 0..11 {
-            let i = 4 * round;
-            round_keys[round] = join_words(words[i], words[i + 1], words[i + 2], words[i + 3]);
+        let mut middle = [[0; 16]; 9];
+        for i in 0..9usize {
+            middle[i] = absorb(round_key(&words, i + 1)).to_array();
         }
-        Key { round_keys }
+        Key {
+            first: to_tower(u8x16::from_array(*bytes)),
+            middle,
+            last: u8x16::splat(0x63) ^ round_key(&words, 10),
+        }
     }
 }
 
@@ -47,15 +53,27 @@ fn schedule_core(i: usize, word: [u8; 4]) -> [u8; 4]
     ensures { result ≡ schedule_core i word }
 {
     if i % 4 == 0 {
+        let substituted = sub_word([word[1], word[2], word[3], word[0]]);
         [
-            sub_byte(word[1]) ^ ROUND_CONSTANTS[i / 4 - 1],
-            sub_byte(word[2]),
-            sub_byte(word[3]),
-            sub_byte(word[0]),
+            substituted[0] ^ ROUND_CONSTANTS[i / 4 - 1],
+            substituted[1],
+            substituted[2],
+            substituted[3],
         ]
     } else {
         word
     }
+}
+
+// SubWord (FIPS 197, 5.2).
+fn sub_word(word: [u8; 4]) -> [u8; 4]
+    ensures { result ≡ map sub_byte word }
+{
+    let [first, second, third, fourth, ..] = sub_bytes(u8x16::from_array([
+        word[0], word[1], word[2], word[3], 0, 0, 0, 0, 0, 0, 0, 0, 0, 0, 0, 0,
+    ]))
+    .to_array();
+    [first, second, third, fourth]
 }
 
 fn xor_words(a: [u8; 4], b: [u8; 4]) -> [u8; 4]
@@ -83,63 +101,108 @@ fn expand_key(bytes: &[u8; 16]) -> [[u8; 4]; 44]
     words
 }
 
-fn join_words(first: [u8; 4], second: [u8; 4], third: [u8; 4], fourth: [u8; 4]) -> [u8; 16]
-    ensures { result ≡ first ++ second ++ third ++ fourth }
+// The round key of four words of the schedule.
+fn round_key(words: &[[u8; 4]; 44], round: usize) -> u8x16
+    requires { round < 11 }
+    ensures { result ≡ four_words words.now round }
 {
-    [
-        first[0], first[1], first[2], first[3], second[0], second[1], second[2], second[3],
-        third[0], third[1], third[2], third[3], fourth[0], fourth[1], fourth[2], fourth[3],
-    ]
+    let i = 4 * round;
+    join_words(words[i], words[i + 1], words[i + 2], words[i + 3])
 }
 
-// SubBytes (FIPS 197, 5.1.1).
-fn sub_bytes(state: [u8; 16]) -> [u8; 16]
-    ensures { result ≡ sub_bytes state }
+fn join_words(first: [u8; 4], second: [u8; 4], third: [u8; 4], fourth: [u8; 4]) -> u8x16
+    ensures { result ≡ first ++ second ++ third ++ fourth }
 {
-    let mut substituted = [0; 16];
-    for i in 0..16 {
-        substituted[i] = sub_byte(state[i]);
-    }
-    substituted
+    u8x16::from_array([
+        first[0], first[1], first[2], first[3], second[0], second[1], second[2], second[3],
+        third[0], third[1], third[2], third[3], fourth[0], fourth[1], fourth[2], fourth[3],
+    ])
 }
 
 // ShiftRows (FIPS 197, 5.1.2): row r of column c comes from column c + r.
-fn shift_rows(state: [u8; 16]) -> [u8; 16]
+#[inline(always)]
+fn shift_rows(state: u8x16) -> u8x16
     ensures { result ≡ shift_rows state }
 {
-    u8x16::from_array(state)
-        .swizzle([0, 5, 10, 15, 4, 9, 14, 3, 8, 13, 2, 7, 12, 1, 6, 11])
-        .to_array()
+    state.swizzle([0, 5, 10, 15, 4, 9, 14, 3, 8, 13, 2, 7, 12, 1, 6, 11])
 }
 
-// MixColumns (FIPS 197, 5.1.3).
-fn mix_columns(state: [u8; 16]) -> [u8; 16]
-    ensures { result ≡ mix_columns state }
+// ShiftRows and MixColumns (FIPS 197, 5.1.3), where `once` is the state and `twice` its products with 2.
+#[inline(always)]
+fn shift_and_mix(once: u8x16, twice: u8x16) -> u8x16
+    ensures { result ≡ shifted_and_mixed once twice }
 {
-    let rows = u8x16::from_array(state);
-    let next_rows = rows.swizzle([1, 2, 3, 0, 5, 6, 7, 4, 9, 10, 11, 8, 13, 14, 15, 12]);
-    let opposite_rows = rows.swizzle([2, 3, 0, 1, 6, 7, 4, 5, 10, 11, 8, 9, 14, 15, 12, 13]);
-    let last_rows = rows.swizzle([3, 0, 1, 2, 7, 4, 5, 6, 11, 8, 9, 10, 15, 12, 13, 14]);
-    ((double(rows) ^ triple(next_rows)) ^ (opposite_rows ^ last_rows)).to_array()
+    let next = (once ^ twice).swizzle([5, 10, 15, 0, 9, 14, 3, 4, 13, 2, 7, 8, 1, 6, 11, 12]);
+    let opposite = once.swizzle([10, 15, 0, 5, 14, 3, 4, 9, 2, 7, 8, 13, 6, 11, 12, 1]);
+    let last = once.swizzle([15, 0, 5, 10, 3, 4, 9, 14, 7, 8, 13, 2, 11, 12, 1, 6]);
+    (shift_rows(twice) ^ next) ^ (opposite ^ last)
 }
 
-// AddRoundKey (FIPS 197, 5.1.4).
-fn add_round_key(state: [u8; 16], round_key: [u8; 16]) -> [u8; 16]
-    ensures { result ≡ xor_bytes state round_key }
+// A round key as it is kept: in the basis of the tower, with the S-box's constant.
+fn absorb(round_key: u8x16) -> u8x16
+    ensures { map absorbed result ≡ round_key }
 {
-    (u8x16::from_array(state) ^ u8x16::from_array(round_key)).to_array()
+    to_tower(u8x16::splat(0x63) ^ round_key)
+}
+
+// The first AddRoundKey (FIPS 197, 5.1.4), to the basis of the tower.
+#[inline(always)]
+fn first_round(block: u8x16, key: u8x16) -> u8x16
+    ensures { map standard result ≡ xor_bytes block (map standard key) }
+{
+    to_tower(block) ^ key
+}
+
+// A round of the cipher (FIPS 197, 5.1) in the basis of the tower.
+#[inline(always)]
+fn round(state: u8x16, key: u8x16) -> u8x16
+    ensures { map standard result ≡ xor_bytes (mix_columns (shift_rows (sub_bytes (map standard state)))) (map absorbed key) }
+{
+    let (once, twice) = once_and_twice(state);
+    shift_and_mix(once, twice) ^ key
+}
+
+// The last round, which mixes no columns, and leaves the basis of the tower.
+#[inline(always)]
+fn last_round(state: u8x16, key: u8x16) -> u8x16
+    ensures { result ≡ xor_bytes (shift_rows (sub_bytes (map standard state))) (map (bit_xor 0x63) key) }
+{
+    shift_rows(sub_linear(state)) ^ key
 }
 
 /// AES-128 of one block (FIPS 197, 5.1).
 pub fn encrypt_block(key: &Key, block: &[u8; 16]) -> [u8; 16]
     ensures { result ≡ cipher key.now block.now }
 {
-    let mut state = add_round_key(*block, key.round_keys[0]);
-    for round in 1..10 {
-        let mixed = mix_columns(shift_rows(sub_bytes(state)));
-        state = add_round_key(mixed, key.round_keys[round]);
+    let mut state = first_round(u8x16::from_array(*block), key.first);
+    for i in 0..9usize {
+        state = round(state, u8x16::from_array(key.middle[i]));
     }
-    add_round_key(shift_rows(sub_bytes(state)), key.round_keys[10])
+    last_round(state, key.last).to_array()
+}
+
+/// AES-128 of each of four blocks, whose steps are independent.
+pub(crate) fn encrypt_four(key: &Key, blocks: [u8x16; 4]) -> [u8x16; 4]
+    ensures { result ≡ map (cipher key.now) blocks }
+{
+    let [mut first, mut second, mut third, mut fourth] = blocks;
+    first = first_round(first, key.first);
+    second = first_round(second, key.first);
+    third = first_round(third, key.first);
+    fourth = first_round(fourth, key.first);
+    for i in 0..9usize {
+        let round_key = u8x16::from_array(key.middle[i]);
+        first = round(first, round_key);
+        second = round(second, round_key);
+        third = round(third, round_key);
+        fourth = round(fourth, round_key);
+    }
+    [
+        last_round(first, key.last),
+        last_round(second, key.last),
+        last_round(third, key.last),
+        last_round(fourth, key.last),
+    ]
 }
 
 #[cfg(test)]

@@ -2,8 +2,8 @@
 ghost use Rattle.std.specs.Prelude.{◌≡◌, ◌↔◌, ◌≤◌, ℕ, length, List, IsFalse, IsSome, IsTrue, Some};
 ghost use Rattle.aes_gcm.specs.Gcm.{tag_of, seal, opens};
 
-use crate::block::{Key, encrypt_block};
-use crate::counter::{add_key_stream, counter_block};
+use crate::block::Key;
+use crate::counter::{add_key_stream, four_pads};
 use crate::ghash::hash;
 use std::simd::prelude::*;
 
@@ -12,10 +12,9 @@ fn tag_of(key: &Key, aad: &[u8], text: &[u8]) -> [u8; 16]
     requires text { length text.now ≤ 65536 }
     ensures { result ≡ tag_of key.now aad.now text.now }
 {
-    let hash_key = u128::from_be_bytes(encrypt_block(key, &[0; 16]));
-    let mask = encrypt_block(key, &counter_block(1));
-    let hash = hash(hash_key, aad, text).to_be_bytes();
-    (u8x16::from_array(hash) ^ u8x16::from_array(mask)).to_array()
+    let [hash_key, mask, _, _] = four_pads(key, 0);
+    let hash = hash(u128::from_be_bytes(hash_key.to_array()), aad, text);
+    (u8x16::from_array(hash.to_be_bytes()) ^ mask).to_array()
 }
 
 // Looks at all 16 bytes, wherever the first difference is.

@@ -1,5 +1,5 @@
 //! GHASH of SP 800-38D: products of blocks, by a table of multiples of the hash key.
-ghost use Rattle.std.specs.Prelude.{◌≡◌, ◌*◌, ◌-◌, ◌≤◌, ◌++◌, length, map, replicate};
+ghost use Rattle.std.specs.Prelude.{◌≡◌, ◌*◌, ◌-◌, ◌≤◌, ◌++◌, length, map, replicate, bit_xor};
 ghost use Rattle.std.specs.List.{fold};
 ghost use Rattle.std.specs.Int.{from_be_bytes, w128};
 ghost use Rattle.aes_gcm.specs.Ghash.{times_x, sum_of_shifts, product, horner_step, ghash};
@@ -51,18 +51,17 @@ fn row(v: u128) -> [u128; 16]
     ]
 }
 
+// In place, so that no copy of the table is made.
 #[inline(always)]
-fn table_of(h: u128) -> Table
-    ensures table { IsTable result }
-    ensures factor { factor result ≡ h }
+fn fill_table(table: &mut Table, h: u128)
+    ensures table { IsTable table.new }
+    ensures factor { factor table.new ≡ h }
 {
-    let mut table = [[0; 16]; 32];
     let mut v = h;
     for k in 0..32usize {
         table[k] = row(v);
         v = times_x(times_x(times_x(times_x(v))));
     }
-    table
 }
 
 // The product of half a block, whose bits the 16 rows from `first` on are for.
@@ -79,26 +78,38 @@ fn times_half(table: &Table, first: usize, half: u64) -> u128
     sum
 }
 
+// The product of a block in two parts, those of its higher and of its lower half.
+#[inline(always)]
+fn halves(table: &Table, block: u128) -> (u128, u128)
+    requires { IsTable table.now }
+    ensures { bit_xor result.0 result.1 ≡ product block (factor table.now) }
+{
+    let high = (block >> 64) as u64;
+    let low = (block & 0xffff_ffff_ffff_ffff) as u64;
+    (times_half(table, 0, high), times_half(table, 16, low))
+}
+
 #[inline(always)]
 fn times(table: &Table, block: u128) -> u128
     requires { IsTable table.now }
     ensures { result ≡ product block (factor table.now) }
 {
-    let high = (block >> 64) as u64;
-    let low = (block & 0xffff_ffff_ffff_ffff) as u64;
-    times_half(table, 0, high) ^ times_half(table, 16, low)
+    let (high, low) = halves(table, block);
+    high ^ low
 }
 
-// Horner's rule: the hash of what `hash` is of, and then the blocks.
+// Horner's rule: the hash of what `hash` is of, and then the blocks. The hash is kept in two parts, so that
+// the sums of both are formed at the same time.
 fn add_blocks(table: &Table, hash: u128, blocks: &[[u8; 16]]) -> u128
     requires { IsTable table.now }
     ensures { result ≡ fold (horner_step (factor table.now)) hash (map (from_be_bytes w128) blocks.now) }
 {
-    let mut sum = hash;
+    let mut high = hash;
+    let mut low = 0;
     for block in blocks {
-        sum = times(table, sum ^ u128::from_be_bytes(*block));
+        (high, low) = halves(table, high ^ low ^ u128::from_be_bytes(*block));
     }
-    sum
+    high ^ low
 }
 
 // A last block, with zeros at its end.
@@ -131,7 +142,8 @@ pub fn hash(h: u128, aad: &[u8], text: &[u8]) -> u128
     requires text { length text.now ≤ 65536 }
     ensures { result ≡ ghash h (hashed_blocks aad.now text.now) }
 {
-    let table = table_of(h);
+    let mut table = [[0; 16]; 32];
+    fill_table(&mut table, h);
     let hash = add_padded(&table, 0, aad);
     let hash = add_padded(&table, hash, text);
     let lengths = ((8 * aad.len()) as u128) << 64 | (8 * text.len()) as u128;

@@ -5,7 +5,10 @@ mod block;
 mod counter;
 mod gcm;
 mod ghash;
+#[cfg(test)]
+mod plain;
 mod sbox;
+mod tower;
 mod vectors;
 
 pub use block::{Key, encrypt_block};

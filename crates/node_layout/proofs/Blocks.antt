@@ -1,5 +1,5 @@
 -- A sealed metadata node, by its places.
-use Rattle.std.proofs.Common.{◌≡◌, ℕ, ◌+◌, List, [], ◌∷◌, ◌++◌, length, get_or, take, drop, replicate, refl, sym, ap, ◌∙◌, arith, append_assoc}
+use Rattle.std.proofs.Common.{◌≡◌, ℕ, List, [], ◌∷◌, ◌++◌, length, get_or, take, drop, replicate, refl, sym, ap, ◌∙◌, arith, append_assoc}
 use Rattle.std.specs.Prelude.{Some}
 use Rattle.std.proofs.lemmas.List.{length-append, length-replicate, get_or-take, get_or-drop}
 use Rattle.aes_gcm.specs.Gcm.{seal, opens}
@@ -49,7 +49,7 @@ length-sealed_tag user nonce text h = length-tag (metadata_key user nonce) [] te
 
 pub IsPlain-meta_block : (user nonce text : List ℕ) → IsPlain (meta_block user nonce text)
 unfolding meta_block
-IsPlain-meta_block user nonce text = record { magic_is = refl; major = refl; minor = refl; }
+IsPlain-meta_block user nonce text = record { magic_is = refl; major = refl; minor = refl }
 
 pub nonce_at-meta_block : (user nonce text : List ℕ) → length nonce ≡ 32 → nonce_at (meta_block user nonce text) ≡ nonce
 unfolding meta_block

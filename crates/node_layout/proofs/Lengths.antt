@@ -36,17 +36,16 @@ unfolding schedule
 schedule_words zero key h = (
   refl,
   four_words_are (take 4 key) (take 4 (drop 4 key)) (take 4 (drop 8 key)) (take 4 (drop 12 key))
-  (length-take-le 4 key (omega arith)) (length-piece 4 4 key (omega arith)) (length-piece 8 4 key (omega arith)) (length-piece 12 4 key (omega arith)),
+      (length-take-le 4 key (omega arith)) (length-piece 4 4 key (omega arith)) (length-piece 8 4 key (omega arith)) (length-piece 12 4 key (omega arith)),
 )
 schedule_words (suc n) key h =
     let words = schedule n key in
     let before = schedule_words n key h in
     let long : length words ≡ n + 4 = before.0 in
-    let is : (i : ℕ) → i < length words → IsWord (get_or words i []) = λ i lt. All-get_or IsWord words i [] lt before.1 in
-    (
+    let is : (i : ℕ) → i < length words → IsWord (get_or words i []) = λ i lt. All-get_or IsWord words i [] lt before.1 in (
       omega (arith, length-append {A = List ℕ}),
       All-push IsWord words _ before.1
-      (length-xored 4 _ _ (is (length words - 4) (omega arith)) (core_is_word (length words) _ (is (length words - 1) (omega arith)))),
+          (length-xored 4 _ _ (is (length words - 4) (omega arith)) (core_is_word (length words) _ (is (length words - 1) (omega arith)))),
     )
 
 length-round_key : (key : List ℕ) → length key ≡ 16 → length (round_key key 10) ≡ 16

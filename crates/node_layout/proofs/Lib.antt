@@ -3,3 +3,4 @@ pub mod Texts
 pub mod Lengths
 pub mod Blocks
 pub mod Rows
+pub mod Secrets

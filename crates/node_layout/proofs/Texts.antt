@@ -3,7 +3,7 @@ use Rattle.std.proofs.Common.{◌≡◌, ℕ, ◌+◌, ◌-◌, ◌<◌, ◌≤�
 use Rattle.std.proofs.lemmas.Bool.{cases_lt}
 use Rattle.std.specs.Int.{to_le_bytes, from_le_bytes}
 use Rattle.std.proofs.Math.Seq.{take-add}
-use Rattle.std.proofs.lemmas.List.{append-nil, length-append, length-replicate, length-take-le, length-take, length-drop, get_or-take, get_or-drop, get_or_past, take_at, drop_at, take_all}
+use Rattle.std.proofs.lemmas.List.{append-nil, length-append, length-replicate, length-take, get_or-take, get_or-drop, get_or_past, take_all}
 use Rattle.std.proofs.lemmas.Nat.{from_le_bytes-to_le_bytes_8}
 use Rattle.node_layout.specs.Metadata.{IsPath, path_field, IsMetaText}
 use Rattle.node_layout.specs.Faults.{size_at}
@@ -81,8 +81,7 @@ first-from_text part path size root_key root_tag first h =
 -- a text is one of no other fields
 pub fields_same : (text path : List ℕ) (size : ℕ) (root_key root_tag first other_path : List ℕ) (other_size : ℕ) (other_key other_tag other_first : List ℕ) → IsMetaText text path size root_key root_tag first → IsMetaText text other_path other_size other_key other_tag other_first → (path ≡ other_path) × (size ≡ other_size) × (root_key ≡ other_key) × (root_tag ≡ other_tag) × (first ≡ other_first)
 fields_same text path size root_key root_tag first other_path other_size other_key other_tag other_first h other =
-    let field : path_field path ≡ path_field other_path = sym (path-from_text text path size root_key root_tag first h) ∙ path-from_text text other_path other_size other_key other_tag other_first other in
-    (
+    let field : path_field path ≡ path_field other_path = sym (path-from_text text path size root_key root_tag first h) ∙ path-from_text text other_path other_size other_key other_tag other_first other in (
       sym (before_first-path_field path h.path_is) ∙ (ap (before_first (λ b. b == 0)) field ∙ before_first-path_field other_path other.path_is),
       sym (size-from_text text path size root_key root_tag first h) ∙ size-from_text text other_path other_size other_key other_tag other_first other,
       sym (key-from_text text path size root_key root_tag first h) ∙ key-from_text text other_path other_size other_key other_tag other_first other,

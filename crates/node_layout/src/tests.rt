@@ -1,7 +1,7 @@
 // What a path, a metadata node and its encrypted part are, at their limits.
 ghost use Rattle.std.specs.Prelude.{◌≤◌, length};
 
-use crate::{Kind, MetaPlain, MetaSecret, PathText, PlainFault, SecretFault, open_meta};
+use crate::{Kind, MetaPlain, MetaSecret, PathText, PlainFault, SecretFault, open_meta, seal_meta};
 use aes_gcm::{Key, seal_in_place};
 use cmac_kdf::metadata_key;
 use std::process::Abort;
@@ -166,4 +166,122 @@ fn another_key_a_changed_byte_and_a_bad_text_do_not_open(rt: HostRuntime) {
     assert_eq!(rt; damage_of(&rt, &USER, &node), Some(Kind::Tag));
     let node = sealed_node(&part_of(b"", 5));
     assert_eq!(rt; damage_of(&rt, &USER, &node), Some(Kind::Text));
+}
+
+// The metadata of a new file.
+fn secret_of(path: &str, size: u64) -> Option<MetaSecret> {
+    let mut first = [0; 3072];
+    first[..5].copy_from_slice(b"hello");
+    Some(MetaSecret {
+        path: PathText::new(path)?,
+        size,
+        root_key: [1; 16],
+        root_tag: [2; 16],
+        first,
+    })
+}
+
+fn expect_same(rt: &impl Abort, secret: &MetaSecret, wanted: &MetaSecret) {
+    assert_eq!(rt; secret.path.as_str(), wanted.path.as_str());
+    assert_eq!(rt; secret.size, wanted.size);
+    assert_eq!(rt; secret.root_key, wanted.root_key);
+    assert_eq!(rt; secret.root_tag, wanted.root_tag);
+    assert!(rt; secret.first == wanted.first, "the first bytes differ");
+}
+
+fn expect_read_again(rt: &impl Abort, path: &str, size: u64) {
+    let Some(wanted) = secret_of(path, size) else {
+        panic!(rt; "no path: {path}");
+    };
+    let mut part = [0xff; 3880];
+    wanted.write(&mut part);
+    let Ok(secret) = MetaSecret::read(&part) else {
+        panic!(rt; "no text of size {size}");
+    };
+    expect_same(rt, &secret, &wanted);
+}
+
+#[test]
+fn what_was_written_is_read_again(rt: HostRuntime) {
+    for size in [0, 1, 3071, 3072, 1 << 32] {
+        expect_read_again(&rt, "dir/note", size);
+    }
+    expect_read_again(&rt, "a", 5);
+    let Ok(long) = str::from_utf8(&[b'a'; 767]) else {
+        panic!(rt; "no text");
+    };
+    expect_read_again(&rt, long, 5);
+}
+
+#[test]
+fn a_size_above_the_limit_is_written_and_not_read(rt: HostRuntime) {
+    let size = (1 << 32) + 1;
+    let Some(secret) = secret_of("dir/note", size) else {
+        panic!(rt; "no path");
+    };
+    let mut part = [0xff; 3880];
+    secret.write(&mut part);
+    assert!(rt; part == part_of(b"dir/note", size), "the texts differ");
+}
+
+#[test]
+fn a_node_sealed_over_other_bytes_opens_to_its_fields(rt: HostRuntime) {
+    let Some(wanted) = secret_of("dir/note", 1 << 32) else {
+        panic!(rt; "no path");
+    };
+    let mut node = [0xff; 4096];
+    seal_meta(&USER, &NONCE, &wanted, &mut node);
+    assert_eq!(rt; damage_of(&rt, &[8; 16], &node), Some(Kind::Tag));
+    let Ok(secret) = open_meta(&USER, &node) else {
+        panic!(rt; "the node does not open");
+    };
+    expect_same(&rt, &secret, &wanted);
+}
+
+fn counted<const N: usize>() -> [u8; N]
+    requires { N ≤ 256 }
+{
+    let mut bytes = [0; N];
+    for k in 0..N {
+        bytes[k] = k as u8;
+    }
+    bytes
+}
+
+// The 64-bit FNV-1a hash.
+fn hash_of(bytes: &[u8]) -> u64 {
+    let mut hash: u64 = 0xcbf2_9ce4_8422_2325;
+    for byte in bytes {
+        hash = (hash ^ *byte as u64).wrapping_mul(0x100_0000_01b3);
+    }
+    hash
+}
+
+// The tag and the hash of the node are of one that Python's cryptography sealed.
+#[test]
+fn a_whole_node_is_sealed_as_by_python(rt: HostRuntime) {
+    let Some(path) = PathText::new("hello.pf") else {
+        panic!(rt; "no path");
+    };
+    let mut first = [0; 3072];
+    first[..5].copy_from_slice(b"hello");
+    let secret = MetaSecret {
+        path,
+        size: 5,
+        root_key: [0; 16],
+        root_tag: [0; 16],
+        first,
+    };
+    let mut node = [0xff; 4096];
+    seal_meta(&counted(), &counted(), &secret, &mut node);
+    let Ok(plain) = MetaPlain::read(&node) else {
+        panic!(rt; "no metadata node");
+    };
+    assert_eq!(rt; plain.nonce, counted());
+    assert_eq!(rt; plain.flag, 0);
+    assert_eq!(rt;
+        u128::from_be_bytes(plain.tag),
+        0xcc94_7f3e_eabd_d9c5_4c8c_5fa0_371f_0168
+    );
+    assert_eq!(rt; hash_of(&node), 0xecbb_ff59_b452_0c73);
 }

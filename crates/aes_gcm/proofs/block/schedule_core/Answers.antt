@@ -15,6 +15,7 @@ get_or-ROUND_CONSTANTS j h = ap (λ t. get_or t j 0) table_is ∙ get_or-map-ran
 
 pub returns-then-i-eq0 : goal.returns-then-i-eq0
 returns-then-i-eq0 c =
+    let is = c.sub_word-substituted.ensures in
     core_at_round c.args.i c.args.word _ _ _ _ _ (omega arith) c.if-i-eq0.true
-    c.sub_byte.ensures c.sub_byte-then-i-eq0.ensures c.sub_byte-then-i-eq0-2.ensures c.sub_byte-then-i-eq0-3.ensures
+    (ap (λ w. get_or w 0 0) is) (ap (λ w. get_or w 1 0) is) (ap (λ w. get_or w 2 0) is) (ap (λ w. get_or w 3 0) is)
     (get_or-ROUND_CONSTANTS (c.args.i / 4 - 1) (omega arith))

@@ -1,4 +1,5 @@
 use Rattle.node_layout.proofs.Blocks.{meta_opens-meta_block, IsPlain-meta_block, nonce_at-meta_block, flag_at-meta_block, length-meta_block}
+use Rattle.node_layout.proofs.Secrets.{opens_to_one}
 use Rattle.node_layout.proofs.laws.sealed_meta_opens.Goals as goal
 
 pub returns-clause-opens : goal.returns-clause-opens
@@ -15,3 +16,6 @@ returns-clause-flag c = flag_at-meta_block
 
 pub returns-clause-length : goal.returns-clause-length
 returns-clause-length c = length-meta_block
+
+pub returns-clause-one_secret : goal.returns-clause-one_secret
+returns-clause-one_secret c = opens_to_one

@@ -1,29 +1,33 @@
-use Rattle.std.proofs.Common.{◌≡◌, ℕ, ◌<◌, List, [], map, ap, ◌∙◌, sym, arith, rules, get_or, length}
-use Rattle.std.proofs.lemmas.List.FromFn.{fill_by_all}
-use Rattle.std.proofs.lemmas.List.Edits.{fill_by_more}
-use Rattle.std.specs.List.{range_with_len}
+use Rattle.std.proofs.Common.{◌≡◌, ℕ, ◌+◌, List, [], map, bit_xor, ap, ◌∙◌, sym, arith, rules, length, below_more, get_or-set_same, get_or-set_other}
+use Rattle.std.proofs.lemmas.Simd.{zip2_splat_left}
 use Rattle.aes_gcm.specs.Cipher.{four_words, round_key}
-use Rattle.aes_gcm.proofs.Schedule.{round_key-zero}
+use Rattle.aes_gcm.specs.Tower.{absorbed, standard}
+use Rattle.aes_gcm.proofs.TowerRounds.{cancelled}
 use Rattle.aes_gcm.proofs.block.Key.new.Goals as goal
 
-view_is : (keys : List (List ℕ)) (key : List ℕ) → ((k : ℕ) → k < 11 → get_or keys k [] ≡ round_key key k) → length key ≡ 16 → get_or keys 0 [] ≡ key
-view_is keys key at h = at 0 (omega arith) ∙ round_key-zero key h
-
-pub loop-round-preserved : goal.loop-round-preserved
+pub loop-i-preserved : goal.loop-i-preserved
 unfolding round_key
-loop-round-preserved c =
-    let round = c.loop-round.round in
-    let is : c.join_words.result ≡ round_key c.args.bytes.now round = c.join_words.ensures ∙ ap (λ w. four_words w round) c.expand_key-words.ensures in (
+loop-i-preserved c =
+    let i = c.loop-i.i in
+    let key = c.args.bytes.now in
+    let is : map absorbed c.absorb.result ≡ round_key key (i + 1) = c.absorb.ensures ∙ c.round_key.ensures ∙ ap (λ w. four_words w (i + 1)) c.expand_key-words.ensures in (
       search rules,
-      rw is (fill_by_more (round_key c.args.bytes.now) c.loop-round.round_keys round [] (omega (arith, c.loop-round.invariant.0)) c.loop-round.invariant.1),
+      below_more _ _
+          (λ r h. ap (map absorbed) (get_or-set_other c.loop-i.middle i r c.absorb.result [] (λ e. absurd (omega arith))) ∙ c.loop-i.invariant.1 r h)
+          (ap (map absorbed) (get_or-set_same c.loop-i.middle i c.absorb.result [] (omega (arith, c.loop-i.invariant.0))) ∙ is),
     )
 
 pub invariant_of-result : goal.invariant_of-result
+unfolding round_key
 invariant_of-result c =
     let key = c.args.bytes.now in
-    let at = c.loop-round.invariant.1 in
-    fill_by_all (round_key key) c.loop-round.round_keys 11 [] c.loop-round.invariant.0 (λ k h. at k (omega arith))
-    ∙ ap (λ k. map (round_key k) (range_with_len 0 11)) (sym (view_is c.loop-round.round_keys key (λ k h. at k (omega arith)) (omega arith)))
+    let last : List ℕ = c.round_key-2.result in
+    let same : map standard c.to_tower.result ≡ key = c.to_tower.ensures in record {
+      long = omega (arith, ap length same);
+      rounds = λ r h. c.loop-i.invariant.1 r (omega arith) ∙ ap (λ k. round_key k (r + 1)) (sym same);
+      end = ap (map (bit_xor 99)) (zip2_splat_left bit_xor 99 16 last (omega arith)) ∙ cancelled 99 last
+          ∙ c.round_key-2.ensures ∙ ap (λ w. four_words w 10) c.expand_key-words.ensures ∙ ap (λ k. round_key k 10) (sym same);
+    }
 
 pub returns : goal.returns
-returns c = view_is c.loop-round.round_keys c.args.bytes.now (λ k h. c.loop-round.invariant.1 k (omega arith)) (omega arith)
+returns c = c.to_tower.ensures
