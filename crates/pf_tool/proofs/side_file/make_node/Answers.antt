@@ -8,7 +8,7 @@ returns c =
     let user = c.args.user.now in
     let nonce = c.args.nonce.now in
     let content = c.args.content.now in
-    let sealed : c.seal_meta.new.node ≡ meta_block user nonce (meta_text c.unwrap.result (length content) (replicate 16 0) (replicate 16 0) (c.copy_from_slice.new.self ++ drop (length content) (replicate 3072 0))) = c.seal_meta.ensures in
+    let sealed : c.seal_meta.new.node ≡ meta_block user nonce (meta_text c.unwrap.result (length content) (replicate 16 0) (replicate 16 0) (c.copy_from_slice.new.self ++ drop (length content) (replicate 3072 0))) = c.seal_meta.ensures.sealed in
     let path : c.unwrap.result ≡ c.args.output.now = subst (λ (o : Option (List ℕ)). IfSome o (λ p. p ≡ c.args.output.now)) c.unwrap.ensures c.new.ensures.same in
     sealed
     ∙ ap (λ (p : List ℕ). meta_block user nonce (meta_text p (length content) (replicate 16 0) (replicate 16 0) (c.copy_from_slice.new.self ++ drop (length content) (replicate 3072 0)))) path
