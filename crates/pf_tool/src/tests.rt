@@ -45,13 +45,13 @@ pub(crate) fn ran(alloc: Global, host: &mut MemHost, line: &str) -> Result<Outco
     ran_with(alloc, host, line, MemSink::new(alloc), &mut random)
 }
 
-// The metadata node of the path `hello.pf` and the content `hello`, under the key `USER`.
-fn hello_node(rt: &impl Abort) -> [u8; 4096] {
+// The metadata node of the path `hello.pf`, this size and the content `hello`, under the key `USER`.
+fn node_of_size(rt: &impl Abort, size: u64) -> [u8; 4096] {
     let mut first = [0; 3072];
     first[..5].copy_from_slice(b"hello");
     let secret = MetaSecret {
         path: PathText::new("hello.pf").expect(rt, "a path"),
-        size: 5,
+        size,
         root_key: [0; 16],
         root_tag: [0; 16],
         first,
@@ -59,6 +59,10 @@ fn hello_node(rt: &impl Abort) -> [u8; 4096] {
     let mut node = [0; 4096];
     seal_meta(&USER, &[7; 32], &secret, &mut node);
     node
+}
+
+fn hello_node(rt: &impl Abort) -> [u8; 4096] {
+    node_of_size(rt, 5)
 }
 
 pub(crate) fn expect(
@@ -120,7 +124,9 @@ fn host_of_refused(alloc: Global, node: &[u8; 4096]) -> Result<MemHost, Memory> 
 fn refusals_name_their_rule(rt: HostRuntime) -> Result<(), Fail> {
     let alloc = rt.alloc();
     let mut host = host_of_refused(alloc, &hello_node(&rt))?;
-    let rows: [(&str, u8, &str); 14] = [
+    host.put("large", &node_of_size(&rt, 3073))?;
+    host.put("over", &node_of_size(&rt, (1 << 32) + 1))?;
+    let rows: [(&str, u8, &str); 16] = [
         ("decode", 2, "usage: unbuilt words\n"),
         ("decrypt -w k", 2, "usage: unbuilt words\n"),
         ("decrypt -w  -i hello.pf", 3, "refused bad name\n"),
@@ -135,6 +141,8 @@ fn refusals_name_their_rule(rt: HostRuntime) -> Result<(), Fail> {
         ("decrypt -w k -i pending", 3, "refused unbuilt\n"),
         ("decrypt -w k -i newer", 3, "refused unbuilt\n"),
         ("decrypt -w zero -i hello.pf", 1, "damaged node 0 tag\n"),
+        ("decrypt -w k -i large", 3, "refused unbuilt\n"),
+        ("decrypt -w k -i over", 1, "damaged node 0 text\n"),
     ];
     for (line, status, log) in rows {
         let outcome = ran(alloc, &mut host, line)?;
