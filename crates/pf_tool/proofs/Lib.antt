@@ -12,3 +12,5 @@ pub mod SealInput
 pub mod AfterKey
 pub mod Tracing
 pub mod EncryptRunning
+pub mod OneEnding
+pub mod Decided

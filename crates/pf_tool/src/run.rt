@@ -7,8 +7,8 @@ ghost use Rattle.pf_tool.specs.Commands.{IsNoCommand};
 ghost use Rattle.pf_tool.specs.Crash.{OnlyReads};
 ghost use Rattle.pf_tool.specs.Faults.{fault_line, fault_status, no_command_line};
 ghost use Rattle.pf_tool.specs.Reports.{Reported, Wrote};
-ghost use Rattle.pf_tool.specs.Run.{DecryptRuns, GaveContent, GaveDamage, HonestRun};
-ghost use Rattle.pf_tool.specs.EncryptRun.{EncryptRuns, HonestEncrypt, EncryptDisk, IsNoEncrypt};
+ghost use Rattle.pf_tool.specs.Run.{DecryptRuns, DecryptDecided, GaveContent, GaveDamage, HonestRun};
+ghost use Rattle.pf_tool.specs.EncryptRun.{EncryptRuns, EncryptDecided, HonestEncrypt, EncryptDisk, IsNoEncrypt};
 
 use crate::decrypt::decrypt;
 use crate::encrypt::encrypt;
@@ -94,6 +94,13 @@ pub fn run<H: Host, S: Source, K: Sink, L: Sink, R: Words>(
     // memory or the log failed.
     ensures encrypts { (key name output : Name) → texts words.now ≡ encrypt_words key name output
         → EncryptRuns key name output (H.state host.old) (H.state host.new) (R.state random.old) (R.state random.new) (L.state log.old) (L.state log.new) result }
+
+    // Where the host tells its answers and did not fail, the refusal or the damage that they lead to is the one reported.
+    ensures decided { (key name : Name) → texts words.now ≡ decrypt_words key name → ¬ (Rose (H.state host.old).faults (H.state host.new).faults)
+        → DecryptDecided key name (H.state host.old) (H.state host.new) (L.state log.old) (L.state log.new) result }
+    ensures decided_encrypt { (key name output : Name) → texts words.now ≡ encrypt_words key name output → ¬ (Rose (H.state host.old).faults (H.state host.new).faults)
+        → ¬ (Rose (R.state random.old).faults (R.state random.new).faults)
+        → EncryptDecided key name output (H.state host.old) (H.state host.new) (L.state log.old) (L.state log.new) result }
 
     ensures host_fault { result ≡ 4 → Rose (H.state host.old).faults (H.state host.new).faults }
     ensures random_fault { result ≡ 6 → Rose (R.state random.old).faults (R.state random.new).faults }
