@@ -1,5 +1,5 @@
 use crate::tests::{Outcome, USER, expect, ran, ran_with};
-use pf_io::{ListWords, MemHost, MemSink, Tear};
+use pf_io::{Host, ListWords, MemHost, MemSink, Tear};
 use std::alloc::Global;
 use std::process::Abort;
 use std::test::Fail;
@@ -37,6 +37,7 @@ fn what_was_encrypted_decrypts(rt: HostRuntime) -> Result<(), Fail> {
         let mut host = host_with(alloc, &content[..size])?;
         let made = ran_drawing(alloc, &mut host, ENCRYPT, 4)?;
         expect(&rt, &made, 0, b"", b"", "encrypt");
+        assert_eq!(rt; host.len("a.pf"), Ok(Some(4096)));
         expect_file(&rt, &host, "a.pf.new", None);
         let read = ran(alloc, &mut host, "decrypt -w k -i a.pf")?;
         expect(&rt, &read, 0, &content[..size], b"", "decrypt");
