@@ -14,3 +14,4 @@ pub mod Tracing
 pub mod EncryptRunning
 pub mod OneEnding
 pub mod Decided
+pub mod FilesDecide

@@ -11,7 +11,7 @@ use Rattle.pf_tool.specs.Encrypting.{EncryptsTo, output_unnamed, input_unfit, in
 use Rattle.pf_tool.specs.Steps.{Ending, Done, BadName, NotFound, KeyFile, NotProtected, Damaged, Unbuilt, key_answers, HasKey, KeyRefused, key_unnamed, key_absent, key_length, key_short, node_answers, IsWhole, NodeFails, NodeRefused, input_unnamed, node_fails, OpensAs, OpensTo, meta_damaged, content_large, content_whole, Opens, node_refused, node_read, Decrypts, key_refused, key_read}
 use Rattle.pf_tool.specs.Steps as steps
 
-key_one : (key : Name) (these : List Answer) (e f : Ending) → KeyRefused key these e → KeyRefused key these f → e ≡ f
+pub key_one : (key : Name) (these : List Answer) (e f : Ending) → KeyRefused key these e → KeyRefused key these f → e ≡ f
 key_one key these e f (key_unnamed u is d) (key_unnamed u2 is2 d2) = d ∙ sym d2
 key_one key these e f (key_unnamed u is d) (key_absent fit is2 d2) = absurd (u fit)
 key_one key these e f (key_unnamed u is d) (key_length n fit ne is2 d2) = absurd (u fit)

@@ -6,9 +6,10 @@ ghost use Rattle.pf_tool.specs.Words.{texts, decrypt_words, encrypt_words};
 ghost use Rattle.pf_tool.specs.Commands.{IsNoCommand};
 ghost use Rattle.pf_tool.specs.Crash.{OnlyReads};
 ghost use Rattle.pf_tool.specs.Faults.{fault_line, fault_status, no_command_line};
+ghost use Rattle.pf_tool.specs.Steps.{Ending};
 ghost use Rattle.pf_tool.specs.Reports.{Reported, Wrote};
-ghost use Rattle.pf_tool.specs.Run.{DecryptRuns, DecryptDecided, GaveContent, GaveDamage, HonestRun};
-ghost use Rattle.pf_tool.specs.EncryptRun.{EncryptRuns, EncryptDecided, HonestEncrypt, EncryptDisk, IsNoEncrypt};
+ghost use Rattle.pf_tool.specs.Run.{DecryptRuns, DecryptDecided, GaveContent, GaveDamage, HonestEnding, HonestRun};
+ghost use Rattle.pf_tool.specs.EncryptRun.{EncryptRuns, EncryptDecided, EncryptEnding, HonestEncrypt, EncryptDisk, IsNoEncrypt};
 
 use crate::decrypt::decrypt;
 use crate::encrypt::encrypt;
@@ -116,6 +117,10 @@ pub fn run<H: Host, S: Source, K: Sink, L: Sink, R: Words>(
         → ¬ (Rose (H.state host.old).faults (H.state host.new).faults) → ¬ (Rose (R.state random.old).faults (R.state random.new).faults)
         → ¬ (Rose (L.state log.old).faults (L.state log.new).faults)
         → HonestEncrypt key name output files (L.state log.old) (L.state log.new) result }
+
+    // The files have one ending for each command.
+    ensures one_ending { (key name : Name) (files : Files) (ending other : Ending) → HonestEnding key name files ending → HonestEnding key name files other → ending ≡ other }
+    ensures one_ending_encrypt { (key name output : Name) (files : Files) (ending other : Ending) → EncryptEnding key name output files ending → EncryptEnding key name output files other → ending ≡ other }
 
     // On an honest disk, whatever fails: a crash at any moment of `encrypt` leaves the output as it was or whole, and every
     // other name but the side file's as it was. No other words change anything.

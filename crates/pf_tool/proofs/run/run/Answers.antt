@@ -6,6 +6,7 @@ use Rattle.pf_tool.specs.Reports.{Wrote}
 use Rattle.pf_tool.specs.Run.{DecryptRuns, DecryptDecided, GaveContent, GaveDamage, HonestRun}
 use Rattle.pf_tool.specs.Words.{texts}
 use Rattle.pf_tool.proofs.Decided.{decrypt_decided, encrypt_decided}
+use Rattle.pf_tool.proofs.FilesDecide.{decrypt_ending_one, encrypt_ending_one}
 use Rattle.pf_tool.proofs.EncryptRunning.{encrypt_honest, for_encrypt_names}
 use Rattle.pf_tool.proofs.Running.{run_content, run_damage, run_honest, for_names}
 use Rattle.pf_tool.proofs.run.run.Goals as goal
@@ -99,3 +100,21 @@ returns-in-Encrypt-clause-decided_encrypt g c key name output is host_calm rando
     let found = subst (IsCommandOf (texts c.args.words.now)) c.in-Encrypt.is c.in-Some.ensures.found in
     for_encrypt_names (λ k i o. EncryptDecided k i o old new log said c.run_encrypt.result) command.key.now command.input.now command.output.now key name output (sym found ∙ is)
     (encrypt_decided command.key.now command.input.now command.output.now old new before after log said c.run_encrypt.result c.run_encrypt.ensures.runs host_calm random_calm)
+
+pub returns-in_default-clause-one_ending : goal.returns-in_default-clause-one_ending
+returns-in_default-clause-one_ending g c key name files ending other a b = decrypt_ending_one files key name ending other a b
+
+pub returns-in_default-clause-one_ending_encrypt : goal.returns-in_default-clause-one_ending_encrypt
+returns-in_default-clause-one_ending_encrypt g c key name output files ending other a b = encrypt_ending_one files key name output ending other a b
+
+pub returns-in-Decrypt-clause-one_ending : goal.returns-in-Decrypt-clause-one_ending
+returns-in-Decrypt-clause-one_ending g c key name files ending other a b = decrypt_ending_one files key name ending other a b
+
+pub returns-in-Decrypt-clause-one_ending_encrypt : goal.returns-in-Decrypt-clause-one_ending_encrypt
+returns-in-Decrypt-clause-one_ending_encrypt g c key name output files ending other a b = encrypt_ending_one files key name output ending other a b
+
+pub returns-in-Encrypt-clause-one_ending : goal.returns-in-Encrypt-clause-one_ending
+returns-in-Encrypt-clause-one_ending g c key name files ending other a b = decrypt_ending_one files key name ending other a b
+
+pub returns-in-Encrypt-clause-one_ending_encrypt : goal.returns-in-Encrypt-clause-one_ending_encrypt
+returns-in-Encrypt-clause-one_ending_encrypt g c key name output files ending other a b = encrypt_ending_one files key name output ending other a b
