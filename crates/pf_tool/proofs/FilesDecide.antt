@@ -19,61 +19,61 @@ module _ (files : Files) where
   moved these others is all = subst Of is all
 
   key_same : (key : Name) (these others : List Answer) (e f : Ending) → KeyRefused key these e → KeyRefused key others f → Of these → Of others → these ≡ others
-  key_same key these others e f (key_unnamed u is d) (key_unnamed u2 is2 d2) all all2 = is ∙ sym is2
-  key_same key these others e f (key_unnamed u is d) (key_absent fit is2 d2) all all2 = absurd (u fit)
-  key_same key these others e f (key_unnamed u is d) (key_length n fit ne is2 d2) all all2 = absurd (u fit)
-  key_same key these others e f (key_unnamed u is d) (key_short bytes fit lt is2 d2) all all2 = absurd (u fit)
-  key_same key these others e f (key_absent fit is d) (key_unnamed u is2 d2) all all2 = absurd (u fit)
-  key_same key these others e f (key_absent fit is d) (key_absent fit2 is2 d2) all all2 = is ∙ sym is2
-  key_same key these others e f (key_absent fit is d) (key_length n fit2 ne is2 d2) all all2 =
+  key_same key these others e f (key_unnamed u is ends) (key_unnamed u2 is2 ends2) all all2 = is ∙ sym is2
+  key_same key these others e f (key_unnamed u is ends) (key_absent fit is2 ends2) all all2 = absurd (u fit)
+  key_same key these others e f (key_unnamed u is ends) (key_length n fit ne is2 ends2) all all2 = absurd (u fit)
+  key_same key these others e f (key_unnamed u is ends) (key_short bytes fit lt is2 ends2) all all2 = absurd (u fit)
+  key_same key these others e f (key_absent fit is ends) (key_unnamed u is2 ends2) all all2 = absurd (u fit)
+  key_same key these others e f (key_absent fit is ends) (key_absent fit2 is2 ends2) all all2 = is ∙ sym is2
+  key_same key these others e f (key_absent fit is ends) (key_length n fit2 ne is2 ends2) all all2 =
       let a : None ≡ length_of (files key) = (moved these _ is all).0 in
       let b : Some n ≡ length_of (files key) = (moved others _ is2 all2).0 in
       absurd (cc)
-  key_same key these others e f (key_absent fit is d) (key_short bytes fit2 lt is2 d2) all all2 =
+  key_same key these others e f (key_absent fit is ends) (key_short bytes fit2 lt is2 ends2) all all2 =
       let a : None ≡ length_of (files key) = (moved these _ is all).0 in
       let b : Some 16 ≡ length_of (files key) = (moved others _ is2 all2).0 in
       absurd (cc)
-  key_same key these others e f (key_length n fit ne is d) (key_unnamed u is2 d2) all all2 = absurd (u fit)
-  key_same key these others e f (key_length n fit ne is d) (key_absent fit2 is2 d2) all all2 =
+  key_same key these others e f (key_length n fit ne is ends) (key_unnamed u is2 ends2) all all2 = absurd (u fit)
+  key_same key these others e f (key_length n fit ne is ends) (key_absent fit2 is2 ends2) all all2 =
       let a : Some n ≡ length_of (files key) = (moved these _ is all).0 in
       let b : None ≡ length_of (files key) = (moved others _ is2 all2).0 in
       absurd (cc)
-  key_same key these others e f (key_length n fit ne is d) (key_length m fit2 ne2 is2 d2) all all2 =
+  key_same key these others e f (key_length n fit ne is ends) (key_length m fit2 ne2 is2 ends2) all all2 =
       let a : Some n ≡ length_of (files key) = (moved these _ is all).0 in
       let b : Some m ≡ length_of (files key) = (moved others _ is2 all2).0 in
       is ∙ ap (λ (o : Option ℕ). LengthWas key o ∷ []) (a ∙ sym b) ∙ sym is2
-  key_same key these others e f (key_length n fit ne is d) (key_short bytes fit2 lt is2 d2) all all2 =
+  key_same key these others e f (key_length n fit ne is ends) (key_short bytes fit2 lt is2 ends2) all all2 =
       let a : Some n ≡ length_of (files key) = (moved these _ is all).0 in
       let b : Some 16 ≡ length_of (files key) = (moved others _ is2 all2).0 in
       let same : n ≡ 16 = cc in
       absurd (ne same)
-  key_same key these others e f (key_short bytes fit lt is d) (key_unnamed u is2 d2) all all2 = absurd (u fit)
-  key_same key these others e f (key_short bytes fit lt is d) (key_absent fit2 is2 d2) all all2 =
+  key_same key these others e f (key_short bytes fit lt is ends) (key_unnamed u is2 ends2) all all2 = absurd (u fit)
+  key_same key these others e f (key_short bytes fit lt is ends) (key_absent fit2 is2 ends2) all all2 =
       let a : Some 16 ≡ length_of (files key) = (moved these _ is all).0 in
       let b : None ≡ length_of (files key) = (moved others _ is2 all2).0 in
       absurd (cc)
-  key_same key these others e f (key_short bytes fit lt is d) (key_length n fit2 ne is2 d2) all all2 =
+  key_same key these others e f (key_short bytes fit lt is ends) (key_length n fit2 ne is2 ends2) all all2 =
       let a : Some 16 ≡ length_of (files key) = (moved these _ is all).0 in
       let b : Some n ≡ length_of (files key) = (moved others _ is2 all2).0 in
       let same : n ≡ 16 = cc in
       absurd (ne same)
-  key_same key these others e f (key_short bytes fit lt is d) (key_short bytes2 fit2 lt2 is2 d2) all all2 =
+  key_same key these others e f (key_short bytes fit lt is ends) (key_short bytes2 fit2 lt2 is2 ends2) all all2 =
       let a : bytes ≡ take 16 (drop 0 (contents (files key))) = (moved these (key_answers key bytes) is all).1.0 in
       let b : bytes2 ≡ take 16 (drop 0 (contents (files key))) = (moved others (key_answers key bytes2) is2 all2).1.0 in
       is ∙ ap (λ (l : List ℕ). key_answers key l) (a ∙ sym b) ∙ sym is2
 
   key_either : (key : Name) (these others : List Answer) (e : Ending) (user : List ℕ) (rest : List Answer) → KeyRefused key these e → HasKey key user → others ≡ key_answers key user ++ rest → Of these → Of others → ⊥
-  key_either key these others e user rest (key_unnamed u is d) has read all all2 = u has.is_name
-  key_either key these others e user rest (key_absent fit is d) has read all all2 =
+  key_either key these others e user rest (key_unnamed u is ends) has read all all2 = u has.is_name
+  key_either key these others e user rest (key_absent fit is ends) has read all all2 =
       let a : None ≡ length_of (files key) = (moved these _ is all).0 in
       let b : Some 16 ≡ length_of (files key) = (moved others (key_answers key user ++ rest) read all2).0 in
       absurd (cc)
-  key_either key these others e user rest (key_length n fit ne is d) has read all all2 =
+  key_either key these others e user rest (key_length n fit ne is ends) has read all all2 =
       let a : Some n ≡ length_of (files key) = (moved these _ is all).0 in
       let b : Some 16 ≡ length_of (files key) = (moved others (key_answers key user ++ rest) read all2).0 in
       let same : n ≡ 16 = cc in
       ne same
-  key_either key these others e user rest (key_short bytes fit lt is d) has read all all2 =
+  key_either key these others e user rest (key_short bytes fit lt is ends) has read all all2 =
       let a : bytes ≡ take 16 (drop 0 (contents (files key))) = (moved these (key_answers key bytes) is all).1.0 in
       let b : user ≡ take 16 (drop 0 (contents (files key))) = (moved others (key_answers key user ++ rest) read all2).1.0 in
       omega (arith, lt, has.whole, ap (λ (l : List ℕ). length l) (a ∙ sym b))
@@ -83,8 +83,8 @@ module _ (files : Files) where
       ap (λ (o : Option ℕ). LengthWas input o ∷ Gave input 0 4096 node ∷ []) (all.0 ∙ sym all2.0) ∙ ap (λ (l : List ℕ). LengthWas input (Some size2) ∷ Gave input 0 4096 l ∷ []) (all.1.0 ∙ sym all2.1.0)
 
   refused_or_read : (input : Name) (these others : List Answer) (e : Ending) (size : ℕ) (node : List ℕ) → NodeRefused input these e → IsTarget input → others ≡ node_answers input size node → Of these → Of others → these ≡ others
-  refused_or_read input these others e size node (input_unnamed u is d) fit is2 all all2 = absurd (u fit)
-  refused_or_read input these others e size node (steps.input_absent fit2 is d) fit is2 all all2 =
+  refused_or_read input these others e size node (input_unnamed u is ends) fit is2 all all2 = absurd (u fit)
+  refused_or_read input these others e size node (steps.input_absent fit2 is ends) fit is2 all all2 =
       let a : None ≡ length_of (files input) = (moved these _ is all).0 in
       let b : Some size ≡ length_of (files input) = (moved others (node_answers input size node) is2 all2).0 in
       absurd (cc)
@@ -92,12 +92,12 @@ module _ (files : Files) where
       is ∙ node_same input size2 size node2 node (moved these _ is all) (moved others _ is2 all2) ∙ sym is2
 
   both_refused : (input : Name) (these others : List Answer) (e f : Ending) → NodeRefused input these e → NodeRefused input others f → Of these → Of others → these ≡ others
-  both_refused input these others e f (input_unnamed u is d) (input_unnamed u2 is2 d2) all all2 = is ∙ sym is2
-  both_refused input these others e f (input_unnamed u is d) (steps.input_absent fit is2 d2) all all2 = absurd (u fit)
-  both_refused input these others e f (input_unnamed u is d) (node_fails size node fit is2 fails) all all2 = absurd (u fit)
-  both_refused input these others e f (steps.input_absent fit is d) (input_unnamed u is2 d2) all all2 = absurd (u fit)
-  both_refused input these others e f (steps.input_absent fit is d) (steps.input_absent fit2 is2 d2) all all2 = is ∙ sym is2
-  both_refused input these others e f (steps.input_absent fit is d) (node_fails size node fit2 is2 fails) all all2 = refused_or_read input these others e size node (steps.input_absent fit is d) fit2 is2 all all2
+  both_refused input these others e f (input_unnamed u is ends) (input_unnamed u2 is2 ends2) all all2 = is ∙ sym is2
+  both_refused input these others e f (input_unnamed u is ends) (steps.input_absent fit is2 ends2) all all2 = absurd (u fit)
+  both_refused input these others e f (input_unnamed u is ends) (node_fails size node fit is2 fails) all all2 = absurd (u fit)
+  both_refused input these others e f (steps.input_absent fit is ends) (input_unnamed u is2 ends2) all all2 = absurd (u fit)
+  both_refused input these others e f (steps.input_absent fit is ends) (steps.input_absent fit2 is2 ends2) all all2 = is ∙ sym is2
+  both_refused input these others e f (steps.input_absent fit is ends) (node_fails size node fit2 is2 fails) all all2 = refused_or_read input these others e size node (steps.input_absent fit is ends) fit2 is2 all all2
   both_refused input these others e f (node_fails size node fit is fails) b all all2 = sym (refused_or_read input others these f size node b fit is all2 all)
 
   opens_same : (user : List ℕ) (input : Name) (these others : List Answer) (e f : Ending) → Opens user input these e → Opens user input others f → Of these → Of others → these ≡ others
@@ -142,37 +142,37 @@ module _ (files : Files) where
 
   sealing_ending : (user user2 : List ℕ) (input output : Name) (these others : List Answer) (taken taken2 : List (List ℕ)) (e f : Ending) → EncryptsTo user input output these taken e → EncryptsTo user2 input output others taken2 f
       → Of these → Of others → e ≡ f
-  sealing_ending user user2 input output these others taken taken2 e f (output_unnamed u is t d) (output_unnamed u2 is2 t2 d2) all all2 = d ∙ sym d2
-  sealing_ending user user2 input output these others taken taken2 e f (output_unnamed u is t d) (input_unfit fit u2 is2 t2 d2) all all2 = d ∙ sym d2
-  sealing_ending user user2 input output these others taken taken2 e f (output_unnamed u is t d) (input_absent fit fit2 is2 t2 d2) all all2 = absurd (u fit)
-  sealing_ending user user2 input output these others taken taken2 e f (output_unnamed u is t d) (input_large size nonce bytes fit fit2 two gt is2 d2) all all2 = absurd (u fit)
-  sealing_ending user user2 input output these others taken taken2 e f (output_unnamed u is t d) (published size first second content a b fit fit2 n1 n2 t2 le is2 d2) all all2 = absurd (u fit)
-  sealing_ending user user2 input output these others taken taken2 e f (input_unfit fit u is t d) (output_unnamed u2 is2 t2 d2) all all2 = d ∙ sym d2
-  sealing_ending user user2 input output these others taken taken2 e f (input_unfit fit u is t d) (input_unfit fit2 u2 is2 t2 d2) all all2 = d ∙ sym d2
-  sealing_ending user user2 input output these others taken taken2 e f (input_unfit fit u is t d) (input_absent fit2 fit3 is2 t2 d2) all all2 = absurd (u fit3)
-  sealing_ending user user2 input output these others taken taken2 e f (input_unfit fit u is t d) (input_large size nonce bytes fit2 fit3 two gt is2 d2) all all2 = absurd (u fit3)
-  sealing_ending user user2 input output these others taken taken2 e f (input_unfit fit u is t d) (published size first second content a b fit2 fit3 n1 n2 t2 le is2 d2) all all2 = absurd (u fit3)
-  sealing_ending user user2 input output these others taken taken2 e f (input_absent fit fit2 is t d) (output_unnamed u is2 t2 d2) all all2 = absurd (u fit)
-  sealing_ending user user2 input output these others taken taken2 e f (input_absent fit fit2 is t d) (input_unfit fit3 u is2 t2 d2) all all2 = absurd (u fit2)
-  sealing_ending user user2 input output these others taken taken2 e f (input_absent fit fit2 is t d) (input_absent fit3 fit4 is2 t2 d2) all all2 = d ∙ sym d2
-  sealing_ending user user2 input output these others taken taken2 e f (input_absent fit fit2 is t d) (input_large size nonce bytes fit3 fit4 two gt is2 d2) all all2 =
+  sealing_ending user user2 input output these others taken taken2 e f (output_unnamed u is t ends) (output_unnamed u2 is2 t2 ends2) all all2 = ends ∙ sym ends2
+  sealing_ending user user2 input output these others taken taken2 e f (output_unnamed u is t ends) (input_unfit fit u2 is2 t2 ends2) all all2 = ends ∙ sym ends2
+  sealing_ending user user2 input output these others taken taken2 e f (output_unnamed u is t ends) (input_absent fit fit2 is2 t2 ends2) all all2 = absurd (u fit)
+  sealing_ending user user2 input output these others taken taken2 e f (output_unnamed u is t ends) (input_large size nonce bytes fit fit2 two gt is2 ends2) all all2 = absurd (u fit)
+  sealing_ending user user2 input output these others taken taken2 e f (output_unnamed u is t ends) (published size first second content a b fit fit2 n1 n2 t2 le is2 ends2) all all2 = absurd (u fit)
+  sealing_ending user user2 input output these others taken taken2 e f (input_unfit fit u is t ends) (output_unnamed u2 is2 t2 ends2) all all2 = ends ∙ sym ends2
+  sealing_ending user user2 input output these others taken taken2 e f (input_unfit fit u is t ends) (input_unfit fit2 u2 is2 t2 ends2) all all2 = ends ∙ sym ends2
+  sealing_ending user user2 input output these others taken taken2 e f (input_unfit fit u is t ends) (input_absent fit2 fit3 is2 t2 ends2) all all2 = absurd (u fit3)
+  sealing_ending user user2 input output these others taken taken2 e f (input_unfit fit u is t ends) (input_large size nonce bytes fit2 fit3 two gt is2 ends2) all all2 = absurd (u fit3)
+  sealing_ending user user2 input output these others taken taken2 e f (input_unfit fit u is t ends) (published size first second content a b fit2 fit3 n1 n2 t2 le is2 ends2) all all2 = absurd (u fit3)
+  sealing_ending user user2 input output these others taken taken2 e f (input_absent fit fit2 is t ends) (output_unnamed u is2 t2 ends2) all all2 = absurd (u fit)
+  sealing_ending user user2 input output these others taken taken2 e f (input_absent fit fit2 is t ends) (input_unfit fit3 u is2 t2 ends2) all all2 = absurd (u fit2)
+  sealing_ending user user2 input output these others taken taken2 e f (input_absent fit fit2 is t ends) (input_absent fit3 fit4 is2 t2 ends2) all all2 = ends ∙ sym ends2
+  sealing_ending user user2 input output these others taken taken2 e f (input_absent fit fit2 is t ends) (input_large size nonce bytes fit3 fit4 two gt is2 ends2) all all2 =
       absurd (absent_or_there input size these others (begun_answers output (node_of user2 nonce output []) ++ Gave input 0 3073 bytes ∷ []) is is2 all all2)
-  sealing_ending user user2 input output these others taken taken2 e f (input_absent fit fit2 is t d) (published size first second content a b fit3 fit4 n1 n2 t2 le is2 d2) all all2 =
+  sealing_ending user user2 input output these others taken taken2 e f (input_absent fit fit2 is t ends) (published size first second content a b fit3 fit4 n1 n2 t2 le is2 ends2) all all2 =
       absurd (absent_or_there input size these others (begun_answers output (node_of user2 first output []) ++ Gave input 0 3073 content ∷ published_answers output (node_of user2 second output content)) is is2 all all2)
-  sealing_ending user user2 input output these others taken taken2 e f (input_large size nonce bytes fit fit2 two gt is d) (output_unnamed u is2 t2 d2) all all2 = absurd (u fit)
-  sealing_ending user user2 input output these others taken taken2 e f (input_large size nonce bytes fit fit2 two gt is d) (input_unfit fit3 u is2 t2 d2) all all2 = absurd (u fit2)
-  sealing_ending user user2 input output these others taken taken2 e f (input_large size nonce bytes fit fit2 two gt is d) (input_absent fit3 fit4 is2 t2 d2) all all2 =
+  sealing_ending user user2 input output these others taken taken2 e f (input_large size nonce bytes fit fit2 two gt is ends) (output_unnamed u is2 t2 ends2) all all2 = absurd (u fit)
+  sealing_ending user user2 input output these others taken taken2 e f (input_large size nonce bytes fit fit2 two gt is ends) (input_unfit fit3 u is2 t2 ends2) all all2 = absurd (u fit2)
+  sealing_ending user user2 input output these others taken taken2 e f (input_large size nonce bytes fit fit2 two gt is ends) (input_absent fit3 fit4 is2 t2 ends2) all all2 =
       absurd (absent_or_there input size others these (begun_answers output (node_of user nonce output []) ++ Gave input 0 3073 bytes ∷ []) is2 is all2 all)
-  sealing_ending user user2 input output these others taken taken2 e f (input_large size nonce bytes fit fit2 two gt is d) (input_large size2 nonce2 bytes2 fit3 fit4 two2 gt2 is2 d2) all all2 = d ∙ sym d2
-  sealing_ending user user2 input output these others taken taken2 e f (input_large size nonce bytes fit fit2 two gt is d) (published size2 first second content a b fit3 fit4 n1 n2 t2 le is2 d2) all all2 =
+  sealing_ending user user2 input output these others taken taken2 e f (input_large size nonce bytes fit fit2 two gt is ends) (input_large size2 nonce2 bytes2 fit3 fit4 two2 gt2 is2 ends2) all all2 = ends ∙ sym ends2
+  sealing_ending user user2 input output these others taken taken2 e f (input_large size nonce bytes fit fit2 two gt is ends) (published size2 first second content a b fit3 fit4 n1 n2 t2 le is2 ends2) all all2 =
       absurd (large_or_small input output size size2 (node_of user nonce output []) (node_of user2 first output []) bytes content these others (published_answers output (node_of user2 second output content)) is is2 all all2 gt le)
-  sealing_ending user user2 input output these others taken taken2 e f (published size first second content a b fit fit2 n1 n2 t le is d) (output_unnamed u is2 t2 d2) all all2 = absurd (u fit)
-  sealing_ending user user2 input output these others taken taken2 e f (published size first second content a b fit fit2 n1 n2 t le is d) (input_unfit fit3 u is2 t2 d2) all all2 = absurd (u fit2)
-  sealing_ending user user2 input output these others taken taken2 e f (published size first second content a b fit fit2 n1 n2 t le is d) (input_absent fit3 fit4 is2 t2 d2) all all2 =
+  sealing_ending user user2 input output these others taken taken2 e f (published size first second content a b fit fit2 n1 n2 t le is ends) (output_unnamed u is2 t2 ends2) all all2 = absurd (u fit)
+  sealing_ending user user2 input output these others taken taken2 e f (published size first second content a b fit fit2 n1 n2 t le is ends) (input_unfit fit3 u is2 t2 ends2) all all2 = absurd (u fit2)
+  sealing_ending user user2 input output these others taken taken2 e f (published size first second content a b fit fit2 n1 n2 t le is ends) (input_absent fit3 fit4 is2 t2 ends2) all all2 =
       absurd (absent_or_there input size others these (begun_answers output (node_of user first output []) ++ Gave input 0 3073 content ∷ published_answers output (node_of user second output content)) is2 is all2 all)
-  sealing_ending user user2 input output these others taken taken2 e f (published size first second content a b fit fit2 n1 n2 t le is d) (input_large size2 nonce bytes fit3 fit4 two gt is2 d2) all all2 =
+  sealing_ending user user2 input output these others taken taken2 e f (published size first second content a b fit fit2 n1 n2 t le is ends) (input_large size2 nonce bytes fit3 fit4 two gt is2 ends2) all all2 =
       absurd (large_or_small input output size2 size (node_of user2 nonce output []) (node_of user first output []) bytes content others these (published_answers output (node_of user second output content)) is2 is all2 all gt le)
-  sealing_ending user user2 input output these others taken taken2 e f (published size first second content a b fit fit2 n1 n2 t le is d) (published size2 first2 second2 content2 a2 b2 fit3 fit4 n3 n4 t2 le2 is2 d2) all all2 = d ∙ sym d2
+  sealing_ending user user2 input output these others taken taken2 e f (published size first second content a b fit fit2 n1 n2 t le is ends) (published size2 first2 second2 content2 a2 b2 fit3 fit4 n3 n4 t2 le2 is2 ends2) all all2 = ends ∙ sym ends2
 
   encrypt_ending : (key input output : Name) (these others : List Answer) (taken taken2 : List (List ℕ)) (e f : Ending) → Encrypts key input output these taken e → Encrypts key input output others taken2 f → Of these → Of others → e ≡ f
   encrypt_ending key input output these others taken taken2 e f (encrypt_key_refused a t) (encrypt_key_refused b t2) all all2 =

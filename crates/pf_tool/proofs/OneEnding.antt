@@ -12,33 +12,33 @@ use Rattle.pf_tool.specs.Steps.{Ending, Done, BadName, NotFound, KeyFile, NotPro
 use Rattle.pf_tool.specs.Steps as steps
 
 pub key_one : (key : Name) (these : List Answer) (e f : Ending) → KeyRefused key these e → KeyRefused key these f → e ≡ f
-key_one key these e f (key_unnamed u is d) (key_unnamed u2 is2 d2) = d ∙ sym d2
-key_one key these e f (key_unnamed u is d) (key_absent fit is2 d2) = absurd (u fit)
-key_one key these e f (key_unnamed u is d) (key_length n fit ne is2 d2) = absurd (u fit)
-key_one key these e f (key_unnamed u is d) (key_short bytes fit lt is2 d2) = absurd (u fit)
-key_one key these e f (key_absent fit is d) (key_unnamed u is2 d2) = absurd (u fit)
-key_one key these e f (key_absent fit is d) (key_absent fit2 is2 d2) = d ∙ sym d2
-key_one key these e f (key_absent fit is d) (key_length n fit2 ne is2 d2) = absurd (cc)
-key_one key these e f (key_absent fit is d) (key_short bytes fit2 lt is2 d2) = absurd (cc)
-key_one key these e f (key_length n fit ne is d) (key_unnamed u is2 d2) = absurd (u fit)
-key_one key these e f (key_length n fit ne is d) (key_absent fit2 is2 d2) = absurd (cc)
-key_one key these e f (key_length n fit ne is d) (key_length m fit2 ne2 is2 d2) = cc
-key_one key these e f (key_length n fit ne is d) (key_short bytes fit2 lt is2 d2) = absurd (cc)
-key_one key these e f (key_short bytes fit lt is d) (key_unnamed u is2 d2) = absurd (u fit)
-key_one key these e f (key_short bytes fit lt is d) (key_absent fit2 is2 d2) = absurd (cc)
-key_one key these e f (key_short bytes fit lt is d) (key_length n fit2 ne is2 d2) = absurd (cc)
-key_one key these e f (key_short bytes fit lt is d) (key_short bytes2 fit2 lt2 is2 d2) =
+key_one key these e f (key_unnamed u is ends) (key_unnamed u2 is2 ends2) = ends ∙ sym ends2
+key_one key these e f (key_unnamed u is ends) (key_absent fit is2 ends2) = absurd (u fit)
+key_one key these e f (key_unnamed u is ends) (key_length n fit ne is2 ends2) = absurd (u fit)
+key_one key these e f (key_unnamed u is ends) (key_short bytes fit lt is2 ends2) = absurd (u fit)
+key_one key these e f (key_absent fit is ends) (key_unnamed u is2 ends2) = absurd (u fit)
+key_one key these e f (key_absent fit is ends) (key_absent fit2 is2 ends2) = ends ∙ sym ends2
+key_one key these e f (key_absent fit is ends) (key_length n fit2 ne is2 ends2) = absurd (cc)
+key_one key these e f (key_absent fit is ends) (key_short bytes fit2 lt is2 ends2) = absurd (cc)
+key_one key these e f (key_length n fit ne is ends) (key_unnamed u is2 ends2) = absurd (u fit)
+key_one key these e f (key_length n fit ne is ends) (key_absent fit2 is2 ends2) = absurd (cc)
+key_one key these e f (key_length n fit ne is ends) (key_length m fit2 ne2 is2 ends2) = cc
+key_one key these e f (key_length n fit ne is ends) (key_short bytes fit2 lt is2 ends2) = absurd (cc)
+key_one key these e f (key_short bytes fit lt is ends) (key_unnamed u is2 ends2) = absurd (u fit)
+key_one key these e f (key_short bytes fit lt is ends) (key_absent fit2 is2 ends2) = absurd (cc)
+key_one key these e f (key_short bytes fit lt is ends) (key_length n fit2 ne is2 ends2) = absurd (cc)
+key_one key these e f (key_short bytes fit lt is ends) (key_short bytes2 fit2 lt2 is2 ends2) =
     let same : bytes ≡ bytes2 = cc in
-    d ∙ ap (λ (b : List ℕ). KeyFile (length b)) same ∙ sym d2
+    ends ∙ ap (λ (b : List ℕ). KeyFile (length b)) same ∙ sym ends2
 
 -- a key that was read was not refused
 key_not_both : (key : Name) (these : List Answer) (e : Ending) (user : List ℕ) (rest : List Answer) → KeyRefused key these e → HasKey key user → these ≡ LengthWas key (Some 16) ∷ Gave key 0 16 user ∷ rest → ⊥
-key_not_both key these e user rest (key_unnamed u is d) has read = u has.is_name
-key_not_both key these e user rest (key_absent fit is d) has read = absurd (cc)
-key_not_both key these e user rest (key_length n fit ne is d) has read =
+key_not_both key these e user rest (key_unnamed u is ends) has read = u has.is_name
+key_not_both key these e user rest (key_absent fit is ends) has read = absurd (cc)
+key_not_both key these e user rest (key_length n fit ne is ends) has read =
     let same : n ≡ 16 = cc in
     ne same
-key_not_both key these e user rest (key_short bytes fit lt is d) has read =
+key_not_both key these e user rest (key_short bytes fit lt is ends) has read =
     let same : bytes ≡ user = cc in
     omega (arith, lt, ap (λ (l : List ℕ). length l) same, has.whole)
 
@@ -79,21 +79,21 @@ whole_not_failed node (NotFound name) whole fails = fails
 whole_not_failed node (KeyFile number) whole fails = fails
 
 node_one : (input : Name) (these : List Answer) (e f : Ending) → NodeRefused input these e → NodeRefused input these f → e ≡ f
-node_one input these e f (input_unnamed u is d) (input_unnamed u2 is2 d2) = d ∙ sym d2
-node_one input these e f (input_unnamed u is d) (steps.input_absent fit is2 d2) = absurd (u fit)
-node_one input these e f (input_unnamed u is d) (node_fails size node fit is2 fails) = absurd (u fit)
-node_one input these e f (steps.input_absent fit is d) (input_unnamed u is2 d2) = absurd (u fit)
-node_one input these e f (steps.input_absent fit is d) (steps.input_absent fit2 is2 d2) = d ∙ sym d2
-node_one input these e f (steps.input_absent fit is d) (node_fails size node fit2 is2 fails) = absurd (cc)
-node_one input these e f (node_fails size node fit is fails) (input_unnamed u is2 d2) = absurd (u fit)
-node_one input these e f (node_fails size node fit is fails) (steps.input_absent fit2 is2 d2) = absurd (cc)
+node_one input these e f (input_unnamed u is ends) (input_unnamed u2 is2 ends2) = ends ∙ sym ends2
+node_one input these e f (input_unnamed u is ends) (steps.input_absent fit is2 ends2) = absurd (u fit)
+node_one input these e f (input_unnamed u is ends) (node_fails size node fit is2 fails) = absurd (u fit)
+node_one input these e f (steps.input_absent fit is ends) (input_unnamed u is2 ends2) = absurd (u fit)
+node_one input these e f (steps.input_absent fit is ends) (steps.input_absent fit2 is2 ends2) = ends ∙ sym ends2
+node_one input these e f (steps.input_absent fit is ends) (node_fails size node fit2 is2 fails) = absurd (cc)
+node_one input these e f (node_fails size node fit is fails) (input_unnamed u is2 ends2) = absurd (u fit)
+node_one input these e f (node_fails size node fit is fails) (steps.input_absent fit2 is2 ends2) = absurd (cc)
 node_one input these e f (node_fails size node fit is fails) (node_fails size2 node2 fit2 is2 fails2) =
     let same : node2 ≡ node = cc in
     node_fails_one node e f fails (subst (λ (n : List ℕ). NodeFails n f) same fails2)
 
 node_not_both : (input : Name) (these : List Answer) (e : Ending) (size : ℕ) (node : List ℕ) → NodeRefused input these e → IsTarget input → these ≡ node_answers input size node → IsWhole node → ⊥
-node_not_both input these e size node (input_unnamed u is d) fit read whole = u fit
-node_not_both input these e size node (steps.input_absent fit2 is d) fit read whole = absurd (cc)
+node_not_both input these e size node (input_unnamed u is ends) fit read whole = u fit
+node_not_both input these e size node (steps.input_absent fit2 is ends) fit read whole = absurd (cc)
 node_not_both input these e size node (node_fails size2 node2 fit2 is fails) fit read whole =
     let same : node2 ≡ node = cc in
     whole_not_failed node e whole (subst (λ (n : List ℕ). NodeFails n e) same fails)
@@ -136,21 +136,21 @@ fields_one user node path size root_key root_tag first path2 size2 root_key2 roo
     (all.1, all.4)
 
 opens_one : (user node : List ℕ) (e f : Ending) → OpensTo user node e → OpensTo user node f → e ≡ f
-opens_one user node e f (meta_damaged kind fault d) (meta_damaged other fault2 d2) = d ∙ ap (λ (k : Kind). Damaged k) (fault_one user node kind other fault fault2) ∙ sym d2
-opens_one user node e f (meta_damaged kind fault d) (content_large path size rk rt first opens gt d2) = absurd (fault_not_open user node kind path size rk rt first fault opens)
-opens_one user node e f (meta_damaged kind fault d) (content_whole path size rk rt first opens le d2) = absurd (fault_not_open user node kind path size rk rt first fault opens)
-opens_one user node e f (content_large path size rk rt first opens gt d) (meta_damaged kind fault d2) = absurd (fault_not_open user node kind path size rk rt first fault opens)
-opens_one user node e f (content_large path size rk rt first opens gt d) (content_large path2 size2 rk2 rt2 first2 opens2 gt2 d2) = d ∙ sym d2
-opens_one user node e f (content_large path size rk rt first opens gt d) (content_whole path2 size2 rk2 rt2 first2 opens2 le d2) =
+opens_one user node e f (meta_damaged kind fault ends) (meta_damaged other fault2 ends2) = ends ∙ ap (λ (k : Kind). Damaged k) (fault_one user node kind other fault fault2) ∙ sym ends2
+opens_one user node e f (meta_damaged kind fault ends) (content_large path size rk rt first opens gt ends2) = absurd (fault_not_open user node kind path size rk rt first fault opens)
+opens_one user node e f (meta_damaged kind fault ends) (content_whole path size rk rt first opens le ends2) = absurd (fault_not_open user node kind path size rk rt first fault opens)
+opens_one user node e f (content_large path size rk rt first opens gt ends) (meta_damaged kind fault ends2) = absurd (fault_not_open user node kind path size rk rt first fault opens)
+opens_one user node e f (content_large path size rk rt first opens gt ends) (content_large path2 size2 rk2 rt2 first2 opens2 gt2 ends2) = ends ∙ sym ends2
+opens_one user node e f (content_large path size rk rt first opens gt ends) (content_whole path2 size2 rk2 rt2 first2 opens2 le ends2) =
     let same = fields_one user node path size rk rt first path2 size2 rk2 rt2 first2 opens opens2 in
     absurd (omega (arith, gt, le, same.0))
-opens_one user node e f (content_whole path size rk rt first opens le d) (meta_damaged kind fault d2) = absurd (fault_not_open user node kind path size rk rt first fault opens)
-opens_one user node e f (content_whole path size rk rt first opens le d) (content_large path2 size2 rk2 rt2 first2 opens2 gt d2) =
+opens_one user node e f (content_whole path size rk rt first opens le ends) (meta_damaged kind fault ends2) = absurd (fault_not_open user node kind path size rk rt first fault opens)
+opens_one user node e f (content_whole path size rk rt first opens le ends) (content_large path2 size2 rk2 rt2 first2 opens2 gt ends2) =
     let same = fields_one user node path size rk rt first path2 size2 rk2 rt2 first2 opens opens2 in
     absurd (omega (arith, gt, le, same.0))
-opens_one user node e f (content_whole path size rk rt first opens le d) (content_whole path2 size2 rk2 rt2 first2 opens2 le2 d2) =
+opens_one user node e f (content_whole path size rk rt first opens le ends) (content_whole path2 size2 rk2 rt2 first2 opens2 le2 ends2) =
     let same = fields_one user node path size rk rt first path2 size2 rk2 rt2 first2 opens opens2 in
-    d ∙ ap (λ (n : ℕ). Done (take n first)) same.0 ∙ ap (λ (l : List ℕ). Done (take size2 l)) same.1 ∙ sym d2
+    ends ∙ ap (λ (n : ℕ). Done (take n first)) same.0 ∙ ap (λ (l : List ℕ). Done (take size2 l)) same.1 ∙ sym ends2
 
 read_one : (user : List ℕ) (input : Name) (these : List Answer) (e f : Ending) → Opens user input these e → Opens user input these f → e ≡ f
 read_one user input these e f (node_refused a) (node_refused b) = node_one input these e f a b
@@ -173,31 +173,31 @@ decrypts_one key input these e f (key_read user rest has is opens) (key_read use
     read_one user input rest e f opens (subst (λ (u : List ℕ). Opens u input rest f) user_same (subst (λ (r : List Answer). Opens user2 input r f) rest_same opens2))
 
 sealing_one : (user user2 : List ℕ) (input output : Name) (these : List Answer) (taken taken2 : List (List ℕ)) (e f : Ending) → EncryptsTo user input output these taken e → EncryptsTo user2 input output these taken2 f → e ≡ f
-sealing_one user user2 input output these taken taken2 e f (output_unnamed u is t d) (output_unnamed u2 is2 t2 d2) = d ∙ sym d2
-sealing_one user user2 input output these taken taken2 e f (output_unnamed u is t d) (input_unfit fit u2 is2 t2 d2) = d ∙ sym d2
-sealing_one user user2 input output these taken taken2 e f (output_unnamed u is t d) (input_absent fit fit2 is2 t2 d2) = absurd (u fit)
-sealing_one user user2 input output these taken taken2 e f (output_unnamed u is t d) (input_large size nonce bytes fit fit2 two gt is2 d2) = absurd (u fit)
-sealing_one user user2 input output these taken taken2 e f (output_unnamed u is t d) (published size first second content a b fit fit2 n1 n2 t2 le is2 d2) = absurd (u fit)
-sealing_one user user2 input output these taken taken2 e f (input_unfit fit u is t d) (output_unnamed u2 is2 t2 d2) = d ∙ sym d2
-sealing_one user user2 input output these taken taken2 e f (input_unfit fit u is t d) (input_unfit fit2 u2 is2 t2 d2) = d ∙ sym d2
-sealing_one user user2 input output these taken taken2 e f (input_unfit fit u is t d) (input_absent fit2 fit3 is2 t2 d2) = absurd (u fit3)
-sealing_one user user2 input output these taken taken2 e f (input_unfit fit u is t d) (input_large size nonce bytes fit2 fit3 two gt is2 d2) = absurd (u fit3)
-sealing_one user user2 input output these taken taken2 e f (input_unfit fit u is t d) (published size first second content a b fit2 fit3 n1 n2 t2 le is2 d2) = absurd (u fit3)
-sealing_one user user2 input output these taken taken2 e f (input_absent fit fit2 is t d) (output_unnamed u is2 t2 d2) = absurd (u fit)
-sealing_one user user2 input output these taken taken2 e f (input_absent fit fit2 is t d) (input_unfit fit3 u is2 t2 d2) = absurd (u fit2)
-sealing_one user user2 input output these taken taken2 e f (input_absent fit fit2 is t d) (input_absent fit3 fit4 is2 t2 d2) = d ∙ sym d2
-sealing_one user user2 input output these taken taken2 e f (input_absent fit fit2 is t d) (input_large size nonce bytes fit3 fit4 two gt is2 d2) = absurd (omega (arith, ap (λ (l : List Answer). length l) is, ap (λ (l : List Answer). length l) is2))
-sealing_one user user2 input output these taken taken2 e f (input_absent fit fit2 is t d) (published size first second content a b fit3 fit4 n1 n2 t2 le is2 d2) = absurd (omega (arith, ap (λ (l : List Answer). length l) is, ap (λ (l : List Answer). length l) is2))
-sealing_one user user2 input output these taken taken2 e f (input_large size nonce bytes fit fit2 two gt is d) (output_unnamed u is2 t2 d2) = absurd (u fit)
-sealing_one user user2 input output these taken taken2 e f (input_large size nonce bytes fit fit2 two gt is d) (input_unfit fit3 u is2 t2 d2) = absurd (u fit2)
-sealing_one user user2 input output these taken taken2 e f (input_large size nonce bytes fit fit2 two gt is d) (input_absent fit3 fit4 is2 t2 d2) = absurd (omega (arith, ap (λ (l : List Answer). length l) is, ap (λ (l : List Answer). length l) is2))
-sealing_one user user2 input output these taken taken2 e f (input_large size nonce bytes fit fit2 two gt is d) (input_large size2 nonce2 bytes2 fit3 fit4 two2 gt2 is2 d2) = d ∙ sym d2
-sealing_one user user2 input output these taken taken2 e f (input_large size nonce bytes fit fit2 two gt is d) (published size2 first second content a b fit3 fit4 n1 n2 t2 le is2 d2) = absurd (omega (arith, ap (λ (l : List Answer). length l) is, ap (λ (l : List Answer). length l) is2))
-sealing_one user user2 input output these taken taken2 e f (published size first second content a b fit fit2 n1 n2 t le is d) (output_unnamed u is2 t2 d2) = absurd (u fit)
-sealing_one user user2 input output these taken taken2 e f (published size first second content a b fit fit2 n1 n2 t le is d) (input_unfit fit3 u is2 t2 d2) = absurd (u fit2)
-sealing_one user user2 input output these taken taken2 e f (published size first second content a b fit fit2 n1 n2 t le is d) (input_absent fit3 fit4 is2 t2 d2) = absurd (omega (arith, ap (λ (l : List Answer). length l) is, ap (λ (l : List Answer). length l) is2))
-sealing_one user user2 input output these taken taken2 e f (published size first second content a b fit fit2 n1 n2 t le is d) (input_large size2 nonce bytes fit3 fit4 two gt is2 d2) = absurd (omega (arith, ap (λ (l : List Answer). length l) is, ap (λ (l : List Answer). length l) is2))
-sealing_one user user2 input output these taken taken2 e f (published size first second content a b fit fit2 n1 n2 t le is d) (published size2 first2 second2 content2 a2 b2 fit3 fit4 n3 n4 t2 le2 is2 d2) = d ∙ sym d2
+sealing_one user user2 input output these taken taken2 e f (output_unnamed u is t ends) (output_unnamed u2 is2 t2 ends2) = ends ∙ sym ends2
+sealing_one user user2 input output these taken taken2 e f (output_unnamed u is t ends) (input_unfit fit u2 is2 t2 ends2) = ends ∙ sym ends2
+sealing_one user user2 input output these taken taken2 e f (output_unnamed u is t ends) (input_absent fit fit2 is2 t2 ends2) = absurd (u fit)
+sealing_one user user2 input output these taken taken2 e f (output_unnamed u is t ends) (input_large size nonce bytes fit fit2 two gt is2 ends2) = absurd (u fit)
+sealing_one user user2 input output these taken taken2 e f (output_unnamed u is t ends) (published size first second content a b fit fit2 n1 n2 t2 le is2 ends2) = absurd (u fit)
+sealing_one user user2 input output these taken taken2 e f (input_unfit fit u is t ends) (output_unnamed u2 is2 t2 ends2) = ends ∙ sym ends2
+sealing_one user user2 input output these taken taken2 e f (input_unfit fit u is t ends) (input_unfit fit2 u2 is2 t2 ends2) = ends ∙ sym ends2
+sealing_one user user2 input output these taken taken2 e f (input_unfit fit u is t ends) (input_absent fit2 fit3 is2 t2 ends2) = absurd (u fit3)
+sealing_one user user2 input output these taken taken2 e f (input_unfit fit u is t ends) (input_large size nonce bytes fit2 fit3 two gt is2 ends2) = absurd (u fit3)
+sealing_one user user2 input output these taken taken2 e f (input_unfit fit u is t ends) (published size first second content a b fit2 fit3 n1 n2 t2 le is2 ends2) = absurd (u fit3)
+sealing_one user user2 input output these taken taken2 e f (input_absent fit fit2 is t ends) (output_unnamed u is2 t2 ends2) = absurd (u fit)
+sealing_one user user2 input output these taken taken2 e f (input_absent fit fit2 is t ends) (input_unfit fit3 u is2 t2 ends2) = absurd (u fit2)
+sealing_one user user2 input output these taken taken2 e f (input_absent fit fit2 is t ends) (input_absent fit3 fit4 is2 t2 ends2) = ends ∙ sym ends2
+sealing_one user user2 input output these taken taken2 e f (input_absent fit fit2 is t ends) (input_large size nonce bytes fit3 fit4 two gt is2 ends2) = absurd (omega (arith, ap (λ (l : List Answer). length l) is, ap (λ (l : List Answer). length l) is2))
+sealing_one user user2 input output these taken taken2 e f (input_absent fit fit2 is t ends) (published size first second content a b fit3 fit4 n1 n2 t2 le is2 ends2) = absurd (omega (arith, ap (λ (l : List Answer). length l) is, ap (λ (l : List Answer). length l) is2))
+sealing_one user user2 input output these taken taken2 e f (input_large size nonce bytes fit fit2 two gt is ends) (output_unnamed u is2 t2 ends2) = absurd (u fit)
+sealing_one user user2 input output these taken taken2 e f (input_large size nonce bytes fit fit2 two gt is ends) (input_unfit fit3 u is2 t2 ends2) = absurd (u fit2)
+sealing_one user user2 input output these taken taken2 e f (input_large size nonce bytes fit fit2 two gt is ends) (input_absent fit3 fit4 is2 t2 ends2) = absurd (omega (arith, ap (λ (l : List Answer). length l) is, ap (λ (l : List Answer). length l) is2))
+sealing_one user user2 input output these taken taken2 e f (input_large size nonce bytes fit fit2 two gt is ends) (input_large size2 nonce2 bytes2 fit3 fit4 two2 gt2 is2 ends2) = ends ∙ sym ends2
+sealing_one user user2 input output these taken taken2 e f (input_large size nonce bytes fit fit2 two gt is ends) (published size2 first second content a b fit3 fit4 n1 n2 t2 le is2 ends2) = absurd (omega (arith, ap (λ (l : List Answer). length l) is, ap (λ (l : List Answer). length l) is2))
+sealing_one user user2 input output these taken taken2 e f (published size first second content a b fit fit2 n1 n2 t le is ends) (output_unnamed u is2 t2 ends2) = absurd (u fit)
+sealing_one user user2 input output these taken taken2 e f (published size first second content a b fit fit2 n1 n2 t le is ends) (input_unfit fit3 u is2 t2 ends2) = absurd (u fit2)
+sealing_one user user2 input output these taken taken2 e f (published size first second content a b fit fit2 n1 n2 t le is ends) (input_absent fit3 fit4 is2 t2 ends2) = absurd (omega (arith, ap (λ (l : List Answer). length l) is, ap (λ (l : List Answer). length l) is2))
+sealing_one user user2 input output these taken taken2 e f (published size first second content a b fit fit2 n1 n2 t le is ends) (input_large size2 nonce bytes fit3 fit4 two gt is2 ends2) = absurd (omega (arith, ap (λ (l : List Answer). length l) is, ap (λ (l : List Answer). length l) is2))
+sealing_one user user2 input output these taken taken2 e f (published size first second content a b fit fit2 n1 n2 t le is ends) (published size2 first2 second2 content2 a2 b2 fit3 fit4 n3 n4 t2 le2 is2 ends2) = ends ∙ sym ends2
 
 -- answers lead `encrypt` to one ending, whatever random words were taken
 pub encrypts_one : (key input output : Name) (these : List Answer) (taken taken2 : List (List ℕ)) (e f : Ending) → Encrypts key input output these taken e → Encrypts key input output these taken2 f → e ≡ f

@@ -4,7 +4,9 @@ ghost use Rattle.pf_io.specs.Counts.{Rose};
 ghost use Rattle.pf_io.specs.Host.{Name, Files, KeepsFiles, WhereTold, files_of};
 ghost use Rattle.pf_tool.specs.Words.{texts, decrypt_words, encrypt_words};
 ghost use Rattle.pf_tool.specs.Commands.{IsNoCommand};
+ghost use Rattle.pf_io.specs.Names.{IsTarget};
 ghost use Rattle.pf_tool.specs.Crash.{OnlyReads};
+ghost use Rattle.pf_tool.specs.Encrypting.{IsInput};
 ghost use Rattle.pf_tool.specs.Faults.{fault_line, fault_status, no_command_line};
 ghost use Rattle.pf_tool.specs.Steps.{Ending};
 ghost use Rattle.pf_tool.specs.Reports.{Reported, Wrote};
@@ -59,6 +61,7 @@ fn run_encrypt<H: Host, L: Sink, R: Words>(
     random: &mut R,
 ) -> u8
     ensures runs { EncryptRuns command.now.key.now command.now.input.now command.now.output.now (H.state host.old) (H.state host.new) (R.state random.old) (R.state random.new) (L.state log.old) (L.state log.new) result }
+    ensures unfit { ¬ (IsTarget command.now.output.now × IsInput command.now.input.now command.now.output.now) → OnlyReads (H.state host.old) (H.state host.new) }
     ensures disk { EncryptDisk result command.now.key.now command.now.input.now command.now.output.now (H.state host.old) (H.state host.new) }
 {
     match encrypt(alloc, host, random, command) {
@@ -123,8 +126,9 @@ pub fn run<H: Host, S: Source, K: Sink, L: Sink, R: Words>(
     ensures one_ending_encrypt { (key name output : Name) (files : Files) (ending other : Ending) → EncryptEnding key name output files ending → EncryptEnding key name output files other → ending ≡ other }
 
     // On an honest disk, whatever fails: a crash at any moment of `encrypt` leaves the output as it was or whole, and every
-    // other name but the side file's as it was. No other words change anything.
+    // other name but the side file's as it was. Where the names do not fit, and for all other words, nothing changes.
     ensures disk { (key name output : Name) → texts words.now ≡ encrypt_words key name output → EncryptDisk result key name output (H.state host.old) (H.state host.new) }
+    ensures disk_unfit { (key name output : Name) → texts words.now ≡ encrypt_words key name output → ¬ (IsTarget output × IsInput name output) → OnlyReads (H.state host.old) (H.state host.new) }
     ensures disk_kept { IsNoEncrypt (texts words.now) → OnlyReads (H.state host.old) (H.state host.new) }
 
     // What stays.
