@@ -17,8 +17,7 @@ use Rattle.pf_tool.specs.Sealing.{Reached, Fails, by_answers, by_host, by_random
 use Rattle.pf_tool.specs.Steps.{Ending, Done, BadName, key_answers, HasKey, KeyRefused}
 use Rattle.pf_tool.specs.declared.fault.Fault.{Fault}
 use Rattle.pf_tool.specs.declared.fault.Fault.TheVariants as faults
-use Rattle.pf_tool.proofs.SealDisk.{either_left}
-use Rattle.pf_tool.proofs.SealInput.{ended_early}
+use Rattle.pf_tool.proofs.SealDisk.{either_left, same_output}
 use Rattle.pf_tool.proofs.Tracing.{went_reading, went_then}
 use Rattle.pf_tool.proofs.Writing.{rose_later}
 
@@ -117,7 +116,7 @@ pub refused_disk : {T : Type 0} (r : Result T Fault) (key input output : Name) (
     → Both o p (Ran (LeavesEncrypted key input output) (EncryptEnds r key input output))
 refused_disk r key input output o p failed only =
     both_weaker (Ran (LeavesEncrypted key input output) (λ before now. now ≡ before)) (Ran (LeavesEncrypted key input output) (EncryptEnds r key input output)) o p (key_disk key input output o p only)
-    (λ a b run. record { leaves = run.leaves; ends = ended_early r (user_on a.now key) input output a.now b.now failed (λ other ne. ap (λ (x : Disk). x other) run.ends) })
+    (λ a b run. record { leaves = run.leaves; ends = same_output r (user_on a.now key) output (content_on a.now input) a.now b.now failed (λ other ne. ap (λ (x : Disk). x other) run.ends) })
 
 -- the sealing after the reading of the key
 pub sealing_disk : {T : Type 0} (r : Result T Fault) (key input output : Name) (user : List ℕ) (o p q : Option Honest) → Both o p (Ran IsImage (λ before now. now ≡ before))

@@ -143,7 +143,7 @@ side_first A user output content R step o q does go =
     (λ a. (go d f a from_d).1, λ image is a. either_left user output content d f (go d f a from_d).0 image is))
 
 -- an end in which only the side file changed
-same_output : {T : Type 0} (r : Result T Fault) (user : List ℕ) (output : Name) (content : List ℕ) (d f : Disk) → IsErr r → KeepsOthers (side_of output) d f → SealEnds r user output content d f
+pub same_output : {T : Type 0} (r : Result T Fault) (user : List ℕ) (output : Name) (content : List ℕ) (d f : Disk) → IsErr r → KeepsOthers (side_of output) d f → SealEnds r user output content d f
 same_output (Ok v) user output content d f failed keeps = absurd (cc)
 same_output (Err x) user output content d f failed keeps = record { here = inl (keeps output (not_side output)); others = λ other ne side. keeps other side }
 

@@ -13,7 +13,7 @@ use Rattle.pf_tool.specs.Sheet.{StandsFor}
 use Rattle.pf_tool.specs.Crash.{HasShort, Begun, LeavesOthers, LeavesEither, IsSealed, SealEnds, content_on, LeavesSealed, InputEnds}
 use Rattle.pf_tool.specs.Encrypting.{side_of}
 use Rattle.pf_tool.specs.declared.fault.Fault.{Fault}
-use Rattle.pf_tool.proofs.SealDisk.{not_side, either_left}
+use Rattle.pf_tool.proofs.SealDisk.{not_side, either_left, same_output}
 
 -- what is known of the files at the end of a run
 pub knowing : (F : Files → Type 0) (P : Disk → Image → Type 0) (Q : Disk → Disk → Type 0) (o p : Option Honest) → Both o p (Ran P Q) → IfSome (option_map (λ host. reading host.now) p) F
@@ -30,11 +30,6 @@ read_all n buffer bytes reads long small = reads.filled ∙ take_all n bytes (om
 -- the input reads as it did, where only the side file changed
 pub same_input : (input output : Name) (d e : Disk) → input ≢ side_of output → KeepsOthers (side_of output) d e → content_on e input ≡ content_on d input
 same_input input output d e ne keeps = ap (λ (o : Option File). contents (read_of o)) (keeps input ne)
-
--- a run that ended before anything was changed but the side file
-pub ended_early : {T : Type 0} (r : Result T Fault) (user : List ℕ) (input output : Name) (d e : Disk) → IsErr r → KeepsOthers (side_of output) d e → InputEnds r user input output d e
-ended_early (Ok v) user input output d e failed keeps = absurd (cc)
-ended_early (Err x) user input output d e failed keeps = record { here = inl (keeps output (not_side output)); others = λ other ne side. keeps other side }
 
 pub either_back : (user : List ℕ) (output : Name) (content content2 : List ℕ) (d e : Disk) (image : Image) → content ≡ content2 → KeepsOthers (side_of output) d e → LeavesEither user output content e image → LeavesEither user output content2 d image
 either_back user output content content2 d e image same keeps left = record {
@@ -99,7 +94,7 @@ pub ending_early : {T : Type 0} (r : Result T Fault) (Q : Disk → Disk → Type
     → Beginning Q user input output o p → Beginning (InputEnds r user input output) user input output o p
 ending_early r Q user input output o p failed kept ran =
     both_weaker (Ran (LeavesSealed user input output) Q) (Ran (LeavesSealed user input output) (InputEnds r user input output)) o p ran
-    (λ a b run. record { leaves = run.leaves; ends = ended_early r user input output a.now b.now failed (kept a.now b.now run.ends) })
+    (λ a b run. record { leaves = run.leaves; ends = same_output r user output (content_on a.now input) a.now b.now failed (kept a.now b.now run.ends) })
 
 -- the publishing of what was read
 pub publishing : {T : Type 0} (r : Result T Fault) (user : List ℕ) (input output side : Name) (content : List ℕ) (o p q : Option Honest) → side ≡ side_of output
