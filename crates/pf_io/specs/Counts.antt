@@ -1,5 +1,5 @@
 -- Counts that rise and stand still at their last value, and the causes that rest on them.
-use Rattle.std.specs.Prelude.{ℕ, ◌+◌, ◌-◌, ◌^◌, ◌≤◌, min, Result, OnErr}
+use Rattle.std.specs.Prelude.{◌≡◌, ℕ, ◌+◌, ◌-◌, ◌^◌, ◌≤◌, min, Result, OnOk, OnErr}
 
 -- the last value of a count, at which it stands still
 abbrev pub LAST : ℕ
@@ -17,7 +17,8 @@ counted count = counted_by 1 count
 abbrev pub Rose : ℕ → ℕ → Type 0
 Rose before now = counted before ≤ now
 
--- the count of faults never falls, and a fault comes only where it rose
+-- The count of faults never falls. At Ok it is as before, and a fault comes only where it rose.
 pub record HasCause {T E : Type 0} (before now : ℕ) (result : Result T E) : Type 0 where
   pub later : before ≤ now
+  pub still : OnOk result (now ≡ before)
   pub rose : OnErr result (Rose before now)

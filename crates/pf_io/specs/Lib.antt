@@ -4,6 +4,7 @@ pub mod Disk
 pub mod Moments
 pub mod Steps
 pub mod Host
+pub mod Answered
 pub mod Replay
 pub mod Streams
 pub mod Words

@@ -9,7 +9,7 @@ use Rattle.pf_io.specs.Moments.{Honest, Ran}
 use Rattle.pf_io.specs.Words.{WordsState}
 use Rattle.pf_io.proofs.Runs.{started, goes_on_ran}
 use Rattle.pf_io.proofs.Telling.{both_weaker}
-use Rattle.pf_tool.specs.Answered.{Answered, IsAnswerOf}
+use Rattle.pf_io.specs.Answered.{Answered, IsAnswerOf}
 use Rattle.pf_tool.specs.Crash.{LeavesEither, LeavesSealed, InputEnds, LeavesEncrypted, EncryptEnds, SealEnds, user_on, content_on}
 use Rattle.pf_tool.specs.Encrypting.{Went, IsInput, EncryptsTo, output_unnamed, input_unfit, Encrypts, encrypt_key_refused, encrypt_key_read}
 use Rattle.pf_tool.specs.Faults.{Finished, EndsBy, Refuses}

@@ -5,7 +5,7 @@ use Rattle.std.proofs.lemmas.List.{take_min}
 use Rattle.std.proofs.lemmas.Option.{IfSome_then}
 use Rattle.pf_io.specs.Host.{Name, Files, Answer, LengthWas, Gave, HostState, Both, IsMore, KeepsFiles, OnHonest, ReadsFrom, KeepsRest, length_of, contents, files_of}
 use Rattle.pf_io.proofs.Telling.{told_on, told_none}
-use Rattle.pf_tool.specs.Answered.{Answered, IsAnswerOf}
+use Rattle.pf_io.specs.Answered.{Answered, IsAnswerOf}
 use Rattle.pf_tool.specs.Steps.{node_answers}
 
 pub both_honest : (P Q R : Files → Type 0) (files : Option Files) → ((f : Files) → P f → Q f → R f) → IfSome files P → IfSome files Q → IfSome files R

@@ -5,7 +5,7 @@ use Rattle.pf_io.specs.Counts.{Rose}
 use Rattle.pf_io.specs.Host.{Name, Answer, HostState, Both, IsMore}
 use Rattle.pf_io.specs.Streams.{SinkState}
 use Rattle.pf_io.specs.Words.{WordsState}
-use Rattle.pf_tool.specs.Answered.{Told}
+use Rattle.pf_io.specs.Answered.{WereTold}
 use Rattle.pf_tool.specs.Encrypting.{Encrypts}
 use Rattle.pf_tool.specs.EncryptRun.{EncryptRuns, encrypted, encrypt_refused, encrypt_host_failed, encrypt_random_failed, encrypt_starved, EncryptDecided}
 use Rattle.pf_tool.specs.Faults.{Finished, ending_line, ending_status}
@@ -33,7 +33,7 @@ reported_as : (log said : SinkState) (status : ℕ) (ending other : Ending) → 
 reported_as log said status ending other is reported = subst (λ (e : Ending). Reported (ending_line e) (ending_status e) log said status) is reported
 
 module _ (key input : Name) (old new : HostState) (before after log said : SinkState) (status : ℕ) where
-  finished_one : (ending other : Ending) (these : List Answer) → Finished (Decrypts key input) old new ending → Told these old new → Decrypts key input these other → ending ≡ other
+  finished_one : (ending other : Ending) (these : List Answer) → Finished (Decrypts key input) old new ending → WereTold these old new → Decrypts key input these other → ending ≡ other
   finished_one ending other these finished told came =
       let same = same_answers these finished.these old.given new.given told.before told.was told.now finished.answered.told in
       decrypts_one key input these ending other (subst (λ (l : List Answer). Decrypts key input l ending) (sym same) finished.came) came
@@ -45,7 +45,7 @@ module _ (key input : Name) (old new : HostState) (before after log said : SinkS
   decrypt_decided (output_failed content finished failed reported) calm these other told came ne = absurd (no_refusal content other (finished_one (Done content) other these finished told came) ne)
 
 module _ (key input output : Name) (old new : HostState) (before after : WordsState) (log said : SinkState) (status : ℕ) where
-  reached_one : (ending other : Ending) (these : List Answer) (taken : List (List ℕ)) → Reached (Encrypts key input output) old new before after ending → Told these old new
+  reached_one : (ending other : Ending) (these : List Answer) (taken : List (List ℕ)) → Reached (Encrypts key input output) old new before after ending → WereTold these old new
       → Encrypts key input output these taken other → ending ≡ other
   reached_one ending other these taken reached told came =
       let same = same_answers these reached.these old.given new.given told.before told.was told.now reached.went.told in

@@ -8,7 +8,7 @@ use Rattle.pf_io.specs.Moments.{Ran}
 use Rattle.pf_io.specs.Streams.{SinkState}
 use Rattle.pf_io.specs.Words.{WordsState}
 use Rattle.pf_io.proofs.Telling.{both_weaker}
-use Rattle.pf_tool.specs.Answered.{IsAnswerOf}
+use Rattle.pf_io.specs.Answered.{IsAnswerOf}
 use Rattle.pf_tool.specs.Crash.{IsSealed, LeavesEncrypted, EncryptEnds, user_on, content_on}
 use Rattle.pf_tool.specs.Encrypting.{Encrypts}
 use Rattle.pf_tool.specs.EncryptRun.{EncryptRuns, encrypted, encrypt_refused, encrypt_host_failed, encrypt_random_failed, encrypt_starved, EncryptEnding, HonestEncrypt, EncryptLeft, EncryptDisk}

@@ -1,7 +1,7 @@
 -- From the end of a part to the end of the whole.
 use Rattle.std.proofs.Common.{◌≤◌, List, ◌++◌}
 use Rattle.pf_io.specs.Host.{Answer, HostState}
-use Rattle.pf_tool.specs.Answered.{Answered}
+use Rattle.pf_io.specs.Answered.{Answered}
 use Rattle.pf_tool.specs.Steps.{Ending}
 use Rattle.pf_tool.specs.Faults.{Finished, EndsBy, Refuses}
 use Rattle.pf_tool.proofs.Answering.{answered_then}

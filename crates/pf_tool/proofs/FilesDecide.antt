@@ -3,7 +3,7 @@ use Rattle.std.proofs.Common.{◌≡◌, ℕ, ◌<◌, ◌≤◌, List, [], ◌�
 use Rattle.std.specs.List.{AllByRecursion}
 use Rattle.pf_io.specs.Host.{Name, Files, Answer, LengthWas, Gave, length_of, contents}
 use Rattle.pf_io.specs.Names.{IsTarget}
-use Rattle.pf_tool.specs.Answered.{IsAnswerOf}
+use Rattle.pf_io.specs.Answered.{IsAnswerOf}
 use Rattle.pf_tool.specs.Encrypting.{EncryptsTo, output_unnamed, input_unfit, input_absent, input_large, published, Encrypts, encrypt_key_refused, encrypt_key_read, begun_answers, published_answers, node_of}
 use Rattle.pf_tool.specs.EncryptRun.{EncryptEnding}
 use Rattle.pf_tool.specs.Run.{HonestEnding}

@@ -9,7 +9,7 @@ use Rattle.pf_io.specs.Counts.{Rose}
 use Rattle.pf_io.specs.Host.{Name, Files, Answer, HostState, WhereTold, IsMore, files_of}
 use Rattle.pf_io.specs.Streams.{SinkState}
 use Rattle.pf_io.proofs.Telling.{told_by, both_same}
-use Rattle.pf_tool.specs.Answered.{IsAnswerOf}
+use Rattle.pf_io.specs.Answered.{IsAnswerOf}
 use Rattle.pf_tool.specs.Faults.{Finished, EndsBy, ending_line, ending_status, ending_output, fault_line, fault_status, memory_line}
 use Rattle.pf_tool.specs.Reports.{Wrote, FailedIn, Reported, line_written, no_memory, log_failed}
 use Rattle.pf_tool.specs.Run.{DecryptFails, by_host, by_output, DecryptRuns, accepted, refused, host_failed, output_failed, GaveContent, GaveDamage, HonestRun, HonestEnding}

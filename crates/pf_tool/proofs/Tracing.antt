@@ -7,7 +7,7 @@ use Rattle.pf_io.specs.Disk.{Name, Files}
 use Rattle.pf_io.specs.Host.{Answer, LengthWas, Gave, HostState, Both, IsMore, OnHonest, contents, files_of}
 use Rattle.pf_io.specs.Words.{WordsState}
 use Rattle.pf_io.proofs.Telling.{both_then, both_same, told_on}
-use Rattle.pf_tool.specs.Answered.{Answered, IsAnswerOf}
+use Rattle.pf_io.specs.Answered.{Answered, IsAnswerOf}
 use Rattle.pf_tool.specs.Encrypting.{Went, node_of, begun_answers, published_answers}
 use Rattle.pf_tool.specs.SideFile.{Begins, Publishes, ChangeFault, host_failed, random_failed}
 use Rattle.pf_tool.specs.Sealing.{Reached, by_host, by_random, Ends}

@@ -7,7 +7,7 @@ use Rattle.pf_io.specs.Host.{Name, Files, Answer, HostState, OnDisk}
 use Rattle.pf_io.specs.Moments.{Ran}
 use Rattle.pf_io.specs.Streams.{SinkState}
 use Rattle.pf_io.specs.Words.{WordsState}
-use Rattle.pf_tool.specs.Answered.{IsAnswerOf, Told}
+use Rattle.pf_io.specs.Answered.{IsAnswerOf, WereTold}
 use Rattle.pf_tool.specs.Crash.{IsSealed, LeavesEncrypted, user_on, content_on}
 use Rattle.pf_tool.specs.Encrypting.{Encrypts, side_of}
 use Rattle.pf_tool.specs.Faults.{ending_line, ending_status, host_line, memory_line, random_line}
@@ -39,7 +39,7 @@ pub record HonestEncrypt (key input output : Name) (files : Files) (log said : S
 
 -- where the host told these answers and they lead to a refusal, this is what was reported, or want of memory
 abbrev pub EncryptDecided : Name → Name → Name → HostState → HostState → SinkState → SinkState → ℕ → Type 0
-EncryptDecided key input output old new log said status = (these : List Answer) (taken : List (List ℕ)) (ending : Ending) → Told these old new → Encrypts key input output these taken ending
+EncryptDecided key input output old new log said status = (these : List Answer) (taken : List (List ℕ)) (ending : Ending) → WereTold these old new → Encrypts key input output these taken ending
     → ending_status ending ≢ 0 → Reported (ending_line ending) (ending_status ending) log said status ⊎ Reported memory_line 5 log said status
 
 -- What the run leaves of the disk: at status 0 the output stands for the input's content under the key; where the run was

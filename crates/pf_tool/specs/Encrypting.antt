@@ -5,7 +5,7 @@ use Rattle.node_layout.specs.Metadata.{meta_block}
 use Rattle.pf_io.specs.Host.{Name, Answer, LengthWas, Gave, Wrote, Synced, Made, Swapped, HostState, Both, IsMore, OnHonest}
 use Rattle.pf_io.specs.Names.{IsName, IsTarget}
 use Rattle.pf_io.specs.Words.{WordsState}
-use Rattle.pf_tool.specs.Answered.{IsAnswerOf}
+use Rattle.pf_io.specs.Answered.{IsAnswerOf}
 use Rattle.pf_tool.specs.Sheet.{meta_of, one_node}
 use Rattle.pf_tool.specs.Steps.{Ending, Done, BadName, NotFound, Unbuilt, MOST_FIRST, key_answers, HasKey, KeyRefused}
 

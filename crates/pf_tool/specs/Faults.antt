@@ -5,7 +5,7 @@ use Rattle.node_layout.specs.declared.damage.Kind.{Kind}
 use Rattle.node_layout.specs.declared.damage.Kind.TheVariants as kinds
 use Rattle.pf_io.specs.Host.{Answer, HostState}
 use Rattle.pf_io.specs.Counts.{Rose}
-use Rattle.pf_tool.specs.Answered.{Answered}
+use Rattle.pf_io.specs.Answered.{Answered}
 use Rattle.pf_tool.specs.Steps.{Ending, Done, BadName, NotFound, KeyFile, NotProtected, Damaged, Unbuilt}
 use Rattle.pf_tool.specs.declared.fault.Fault.{Fault}
 use Rattle.pf_tool.specs.declared.fault.Fault.TheVariants as faults

@@ -1,6 +1,5 @@
 pub mod Words
 pub mod Commands
-pub mod Answered
 pub mod Steps
 pub mod Faults
 pub mod Reports

@@ -3,7 +3,7 @@ use Rattle.std.specs.Prelude.{ℕ, ◌≤◌, List}
 use Rattle.pf_io.specs.Host.{Name, HostState}
 use Rattle.pf_io.specs.Names.{IsTarget}
 use Rattle.node_layout.specs.declared.metadata.MetaSecret.{MetaSecret}
-use Rattle.pf_tool.specs.Answered.{Answered}
+use Rattle.pf_io.specs.Answered.{Answered}
 use Rattle.pf_tool.specs.Steps.{node_answers, IsWhole, OpensAs, MOST_FIRST}
 
 -- the node was read of the name

@@ -6,7 +6,7 @@ use Rattle.node_layout.specs.declared.damage.Kind.TheVariants.{Tag, Text}
 use Rattle.pf_io.specs.Host.{Name, Files, Answer, HostState}
 use Rattle.pf_io.specs.Counts.{Rose}
 use Rattle.pf_io.specs.Streams.{SinkState}
-use Rattle.pf_tool.specs.Answered.{IsAnswerOf, Told}
+use Rattle.pf_io.specs.Answered.{IsAnswerOf, WereTold}
 use Rattle.pf_tool.specs.Steps.{Ending, Done, Decrypts, OpensAs, key_answers, node_answers}
 use Rattle.pf_tool.specs.Faults.{Finished, EndsBy, ending_line, ending_status, ending_output, host_line, memory_line, stream_line}
 use Rattle.pf_tool.specs.Reports.{Wrote, FailedIn, Reported}
@@ -70,5 +70,5 @@ pub record HonestRun (key input : Name) (files : Files) (before after log said :
 
 -- where the host told these answers and they lead to a refusal or a damage, this is what was reported
 abbrev pub DecryptDecided : Name → Name → HostState → HostState → SinkState → SinkState → ℕ → Type 0
-DecryptDecided key input old new log said status = (these : List Answer) (ending : Ending) → Told these old new → Decrypts key input these ending → ending_status ending ≢ 0
+DecryptDecided key input old new log said status = (these : List Answer) (ending : Ending) → WereTold these old new → Decrypts key input these ending → ending_status ending ≢ 0
     → Reported (ending_line ending) (ending_status ending) log said status

@@ -2,7 +2,7 @@
 ghost use Rattle.std.specs.Prelude.{◌≡◌, ◌≤◌, ◌↔◌, IsTrue, ℕ, IfOk, IfErr, OnOk, take};
 ghost use Rattle.node_layout.specs.Metadata.{magic};
 ghost use Rattle.pf_io.specs.Host.{KeepsFiles};
-ghost use Rattle.pf_tool.specs.Answered.{Answered};
+ghost use Rattle.pf_io.specs.Answered.{Answered};
 ghost use Rattle.pf_tool.specs.Crash.{OnlyReads};
 ghost use Rattle.pf_tool.specs.Steps.{key_answers, HasKey, KeyRefused, IsWhole, NodeFails, NodeRefused, OpensTo};
 ghost use Rattle.pf_tool.specs.Faults.{EndsBy, Refuses};

@@ -4,7 +4,7 @@ use Rattle.pf_io.specs.Disk.{Files}
 use Rattle.pf_io.specs.Host.{ReadsFrom, contents, LengthWas, files_of}
 use Rattle.std.proofs.lemmas.Option.{IfSome_then}
 use Rattle.std.proofs.lemmas.List.{length-take-le}
-use Rattle.pf_tool.specs.Answered.{Answered}
+use Rattle.pf_io.specs.Answered.{Answered}
 use Rattle.pf_tool.specs.Sealing.{by_answers}
 use Rattle.pf_io.specs.Steps.{KeepsOthers}
 use Rattle.pf_tool.specs.Crash.{Begun}
