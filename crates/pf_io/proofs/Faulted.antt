@@ -5,7 +5,7 @@ use Rattle.pf_io.specs.Disk.{Name, File, Disk}
 use Rattle.pf_io.specs.Moments.{Honest, Does}
 use Rattle.pf_io.specs.Steps.{Follows, Changes, Writes, Cuts, Syncs}
 
-follows_same : (step : File → File → Type 0) → ((file : File) → step file file) → (o : Option File) → Follows step o o
+pub follows_same : (step : File → File → Type 0) → ((file : File) → step file file) → (o : Option File) → Follows step o o
 follows_same step each (Some file) = each file
 follows_same step each None = tt
 
@@ -31,4 +31,4 @@ cuts_nothing fault len file = record {
 }
 
 pub syncs_nothing : {T E : Type 0} (fault : E) (file : File) → Syncs {T = T} (Err fault) file file
-syncs_nothing fault file = record { reads = refl; risks = record { keeps = λ i keeps. keeps; no_shorter = omega arith; no_longer = omega arith } }
+syncs_nothing fault file = record { reads = refl; risks = record { keeps = λ i keeps. keeps; no_shorter = omega arith; no_longer = omega arith }; settled = tt }

@@ -104,7 +104,7 @@ image_no_more f g bytes same risks image = record {
 
 -- What a crash leaves after a sync, done or not, is the file as it reads or what it left before the sync.
 pub synced_image : {T E : Type 0} (r : Result T E) (P : List ℕ → Type 0) (g h : File) (bytes : List ℕ) → P g.bytes → ((bytes : List ℕ) → IsFileImage g bytes → P bytes) → Syncs r g h → IsFileImage h bytes → P bytes
-synced_image (Ok x) P g h bytes reads before sync image = subst P (sym (settled_image h bytes sync.risks image ∙ sync.reads)) reads
+synced_image (Ok x) P g h bytes reads before sync image = subst P (sym (settled_image h bytes sync.settled image ∙ sync.reads)) reads
 synced_image (Err x) P g h bytes reads before sync image = before bytes (image_no_more g h bytes sync.reads sync.risks image)
 
 taken_front : (len l : ℕ) (xs : List ℕ) (i : ℕ) → len ≤ l → i < len → slice_get (take l xs) i ≡ slice_get xs i

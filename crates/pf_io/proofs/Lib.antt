@@ -2,6 +2,7 @@ pub mod Telling
 pub mod Loans
 pub mod Runs
 pub mod Images
+pub mod Unchanged
 mod Replacing
 mod Exemplified
 mod Stored

@@ -5,6 +5,7 @@ use Rattle.pf_io.specs.Disk.{Name, Disk}
 use Rattle.pf_io.specs.Moments.{Does}
 use Rattle.pf_io.specs.Host.{Answer, Swapped, HostState, Tells}
 use Rattle.pf_io.specs.Replay.{Event, Call, Put, Stored, Traced, Trace, answers_of, set_at, moved_by, swapped, after, after_all, before_each, empty, disk_of, honest_of}
+use Rattle.pf_io.specs.Sound.{SoundAt, sound_events}
 use Rattle.pf_io.specs.Storage.{look, event_of, events_of, stored_after, Agrees, Sets, Records}
 use Rattle.pf_io.specs.declared.storage.Entry.{Entry}
 use Rattle.pf_io.specs.declared.told.Told.{Told}
@@ -46,9 +47,9 @@ told_recorded (Err fault) answer events events' old new old_is new_is records = 
 
 -- A recorded call takes the disk on as its event does, and one that is not recorded did nothing.
 pub recorded : {T E : Type 0} (r : Result T E) (event : T → Event) (step : Result T E → Disk → Disk → Type 0) (events events' : List Event) → Records r event events events'
-    → ((value : T) (t : Trace) → step (Ok value) (disk_of t) (disk_of (after (event value) t))) → ((fault : E) (d : Disk) → step (Err fault) d d) → Does (step r) (honest_of events) (honest_of events')
+    → ((value : T) (t : Trace) → ((m : Name) → SoundAt (t m)) → step (Ok value) (disk_of t) (disk_of (after (event value) t))) → ((fault : E) (d : Disk) → step (Err fault) d d) → Does (step r) (honest_of events) (honest_of events')
 recorded (Ok value) event step events events' records does none = record {
-  disk = subst (λ (t : Trace). step (Ok value) (disk_of (after_all events empty)) (disk_of t)) (sym (after_one events events' (event value) records)) (does value (after_all events empty));
+  disk = subst (λ (t : Trace). step (Ok value) (disk_of (after_all events empty)) (disk_of t)) (sym (after_one events events' (event value) records)) (does value (after_all events empty) (sound_events events));
   time = inr (ap (λ (l : List Event). map disk_of (before_each l empty)) records ∙ past-push events (event value) empty);
 }
 recorded (Err fault) event step events events' records does none = record {

@@ -65,7 +65,7 @@ module _ (name side : Name) (bytes : List ℕ) (apart : side ≢ name) where
   pub sync_ok : (T E : Type 0) (x : T) (o p q : Option Honest) → Both o p (Ran (IsReplaced name side bytes) (Beside IsWritten)) → Both p q (Does (Changes side (Syncs {E = E} (Ok x)))) → Both o q (Ran (IsReplaced name side bytes) (Beside (IsWhole bytes)))
   sync_ok T E x o p q ran does =
       further IsWritten (IsWhole bytes) (Syncs (Ok x)) o p q ran does
-      (λ e f was does. let next = follows_at _ _ _ was.0 was.1 does.there in (next.0, next.1, next.2.reads ∙ was.2, next.2.risks))
+      (λ e f was does. let next = follows_at _ _ _ was.0 was.1 does.there in (next.0, next.1, next.2.reads ∙ was.2, next.2.settled))
 
   -- as it stands where the side file alone changed
   pub tried_beside : (Q : Option File → Type 0) (d e : Disk) → Beside Q d e → IsTried name side bytes d e

@@ -1,5 +1,6 @@
 -- A disk: its files, and what a crash may leave of them.
-use Rattle.std.specs.Prelude.{◌≡◌, ℕ, ◌<◌, ◌≤◌, Bool, true, List, ◌++◌, length, slice_get, Option, Some, None, codes}
+use Rattle.std.specs.Prelude.{◌≡◌, ℕ, ◌<◌, ◌≤◌, Bool, true, List, length, slice_get, Option, Some, None}
+use Rattle.pf_io.specs.Names.{recovery_of}
 
 -- the bytes of a name
 abbrev pub Name : Type 0
@@ -49,10 +50,6 @@ pub record IsSettledFile (file : File) : Type 0 where
 abbrev pub IsSettledAt : Option File → Type 0
 IsSettledAt (Some file) = IsSettledFile file
 IsSettledAt None = Unit {0}
-
--- the name of the recovery file of a name
-abbrev pub recovery_of : Name → Name
-recovery_of name = name ++ codes ".recovery"
 
 -- nothing is pending at the name and at its recovery name
 pub record Settled (disk : Disk) (name : Name) : Type 0 where

@@ -1,14 +1,15 @@
 pub mod Lending
 pub mod Counts
+pub mod Names
 pub mod Disk
 pub mod Moments
 pub mod Steps
 pub mod Host
 pub mod Answered
+pub mod Unchanged
 pub mod Replay
 pub mod Streams
 pub mod Words
-pub mod Names
 pub mod Replace
 pub mod Splicing
 pub mod Storage

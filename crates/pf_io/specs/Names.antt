@@ -37,3 +37,15 @@ pub record IsTargetPart (part : List ℕ) : Type 0 where
 pub record IsTarget (name : List ℕ) : Type 0 where
   pub is_name : IsName name
   pub is_part : IsTargetPart (last_part name)
+
+-- the name of the recovery file of a name
+abbrev pub recovery_of : List ℕ → List ℕ
+recovery_of name = name ++ codes ".recovery"
+
+-- the name of the side file that a name's next file is made under
+abbrev pub side_of : List ℕ → List ℕ
+side_of name = name ++ codes ".new"
+
+-- the name of the recovery file of the side file
+abbrev pub side_recovery_of : List ℕ → List ℕ
+side_recovery_of name = name ++ codes ".new.recovery"

@@ -1,5 +1,5 @@
 -- What each call does to an honest disk, at Ok and at a fault.
-use Rattle.std.specs.Prelude.{◌≡◌, ◌≢◌, ◌⊎◌, ℕ, zero, suc, ◌+◌, ◌-◌, ◌<◌, ◌≤◌, min, max, true, List, [], ◌∷◌, ◌++◌, length, take, drop, replicate, slice_get, Option, Some, None, Result, Ok, Err, MatchResult}
+use Rattle.std.specs.Prelude.{◌≡◌, ◌≢◌, ◌⊎◌, ℕ, zero, suc, ◌+◌, ◌-◌, ◌<◌, ◌≤◌, min, max, true, List, [], ◌∷◌, ◌++◌, length, take, drop, replicate, slice_get, Option, Some, None, Result, Ok, Err, MatchResult, OnOk}
 use Rattle.pf_io.specs.Disk.{Name, File, Disk, IsSettledFile}
 
 -- The bytes are put at a place; a gap before them reads as zeros. Writing none changes nothing.
@@ -58,10 +58,11 @@ pub record Cuts {T E : Type 0} (len : ℕ) (result : Result T E) (old new : File
   pub reads : MatchResult result (λ _. new.bytes ≡ take len old.bytes) (λ _. (l : ℕ) × (len ≤ l) × (new.bytes ≡ take l old.bytes))
   pub risks : RisksCut len old new
 
--- what was pending is settled, or stays pending after a fault
+-- what was pending is settled, or may stay pending after a fault
 pub record Syncs {T E : Type 0} (result : Result T E) (old new : File) : Type 0 where
   pub reads : new.bytes ≡ old.bytes
-  pub risks : MatchResult result (λ _. IsSettledFile new) (λ _. RisksNoMore old new)
+  pub risks : RisksNoMore old new
+  pub settled : OnOk result (IsSettledFile new)
 
 -- the step of a file that is there; an absent one stays absent
 abbrev pub Follows : (File → File → Type 0) → Option File → Option File → Type 0

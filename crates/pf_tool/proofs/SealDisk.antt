@@ -10,7 +10,8 @@ use Rattle.pf_io.proofs.Images.{others_then, follows_at}
 use Rattle.pf_io.proofs.Telling.{both_weaker}
 use Rattle.pf_io.specs.Steps.{KeepsOthers, Changes, Writes, Syncs, Swaps}
 use Rattle.pf_tool.specs.Crash.{HasShort, LeavesEither, IsSealed, SealEnds}
-use Rattle.pf_tool.specs.Encrypting.{side_of, node_of}
+use Rattle.pf_io.specs.Names.{side_of}
+use Rattle.pf_tool.specs.Encrypting.{node_of}
 use Rattle.pf_tool.specs.Sheet.{one_node, image_of, StandsFor}
 use Rattle.pf_tool.specs.Steps.{MOST_FIRST}
 use Rattle.pf_tool.specs.declared.fault.Fault.{Fault}
@@ -53,7 +54,7 @@ pub synced_keeps : {T E : Type 0} (r : Result T E) (name : Name) (bytes : List �
 synced_keeps (Err x) name bytes d e f ok holds change = absurd (cc)
 synced_keeps (Ok v) name bytes d e f ok holds change =
     let next = follows_at _ (e name) (f name) holds.file holds.there change.there in
-    record { others = others_then name d e f holds.others change.others; file = next.0; there = next.1; bytes_are = next.2.reads ∙ holds.bytes_are; settled = next.2.risks }
+    record { others = others_then name d e f holds.others change.others; file = next.0; there = next.1; bytes_are = next.2.reads ∙ holds.bytes_are; settled = next.2.settled }
 
 -- node 0 of a sheet of one node stands for it
 pub node_stands : (user nonce : List ℕ) (output : Name) (content bytes : List ℕ) → IsPath output → length nonce ≡ 32 → length content ≤ MOST_FIRST

@@ -11,7 +11,7 @@ use Rattle.pf_io.proofs.Images.{others_then}
 use Rattle.pf_io.proofs.Telling.{both_weaker}
 use Rattle.pf_tool.specs.Sheet.{StandsFor}
 use Rattle.pf_tool.specs.Crash.{HasShort, Begun, LeavesOthers, LeavesEither, IsSealed, SealEnds, content_on, LeavesSealed, InputEnds}
-use Rattle.pf_tool.specs.Encrypting.{side_of}
+use Rattle.pf_io.specs.Names.{side_of}
 use Rattle.pf_tool.specs.declared.fault.Fault.{Fault}
 use Rattle.pf_tool.proofs.SealDisk.{not_side, either_left, same_output}
 

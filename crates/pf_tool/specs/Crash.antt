@@ -1,10 +1,9 @@
 -- What a run of calls leaves on an honest disk, at every moment of it and in the end.
 use Rattle.std.specs.Prelude.{◌≡◌, ◌≢◌, ◌⊎◌, ℕ, ◌≤◌, List, length, take, Option, Some, Result, Ok, Err}
-use Rattle.pf_io.specs.Disk.{Name, File, Disk, Image, IsImage, IsImageAt, IsSettledFile, reading}
-use Rattle.pf_io.specs.Host.{HostState, OnDisk, contents}
-use Rattle.pf_io.specs.Moments.{Ran}
+use Rattle.pf_io.specs.Disk.{Name, File, Disk, Image, IsImageAt, IsSettledFile, reading}
+use Rattle.pf_io.specs.Host.{contents}
 use Rattle.pf_io.specs.Steps.{KeepsOthers}
-use Rattle.pf_tool.specs.Encrypting.{side_of}
+use Rattle.pf_io.specs.Names.{side_of}
 use Rattle.pf_tool.specs.Sheet.{StandsFor}
 use Rattle.pf_tool.specs.declared.fault.Fault.{Fault}
 use Rattle.pf_tool.specs.declared.fault.Fault.TheVariants as faults
@@ -49,10 +48,6 @@ OutputEnds (Err fault) user output content old new = (new output ≡ old output)
 pub record SealEnds {T : Type 0} (result : Result T Fault) (user : List ℕ) (output : Name) (content : List ℕ) (old new : Disk) : Type 0 where
   pub here : OutputEnds result user output content old new
   pub others : (other : Name) → other ≢ output → other ≢ side_of output → new other ≡ old other
-
--- nothing was changed: a crash at any moment leaves what it might have left before, and the disk is as it was
-abbrev pub OnlyReads : HostState → HostState → Type 0
-OnlyReads old new = OnDisk old new (Ran IsImage (λ before now. now ≡ before))
 
 -- the key and the content that the disk's files give
 abbrev pub user_on : Disk → Name → List ℕ

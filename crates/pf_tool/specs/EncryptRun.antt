@@ -9,7 +9,8 @@ use Rattle.pf_io.specs.Streams.{SinkState}
 use Rattle.pf_io.specs.Words.{WordsState}
 use Rattle.pf_io.specs.Answered.{IsAnswerOf, WereTold}
 use Rattle.pf_tool.specs.Crash.{IsSealed, LeavesEncrypted, user_on, content_on}
-use Rattle.pf_tool.specs.Encrypting.{Encrypts, side_of}
+use Rattle.pf_io.specs.Names.{side_of}
+use Rattle.pf_tool.specs.Encrypting.{Encrypts}
 use Rattle.pf_tool.specs.Faults.{ending_line, ending_status, host_line, memory_line, random_line}
 use Rattle.pf_tool.specs.Reports.{Wrote, Reported}
 use Rattle.pf_tool.specs.Sealing.{Reached}

@@ -1,23 +1,19 @@
 -- How `encrypt -w KEY -i IN -o OUT` ends, by what the host answers and which random words come.
-use Rattle.std.specs.Prelude.{◌≡◌, ◌≢◌, ℕ, ◌<◌, ◌≤◌, List, [], ◌∷◌, ◌++◌, length, Some, None, codes}
+use Rattle.std.specs.Prelude.{◌≡◌, ◌≢◌, ℕ, ◌<◌, ◌≤◌, List, [], ◌∷◌, ◌++◌, length, Some, None}
 use Rattle.std.specs.List.{AllByRecursion}
 use Rattle.node_layout.specs.Metadata.{meta_block}
 use Rattle.pf_io.specs.Host.{Name, Answer, LengthWas, Gave, Wrote, Synced, Made, Swapped, HostState, Both, IsMore, OnHonest}
-use Rattle.pf_io.specs.Names.{IsName, IsTarget}
+use Rattle.pf_io.specs.Names.{IsName, IsTarget, side_of, side_recovery_of}
 use Rattle.pf_io.specs.Words.{WordsState}
 use Rattle.pf_io.specs.Answered.{IsAnswerOf}
 use Rattle.pf_tool.specs.Sheet.{meta_of, one_node}
 use Rattle.pf_tool.specs.Steps.{Ending, Done, BadName, NotFound, Unbuilt, MOST_FIRST, key_answers, HasKey, KeyRefused}
 
--- the name of the side file
-abbrev pub side_of : Name → Name
-side_of output = output ++ codes ".new"
-
 -- a plain file that can be read while the output is made
 pub record IsInput (input output : Name) : Type 0 where
   pub is_name : IsName input
   pub no_side_file : input ≢ side_of output
-  pub no_side_log : input ≢ output ++ codes ".new.recovery"
+  pub no_side_log : input ≢ side_recovery_of output
 
 -- node 0 of a sheet of one node
 abbrev pub node_of : List ℕ → List ℕ → Name → List ℕ → List ℕ

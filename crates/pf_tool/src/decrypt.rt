@@ -1,7 +1,7 @@
 // The command `decrypt`.
 ghost use Rattle.std.specs.Prelude.{List, ℕ, OnOk, IfErr};
 ghost use Rattle.pf_io.specs.Host.{KeepsFiles};
-ghost use Rattle.pf_tool.specs.Crash.{OnlyReads};
+ghost use Rattle.pf_io.specs.Unchanged.{KeepsDisk};
 ghost use Rattle.pf_tool.specs.Steps.{Decrypts, Done};
 ghost use Rattle.pf_tool.specs.Faults.{Finished};
 ghost use Rattle.pf_tool.specs.Reports.{Wrote};
@@ -19,7 +19,7 @@ pub(crate) fn decrypt<'a, H: Host, K: Sink>(
     out: &mut K,
 ) -> Result<(), Fault<'a>>
     ensures files { KeepsFiles (H.state host.old) (H.state host.new) }
-    ensures disk { OnlyReads (H.state host.old) (H.state host.new) }
+    ensures disk { KeepsDisk (H.state host.old) (H.state host.new) }
     ensures done { OnOk result ((content : List ℕ)
         × Finished (Decrypts command.now.key.now command.now.input.now) (H.state host.old) (H.state host.new) (Done content)
         × Wrote content (K.state out.old) (K.state out.new)) }

@@ -5,7 +5,8 @@ ghost use Rattle.pf_tool.specs.Encrypting.{IsInput, EncryptsTo, Encrypts};
 ghost use Rattle.pf_tool.specs.Sealing.{Ends};
 ghost use Rattle.pf_io.specs.Host.{OnDisk};
 ghost use Rattle.pf_io.specs.Moments.{Ran};
-ghost use Rattle.pf_tool.specs.Crash.{OnlyReads, LeavesSealed, InputEnds, LeavesEncrypted, EncryptEnds};
+ghost use Rattle.pf_io.specs.Unchanged.{KeepsDisk};
+ghost use Rattle.pf_tool.specs.Crash.{LeavesSealed, InputEnds, LeavesEncrypted, EncryptEnds};
 
 use crate::fault::Fault;
 use crate::side_file::{begin, publish};
@@ -77,7 +78,7 @@ pub(crate) fn encrypt<'a, H: Host, R: Words>(
     command: &Encrypt<'a>,
 ) -> Result<(), Fault<'a>>
     ensures ends { Ends (Encrypts command.now.key.now command.now.input.now command.now.output.now) (H.state host.old) (H.state host.new) (R.state random.old) (R.state random.new) result }
-    ensures unfit { ¬ (IsTarget command.now.output.now × IsInput command.now.input.now command.now.output.now) → OnlyReads (H.state host.old) (H.state host.new) }
+    ensures unfit { ¬ (IsTarget command.now.output.now × IsInput command.now.input.now command.now.output.now) → KeepsDisk (H.state host.old) (H.state host.new) }
     ensures disk { OnDisk (H.state host.old) (H.state host.new) (Ran (LeavesEncrypted command.now.key.now command.now.input.now command.now.output.now)
         (EncryptEnds result command.now.key.now command.now.input.now command.now.output.now)) }
 {

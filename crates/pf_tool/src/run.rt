@@ -5,7 +5,7 @@ ghost use Rattle.pf_io.specs.Host.{Name, Files, KeepsFiles, WhereTold, files_of}
 ghost use Rattle.pf_tool.specs.Words.{texts, decrypt_words, encrypt_words};
 ghost use Rattle.pf_tool.specs.Commands.{IsNoCommand};
 ghost use Rattle.pf_io.specs.Names.{IsTarget};
-ghost use Rattle.pf_tool.specs.Crash.{OnlyReads};
+ghost use Rattle.pf_io.specs.Unchanged.{KeepsDisk};
 ghost use Rattle.pf_tool.specs.Encrypting.{IsInput};
 ghost use Rattle.pf_tool.specs.Faults.{fault_line, fault_status, no_command_line};
 ghost use Rattle.pf_tool.specs.Steps.{Ending};
@@ -44,7 +44,7 @@ fn run_decrypt<H: Host, K: Sink, L: Sink>(
 ) -> u8
     ensures runs { DecryptRuns command.now.key.now command.now.input.now (H.state host.old) (H.state host.new) (K.state out.old) (K.state out.new) (L.state log.old) (L.state log.new) result }
     ensures files { KeepsFiles (H.state host.old) (H.state host.new) }
-    ensures disk { OnlyReads (H.state host.old) (H.state host.new) }
+    ensures disk { KeepsDisk (H.state host.old) (H.state host.new) }
 {
     match decrypt(host, command, out) {
         Ok(()) => 0,
@@ -61,7 +61,7 @@ fn run_encrypt<H: Host, L: Sink, R: Words>(
     random: &mut R,
 ) -> u8
     ensures runs { EncryptRuns command.now.key.now command.now.input.now command.now.output.now (H.state host.old) (H.state host.new) (R.state random.old) (R.state random.new) (L.state log.old) (L.state log.new) result }
-    ensures unfit { ¬ (IsTarget command.now.output.now × IsInput command.now.input.now command.now.output.now) → OnlyReads (H.state host.old) (H.state host.new) }
+    ensures unfit { ¬ (IsTarget command.now.output.now × IsInput command.now.input.now command.now.output.now) → KeepsDisk (H.state host.old) (H.state host.new) }
     ensures disk { EncryptDisk result command.now.key.now command.now.input.now command.now.output.now (H.state host.old) (H.state host.new) }
 {
     match encrypt(alloc, host, random, command) {
@@ -128,8 +128,8 @@ pub fn run<H: Host, S: Source, K: Sink, L: Sink, R: Words>(
     // On an honest disk, whatever fails: a crash at any moment of `encrypt` leaves the output as it was or whole, and every
     // other name but the side file's as it was. Where the names do not fit, and for all other words, nothing changes.
     ensures disk { (key name output : Name) → texts words.now ≡ encrypt_words key name output → EncryptDisk result key name output (H.state host.old) (H.state host.new) }
-    ensures disk_unfit { (key name output : Name) → texts words.now ≡ encrypt_words key name output → ¬ (IsTarget output × IsInput name output) → OnlyReads (H.state host.old) (H.state host.new) }
-    ensures disk_kept { IsNoEncrypt (texts words.now) → OnlyReads (H.state host.old) (H.state host.new) }
+    ensures disk_unfit { (key name output : Name) → texts words.now ≡ encrypt_words key name output → ¬ (IsTarget output × IsInput name output) → KeepsDisk (H.state host.old) (H.state host.new) }
+    ensures disk_kept { IsNoEncrypt (texts words.now) → KeepsDisk (H.state host.old) (H.state host.new) }
 
     // What stays.
     ensures files { IsNoEncrypt (texts words.now) → KeepsFiles (H.state host.old) (H.state host.new) }

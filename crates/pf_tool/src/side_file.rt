@@ -3,7 +3,8 @@ ghost use Rattle.std.specs.Prelude.{◌≡◌, ◌≤◌, IfOk, OnOk, IfErr, len
 ghost use Rattle.pf_io.specs.Counts.{HasCause};
 ghost use Rattle.node_layout.specs.Metadata.{IsPath};
 ghost use Rattle.pf_tool.specs.Steps.{MOST_FIRST};
-ghost use Rattle.pf_tool.specs.Encrypting.{node_of, side_of};
+ghost use Rattle.pf_io.specs.Names.{side_of};
+ghost use Rattle.pf_tool.specs.Encrypting.{node_of};
 ghost use Rattle.pf_io.specs.Host.{OnDisk};
 ghost use Rattle.pf_io.specs.Moments.{Ran, Where};
 ghost use Rattle.pf_tool.specs.Crash.{HasShort, LeavesOthers, BeginEnds, LeavesEither, SealEnds};

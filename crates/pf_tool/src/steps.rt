@@ -3,7 +3,7 @@ ghost use Rattle.std.specs.Prelude.{◌≡◌, ◌≤◌, ◌↔◌, IsTrue, ℕ
 ghost use Rattle.node_layout.specs.Metadata.{magic};
 ghost use Rattle.pf_io.specs.Host.{KeepsFiles};
 ghost use Rattle.pf_io.specs.Answered.{Answered};
-ghost use Rattle.pf_tool.specs.Crash.{OnlyReads};
+ghost use Rattle.pf_io.specs.Unchanged.{KeepsDisk};
 ghost use Rattle.pf_tool.specs.Steps.{key_answers, HasKey, KeyRefused, IsWhole, NodeFails, NodeRefused, OpensTo};
 ghost use Rattle.pf_tool.specs.Faults.{EndsBy, Refuses};
 ghost use Rattle.pf_tool.specs.Parts.{HasNode, HoldsContent};
@@ -19,7 +19,7 @@ const MOST_FIRST: u64 = 3072;
 pub(crate) fn read_key<'a, H: Host>(host: &mut H, name: &'a str) -> Result<[u8; 16], Fault<'a>>
     ensures faults { (H.state host.old).faults ≤ (H.state host.new).faults }
     ensures files { KeepsFiles (H.state host.old) (H.state host.new) }
-    ensures disk { OnlyReads (H.state host.old) (H.state host.new) }
+    ensures disk { KeepsDisk (H.state host.old) (H.state host.new) }
     ensures read { IfOk result (λ user. Answered (key_answers name.now user) (H.state host.old) (H.state host.new)) }
     ensures key { IfOk result (HasKey name.now) }
     ensures ended { IfErr result (EndsBy (KeyRefused name.now) (H.state host.old) (H.state host.new)) }
@@ -76,7 +76,7 @@ fn check_node(node: &[u8; 4096], given: usize) -> Result<(), Fault<'static>>
 pub(crate) fn read_node<'a, H: Host>(host: &mut H, name: &'a str) -> Result<[u8; 4096], Fault<'a>>
     ensures faults { (H.state host.old).faults ≤ (H.state host.new).faults }
     ensures files { KeepsFiles (H.state host.old) (H.state host.new) }
-    ensures disk { OnlyReads (H.state host.old) (H.state host.new) }
+    ensures disk { KeepsDisk (H.state host.old) (H.state host.new) }
     ensures read { IfOk result (HasNode name.now (H.state host.old) (H.state host.new)) }
     ensures ended { IfErr result (EndsBy (NodeRefused name.now) (H.state host.old) (H.state host.new)) }
 {

@@ -8,7 +8,8 @@ use Rattle.pf_io.specs.Answered.{Answered}
 use Rattle.pf_tool.specs.Sealing.{by_answers}
 use Rattle.pf_io.specs.Steps.{KeepsOthers}
 use Rattle.pf_tool.specs.Crash.{Begun}
-use Rattle.pf_tool.specs.Encrypting.{side_of, EncryptsTo, input_absent, input_large, published}
+use Rattle.pf_io.specs.Names.{side_of}
+use Rattle.pf_tool.specs.Encrypting.{EncryptsTo, input_absent, input_large, published}
 use Rattle.pf_tool.proofs.SealInput.{asked, beginning, begun_from, kept_from, reading_on, ending_early, publishing, with_content, known_before}
 use Rattle.pf_tool.proofs.Answering.{answered_length}
 use Rattle.pf_tool.proofs.Answering.{read_whole}
