@@ -1,6 +1,6 @@
 -- Streams and words in memory.
-use Rattle.std.specs.Prelude.{◌≡◌, ◌⊎◌, ◌↔◌, ℕ, ◌≤◌, List, Option, Some, Result, OnErr, OnOk, IsErr}
-use Rattle.pf_io.specs.Counts.{counted, Rose}
+use Rattle.std.specs.Prelude.{◌≡◌, ◌⊎◌, ◌↔◌, ℕ, List, Option, Some, Result, OnErr, OnOk, IsErr}
+use Rattle.pf_io.specs.Counts.{counted, CountsFault}
 use Rattle.pf_io.specs.Streams.{SourceState, SinkState}
 use Rattle.pf_io.specs.Words.{WordsState}
 
@@ -15,12 +15,12 @@ pub record MemSourceState : Type 0 where
 abbrev pub source_of : MemSourceState → SourceState
 source_of state = record { faults = state.faults; taken = state.taken; left = Some state.left }
 
--- A read: it is counted, and it faults exactly where it is to fault.
+-- A read: it is counted, and so is its fault. It faults exactly where it is to fault.
 pub record IsRead {T E : Type 0} (result : Result T E) (old new : MemSourceState) : Type 0 where
   pub calls : new.calls ≡ counted old.calls
   pub failing : new.failing ≡ old.failing
+  pub faults : CountsFault old.faults new.faults result
   pub fails : IsErr result ↔ (old.failing ≡ Some old.calls)
-  pub no_fault : OnOk result (new.faults ≡ old.faults)
 
 -- a sink in memory: the bytes that it has taken, and how many calls found no memory
 pub record MemSinkState : Type 0 where
@@ -33,15 +33,15 @@ pub record MemSinkState : Type 0 where
 abbrev pub sink_of : MemSinkState → SinkState
 sink_of state = record { faults = state.faults; bytes = Some state.bytes }
 
--- A write: it is counted, it faults where it is to fault, and else only for want of memory, which is counted apart. A fault takes nothing.
+-- A write: it is counted, and so is its fault. It faults where it is to fault, and else only for want of memory, which alone is counted apart. A fault takes nothing.
 pub record IsWrite {T E : Type 0} (result : Result T E) (old new : MemSinkState) : Type 0 where
   pub calls : new.calls ≡ counted old.calls
   pub failing : new.failing ≡ old.failing
-  pub fails : old.failing ≡ Some old.calls → IsErr result
-  pub later : old.starved ≤ new.starved
-  pub starved : OnErr result ((old.failing ≡ Some old.calls) ⊎ Rose old.starved new.starved)
+  pub faults : CountsFault old.faults new.faults result
+  pub fails : old.failing ≡ Some old.calls → IsErr result × (new.starved ≡ old.starved)
+  pub starves : OnErr result ((old.failing ≡ Some old.calls) ⊎ (new.starved ≡ counted old.starved))
+  pub no_fault : OnOk result (new.starved ≡ old.starved)
   pub nothing_taken : OnErr result (new.bytes ≡ old.bytes)
-  pub no_fault : OnOk result ((new.faults ≡ old.faults) × (new.starved ≡ old.starved))
 
 -- a list of words, from which the first is taken
 pub record ListWordsState : Type 0 where

@@ -22,3 +22,8 @@ pub record HasCause {T E : Type 0} (before now : ℕ) (result : Result T E) : Ty
   pub later : before ≤ now
   pub still : OnOk result (now ≡ before)
   pub rose : OnErr result (Rose before now)
+
+-- a fault is counted once, and at Ok the count is as before
+pub record CountsFault {T E : Type 0} (before now : ℕ) (result : Result T E) : Type 0 where
+  pub still : OnOk result (now ≡ before)
+  pub once : OnErr result (now ≡ counted before)

@@ -1,6 +1,6 @@
 -- A host in memory: its events, its counts, and the calls that are to fault.
 use Rattle.std.specs.Prelude.{◌≡◌, ◌⊎◌, ℕ, ◌≤◌, min, List, [], ◌∷◌, ◌++◌, Contains, Option, Some, None, option_map, Result, OnErr, OnOk, IsErr, IsSomeAnd}
-use Rattle.pf_io.specs.Counts.{counted, Rose}
+use Rattle.pf_io.specs.Counts.{counted, CountsFault}
 use Rattle.pf_io.specs.Disk.{Name, Disk, IsSettledFile, File, reading, IsCrashOf}
 use Rattle.pf_io.specs.Steps.{KeepsOthers}
 use Rattle.pf_io.specs.Host.{HostState}
@@ -81,15 +81,15 @@ earlier (Some stop) call = min stop call
 abbrev pub IsToFail : MemState → Type 0
 IsToFail state = Contains state.failing state.calls ⊎ IsSomeAnd state.stop (λ stop. stop ≤ state.calls)
 
--- A call of the trait: it is counted, it fails where it is to fail, and else only for want of memory, which alone is counted apart.
+-- A call of the trait: it is counted, and so is its fault. It fails where it is to fail, and else only for want of memory, which alone is counted apart.
 pub record IsCall {T E : Type 0} (result : Result T E) (old new : MemState) : Type 0 where
   pub calls : new.calls ≡ counted old.calls
   pub failing : new.failing ≡ old.failing
   pub stop : new.stop ≡ old.stop
+  pub faults : CountsFault old.faults new.faults result
   pub fails : IsToFail old → IsErr result × (new.starved ≡ old.starved)
-  pub later : old.starved ≤ new.starved
-  pub starved : OnErr result (IsToFail old ⊎ Rose old.starved new.starved)
-  pub no_fault : OnOk result ((new.faults ≡ old.faults) × (new.starved ≡ old.starved))
+  pub starves : OnErr result (IsToFail old ⊎ (new.starved ≡ counted old.starved))
+  pub no_fault : OnOk result (new.starved ≡ old.starved)
 
 -- One outcome of a crash: each name has its bytes as the tear says, which is an image of the old disk, and nothing is pending.
 pub record IsAfterCrash (tear : Tear) (old new : MemState) : Type 0 where

@@ -1,5 +1,5 @@
 // Streams in memory.
-ghost use Rattle.std.specs.Prelude.{◌≡◌, ◌++◌, ◌↔◌, ◌≤◌, IsTrue, IfOk, OnOk, OnErr, Some, None, [], ℕ, length};
+ghost use Rattle.std.specs.Prelude.{◌≡◌, ◌++◌, ◌↔◌, ◌≤◌, IsTrue, IfOk, OnErr, Some, None, [], length, min};
 ghost use Rattle.pf_io.specs.Counts.{HasCause, counted, counted_by};
 ghost use Rattle.pf_io.specs.Host.{KeepsRest};
 ghost use Rattle.pf_io.specs.Streams.{CountsTaken, Gives, Takes};
@@ -81,6 +81,8 @@ impl Source for MemSource {
         ensures cause { HasCause self.old.faults self.new.faults result }
         ensures taken { CountsTaken result self.old.taken self.new.taken }
         ensures left { Gives result to.new (Some self.old.left) (Some self.new.left) }
+        ensures count { IfOk result (λ n. n ≡ min (length to.old) (length self.old.left)) }
+        ensures untouched { OnErr result (to.new ≡ to.old) }
         ensures call { IsRead result self.old self.new }
     {
         if is_failing(&mut self.calls, self.failing) {

@@ -1,6 +1,6 @@
 // A host in memory: its own calls, and those of the trait.
 ghost use Rattle.std.specs.Prelude.{◌≡◌, ◌≤◌, ◌⊎◌, ◌↔◌, IsTrue, IfOk, OnOk, OnErr, IsSomeAnd, Some, None, List, ℕ, [], option_map, length, take, Contains, alloc_error};
-ghost use Rattle.pf_io.specs.Counts.{HasCause, counted};
+ghost use Rattle.pf_io.specs.Counts.{HasCause, CountsFault, counted};
 ghost use Rattle.pf_io.specs.Disk.{reading};
 ghost use Rattle.pf_io.specs.Moments.{Does};
 ghost use Rattle.pf_io.specs.Steps.{Stays, Changes, Writes, Cuts, Syncs, Makes, Swaps, Removes, AtOnce};
@@ -142,10 +142,10 @@ fn count_starved<T>(
     outcome: Result<T, AllocError>,
 ) -> Result<T, HostFault>
     ensures cause { HasCause faults.old faults.new result }
-    ensures starved { HasCause starved.old starved.new result }
+    ensures fault { CountsFault faults.old faults.new result }
+    ensures starves { CountsFault starved.old starved.new result }
     ensures value { IfOk result (λ value. outcome ≡ Ok value) }
     ensures error { OnErr result (outcome ≡ Err alloc_error) }
-    ensures no_fault { OnOk result ((faults.new ≡ faults.old) × (starved.new ≡ starved.old)) }
 {
     match outcome {
         Ok(value) => Ok(value),
@@ -189,6 +189,7 @@ impl Host for MemHost {
         ensures honest { IfOk result (λ n. OnHonest (host_of (memory_of self.old)) (λ files. ReadsFrom at n to.new (contents (files name.now)))) }
         ensures disk { OnDisk (host_of (memory_of self.old)) (host_of (memory_of self.new)) (Does Stays) }
         ensures records { Records result (λ n. Call (Gave name.now at (length to.old) (take n to.new))) (memory_of self.old).events (memory_of self.new).events }
+        ensures untouched { IsToFail (memory_of self.old) → to.new ≡ to.old }
         ensures call { IsCall result (memory_of self.old) (memory_of self.new) }
     {
         raise(&mut self.reads);
