@@ -6,7 +6,7 @@ import subprocess
 import tempfile
 
 TOP = os.path.dirname(os.path.dirname(os.path.abspath(__file__)))
-PROGRAM = os.path.join(TOP, "crates/pf_tool/out/pf_tool")
+PROGRAM = os.environ.get("PF_TOOL_DEV") or os.path.join(TOP, "crates/pf_tool/out/pf_tool")
 PF_IO_TESTS = os.path.join(TOP, "crates/pf_io/out/pf_io_tests")
 KEY = bytes(range(16))
 
@@ -66,7 +66,7 @@ def mode_of(name):
 
 def same(found, wanted, about=""):
     if found != wanted:
-        raise AssertionError(f"{about}: {found!r}, and not {wanted!r}")
+        raise AssertionError(f"{about}: {found!r}"[:300] + f", and not {wanted!r}"[:300])
 
 
 def holds(content, name="out.pf"):
