@@ -1,5 +1,5 @@
 // Why a command ends before its work is done, and what it then says.
-ghost use Rattle.std.specs.Prelude.{◌≡◌, ◌≤◌, ◌++◌, IfSome, length, take};
+ghost use Rattle.std.specs.Prelude.{◌≡◌, ◌+◌, ◌≤◌, ◌++◌, IfSome, length, take};
 ghost use Rattle.std.specs.Fmt.{decimal};
 ghost use Rattle.pf_tool.specs.Faults.{fault_line, fault_status, line, kind_word, memory_line};
 ghost use Rattle.pf_tool.specs.Reports.{Says, Written};
@@ -89,6 +89,14 @@ impl From<Memory> for Fault<'_> {
 // The longest line that goes out in one write.
 const LONGEST_LINE: usize = 1024;
 
+// Puts bytes into a buffer from a place on.
+fn put(to: &mut [u8; LONGEST_LINE], at: usize, bytes: &[u8])
+    requires { at + length bytes.now ≤ 1024 }
+    ensures { take (at + length bytes.now) to.new ≡ take at to.old ++ bytes.now }
+{
+    to[at..at + bytes.len()].copy_from_slice(bytes);
+}
+
 // Puts the line of two texts into a buffer, where it fits, and answers its length.
 fn put_line(to: &mut [u8; LONGEST_LINE], first: &str, second: &str) -> Option<usize>
     ensures { IfSome result (λ n. (n ≤ length to.new) × (take n to.new ≡ line (first.now ++ second.now))) }
@@ -97,9 +105,9 @@ fn put_line(to: &mut [u8; LONGEST_LINE], first: &str, second: &str) -> Option<us
     if len >= LONGEST_LINE {
         return None;
     }
-    to[..first.len()].copy_from_slice(first.as_bytes());
-    to[first.len()..len].copy_from_slice(second.as_bytes());
-    to[len] = b'\n';
+    put(to, 0, first.as_bytes());
+    put(to, first.len(), second.as_bytes());
+    put(to, len, b"\n");
     Some(len + 1)
 }
 
