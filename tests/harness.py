@@ -6,7 +6,7 @@ import subprocess
 import tempfile
 
 TOP = os.path.dirname(os.path.dirname(os.path.abspath(__file__)))
-PROGRAM = os.environ.get("PF_TOOL_DEV") or os.path.join(TOP, "crates/pf_tool/out/pf_tool")
+PROGRAM = os.path.join(TOP, "crates/pf_tool/out/pf_tool")
 PF_IO_TESTS = os.path.join(TOP, "crates/pf_io/out/pf_io_tests")
 KEY = bytes(range(16))
 

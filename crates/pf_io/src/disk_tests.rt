@@ -304,6 +304,27 @@ fn a_name_with_another_file_than_before_is_a_fault(rt: HostRuntime) -> Result<()
     Ok(())
 }
 
+// Run as it is, each sync is done. The scripts have a sync of it fail.
+#[test]
+fn a_file_that_was_not_synced_is_lost(rt: HostRuntime) -> Result<(), Fail> {
+    let folder = passing(&rt, "lost")?;
+    let folder = folder.as_str();
+    fs::create_dir(&rt, folder)?;
+    let a = below(rt.alloc(), folder, "a")?;
+    let mut host = DiskHost::new(rt.clone()?);
+    if host.make(a.as_str()).is_ok() {
+        for _ in 0..2 {
+            assert_eq!(rt; host.write_at(a.as_str(), 0, b"abcd"), Ok(()));
+            if host.sync(a.as_str()).is_err() {
+                refuses_changes(&rt, &mut host, a.as_str());
+                break;
+            }
+        }
+    }
+    fs::remove_dir_all(&rt, folder)?;
+    Ok(())
+}
+
 fn rights_of(rt: &HostRuntime, name: &str) -> Result<u32, Fail> {
     Ok(fs::metadata(rt, name)?.mode() & 0o777)
 }
