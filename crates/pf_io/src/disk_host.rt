@@ -5,9 +5,10 @@ ghost use Rattle.pf_io.specs.Host.{KeepsRest};
 ghost use Rattle.pf_io.specs.Std.{DiskState, host_of};
 
 use crate::counts::raise;
-use crate::open_files::OpenFiles;
+use crate::disk_changes::{cut_file, make_file, remove_file, swap_file, sync_file, write_file};
+use crate::handles::Handles;
 use crate::{Host, HostFault};
-use std::fs::{self, File, OpenOptions};
+use std::fs::File;
 use std::io::{self, ErrorKind};
 use std::marker::Model;
 use std::os::unix::fs::FileExt;
@@ -18,11 +19,13 @@ const LONGEST: u64 = (1 << 63) - 1;
 
 const CHUNK: usize = 4096;
 
-/// Real files by name, which tell their counts alone. Files that are read are kept open; `len` asks the system anew.
+/// Real files by name, which tell their counts alone. A file is read and changed through one handle, which keeps other
+/// runs from changing what this one reads, and from reading what it changes. It faults where it cannot tell that, where
+/// what stands at a name is no plain file, and where a name to be changed is absent.
 #[derive(Drop)]
 pub struct DiskHost<R: Files<File = File> + AllocGlobal + Drop> {
     system: R,
-    open: OpenFiles,
+    handles: Handles,
     faults: u64,
     reads: u64,
     writes: u64,
@@ -42,10 +45,10 @@ impl<R: Files<File = File> + AllocGlobal + Drop> DiskHost<R> {
     pub fn new(system: R) -> Self
         ensures { result ≡ record { faults = 0; reads = 0; writes = 0; widest = 0 } }
     {
-        let open = OpenFiles::new(system.alloc());
+        let handles = Handles::new(system.alloc());
         DiskHost {
             system,
-            open,
+            handles,
             faults: 0,
             reads: 0,
             writes: 0,
@@ -68,31 +71,15 @@ fn count_fault<T>(faults: &mut u64, outcome: io::Result<T>) -> Result<T, HostFau
     }
 }
 
-// The name is absent, or a folder on the way to it is.
-fn is_absent(error: &io::Error) -> bool {
-    matches!(error.kind(), ErrorKind::NotFound | ErrorKind::NotADirectory)
-}
-
-fn file_len<R: Files>(system: &R, name: &str) -> io::Result<Option<u64>> {
-    match fs::metadata(system, name) {
-        Ok(metadata) if metadata.is_dir() => Err(ErrorKind::IsADirectory.into()),
-        Ok(metadata) => Ok(Some(metadata.len())),
-        Err(error) if is_absent(&error) => Ok(None),
-        Err(error) => Err(error),
+fn file_len<R: Files<File = File>>(
+    system: &R,
+    handles: &mut Handles,
+    name: &str,
+) -> io::Result<Option<u64>> {
+    match handles.hold_to_read(system, name)? {
+        Some(id) => Ok(Some(handles.file(id)?.metadata()?.len())),
+        None => Ok(None),
     }
-}
-
-// Opens a file, or answers `None` where it is absent.
-fn open_file<R: Files<File = File>>(system: &R, name: &str) -> io::Result<Option<File>> {
-    let file = match File::open(system, name) {
-        Ok(file) => file,
-        Err(error) if is_absent(&error) => return Ok(None),
-        Err(error) => return Err(error),
-    };
-    if file.metadata()?.is_dir() {
-        return Err(ErrorKind::IsADirectory.into());
-    }
-    Ok(Some(file))
 }
 
 // Reads once, and leaves what is behind the bytes that it read.
@@ -135,91 +122,19 @@ fn fill(file: &File, at: u64, to: &mut [u8]) -> io::Result<usize>
 
 fn read_file<R: Files<File = File>>(
     system: &R,
-    open: &mut OpenFiles,
+    handles: &mut Handles,
     name: &str,
     at: u64,
     to: &mut [u8],
 ) -> io::Result<usize>
     ensures { IfOk result (λ n. KeepsRest n to.old to.new) }
 {
-    if let Some(file) = open.find(name) {
-        return fill(file, at, to);
+    if let Some(open) = handles.find(name) {
+        return fill(&open.file, at, to);
     }
-    let Some(file) = open_file(system, name)? else {
-        return Ok(0);
-    };
-    let n = fill(&file, at, to)?;
-    open.keep(name, file);
-    Ok(n)
-}
-
-// Opens a file that is to be changed, or answers `None` where it is absent.
-fn open_to_change<R: Files<File = File>>(system: &R, name: &str) -> io::Result<Option<File>> {
-    match OpenOptions::new().read(true).write(true).open(system, name) {
-        Ok(file) => Ok(Some(file)),
-        Err(error) if is_absent(&error) => Ok(None),
-        Err(error) => Err(error),
-    }
-}
-
-fn write_file<R: Files<File = File>>(
-    system: &R,
-    name: &str,
-    at: u64,
-    from: &[u8],
-) -> io::Result<()> {
-    let Some(file) = open_to_change(system, name)? else {
-        return Ok(());
-    };
-    file.write_all_at(from, at)
-}
-
-fn cut_file<R: Files<File = File>>(system: &R, name: &str, len: u64) -> io::Result<()> {
-    let Some(file) = open_to_change(system, name)? else {
-        return Ok(());
-    };
-    if len < file.metadata()?.len() {
-        file.set_len(len)?;
-    }
-    Ok(())
-}
-
-fn sync_file<R: Files<File = File>>(system: &R, name: &str) -> io::Result<()> {
-    match open_file(system, name)? {
-        Some(file) => file.sync_all(),
-        None => Ok(()),
-    }
-}
-
-// Makes a change of names in the folder of a file last.
-fn sync_folder<R: Files<File = File>>(system: &R, name: &str) -> io::Result<()> {
-    let folder = match name.rsplit_once('/') {
-        Some(("", _)) => "/",
-        Some((folder, _)) => folder,
-        None => ".",
-    };
-    File::open(system, folder)?.sync_all()
-}
-
-fn make_file<R: Files<File = File>>(system: &R, name: &str) -> io::Result<()> {
-    File::create(system, name)?.sync_all()?;
-    sync_folder(system, name)
-}
-
-fn swap_file<R: Files<File = File>>(system: &R, from: &str, to: &str) -> io::Result<()> {
-    if file_len(system, from)?.is_none() {
-        return Ok(());
-    }
-    fs::rename(system, from, to)?;
-    sync_folder(system, from)?;
-    sync_folder(system, to)
-}
-
-fn remove_file<R: Files<File = File>>(system: &R, name: &str) -> io::Result<()> {
-    match fs::remove_file(system, name) {
-        Ok(()) => sync_folder(system, name),
-        Err(error) if is_absent(&error) => Ok(()),
-        Err(error) => Err(error),
+    match handles.hold_to_read(system, name)? {
+        Some(id) => fill(handles.file(id)?, at, to),
+        None => Ok(0),
     }
 }
 
@@ -229,44 +144,48 @@ impl<R: Files<File = File> + AllocGlobal + Drop> Host for DiskHost<R> {
     ghost reads_as_image = { λ _. tt };
 
     fn len(&mut self, name: &str) -> Result<Option<u64>, HostFault> {
-        self.open.forget(name);
-        count_fault(&mut self.faults, file_len(&self.system, name))
+        let outcome = file_len(&self.system, &mut self.handles, name);
+        count_fault(&mut self.faults, outcome)
     }
 
     fn read_at(&mut self, name: &str, at: u64, to: &mut [u8]) -> Result<usize, HostFault> {
         raise(&mut self.reads);
         self.widest = self.widest.max(to.len());
-        let outcome = read_file(&self.system, &mut self.open, name, at, to);
+        let outcome = read_file(&self.system, &mut self.handles, name, at, to);
         count_fault(&mut self.faults, outcome)
     }
 
     fn write_at(&mut self, name: &str, at: u64, from: &[u8]) -> Result<(), HostFault> {
         raise(&mut self.writes);
         self.widest = self.widest.max(from.len());
-        count_fault(&mut self.faults, write_file(&self.system, name, at, from))
+        let outcome = write_file(&self.system, &mut self.handles, name, at, from);
+        count_fault(&mut self.faults, outcome)
     }
 
     fn cut(&mut self, name: &str, len: u64) -> Result<(), HostFault> {
-        count_fault(&mut self.faults, cut_file(&self.system, name, len))
+        let outcome = cut_file(&self.system, &mut self.handles, name, len);
+        count_fault(&mut self.faults, outcome)
     }
 
     fn sync(&mut self, name: &str) -> Result<(), HostFault> {
-        count_fault(&mut self.faults, sync_file(&self.system, name))
+        let outcome = sync_file(&self.system, &mut self.handles, name);
+        count_fault(&mut self.faults, outcome)
     }
 
     fn make(&mut self, name: &str) -> Result<(), HostFault> {
-        self.open.forget(name);
-        count_fault(&mut self.faults, make_file(&self.system, name))
+        let alloc = self.system.alloc();
+        let outcome = make_file(&self.system, alloc, &mut self.handles, name);
+        count_fault(&mut self.faults, outcome)
     }
 
     fn swap_name(&mut self, from: &str, to: &str) -> Result<(), HostFault> {
-        self.open.forget(from);
-        self.open.forget(to);
-        count_fault(&mut self.faults, swap_file(&self.system, from, to))
+        let alloc = self.system.alloc();
+        let outcome = swap_file(&self.system, alloc, &mut self.handles, from, to);
+        count_fault(&mut self.faults, outcome)
     }
 
     fn remove(&mut self, name: &str) -> Result<(), HostFault> {
-        self.open.forget(name);
-        count_fault(&mut self.faults, remove_file(&self.system, name))
+        let outcome = remove_file(&self.system, &mut self.handles, name);
+        count_fault(&mut self.faults, outcome)
     }
 }

@@ -5,14 +5,18 @@ mod buffers;
 mod counts;
 pub mod crash_examples;
 mod device_words;
+mod disk_changes;
 mod disk_host;
 mod faults;
+mod files;
+mod handles;
 mod host;
 mod list_words;
 mod mem_calls;
 mod mem_host;
 mod memory;
 mod names;
+mod new_files;
 mod open_files;
 mod replace;
 mod std_sink;
@@ -40,5 +44,7 @@ pub use words::Words;
 
 #[cfg(test)]
 mod crash_tests;
+#[cfg(test)]
+mod disk_tests;
 #[cfg(test)]
 mod tests;

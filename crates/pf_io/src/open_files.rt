@@ -1,25 +1,29 @@
-// The files that were read last, kept open.
-ghost use Rattle.std.specs.Prelude.{◌≡◌, ◌++◌, ◌∷◌, [], ◌⊎◌, not, filter, option_map, bytes_eq, string_bytes};
+// Files that a run keeps open, and locked.
+ghost use Rattle.std.specs.Prelude.{◌≡◌, [], not, find, filter, option_map, bytes_eq, string_bytes};
 
+use crate::files::FileId;
 use std::alloc::Global;
 use std::fs::File;
+use std::io;
 
-const MOST: usize = 4;
-
+/// An open file, under the name by which it was opened or which it was given since.
 #[derive(Drop)]
 pub(crate) struct OpenFile {
     name: String,
-    file: File,
+    pub(crate) id: FileId,
+    pub(crate) file: File,
+    /// A sync of it failed.
+    pub(crate) is_lost: bool,
 }
 
-// A table of at most four open files by name, of which the one that was kept first goes first.
+/// A table of open files, each under one name.
 #[derive(Drop)]
 pub(crate) struct OpenFiles {
     alloc: Global,
     files: Vec<OpenFile>,
 }
 
-ghost use Rattle.pf_io.specs.Table.{named, file_of, Keeps};
+ghost use Rattle.pf_io.specs.Table.{named};
 
 impl OpenFiles {
     pub(crate) fn new(alloc: Global) -> Self
@@ -31,29 +35,37 @@ impl OpenFiles {
         }
     }
 
-    pub(crate) fn find(&self, name: &str) -> Option<&File>
-        ensures { option_map (λ file. file.now) result ≡ file_of self.now.files.items name.now }
+    pub(crate) fn find(&self, name: &str) -> Option<&OpenFile>
+        ensures { option_map (λ open_file. open_file.now) result ≡ find (named name.now) self.now.files.items }
     {
-        self.files
-            .iter()
-            .find(|open| open.name.as_str() == name)
-            .map(|open| &open.file)
+        self.files.iter().find(|open| open.name.as_str() == name)
     }
 
-    // Keeps a file open. Where there is no memory for it, it is closed.
-    pub(crate) fn keep(&mut self, name: &str, file: File)
-        ensures { Keeps name.now file self.old.files.items self.new.files.items }
-    {
-        if self.files.len() >= MOST {
+    pub(crate) fn find_id(&self, id: FileId) -> Option<&OpenFile> {
+        self.files.iter().find(|open| open.id == id)
+    }
+
+    /// Keeps a file open.
+    pub(crate) fn keep(&mut self, name: &str, id: FileId, file: File) -> io::Result<()> {
+        let name = String::from_str(self.alloc, name)?;
+        let is_lost = false;
+        self.files.push(OpenFile {
+            name,
+            id,
+            file,
+            is_lost,
+        })?;
+        Ok(())
+    }
+
+    /// Closes the file that was kept first where there are this many.
+    pub(crate) fn make_room(&mut self, most: usize) {
+        if self.files.len() >= most && !self.files.is_empty() {
             self.files.remove(0);
         }
-        let Ok(name) = String::from_str(self.alloc, name) else {
-            return;
-        };
-        let _ = self.files.push(OpenFile { name, file });
     }
 
-    // Closes the file of a name, so that the next read opens it anew.
+    /// Closes the file of a name.
     pub(crate) fn forget(&mut self, name: &str)
         ensures { self.new.files.items ≡ filter (λ one. not (named name.now one)) self.old.files.items }
     {
@@ -62,5 +74,24 @@ impl OpenFiles {
                 ensures { result ≡ not (named name.entry.now one.now) }
             { one.name.as_str() != name },
         );
+    }
+
+    /// Closes a file.
+    pub(crate) fn forget_id(&mut self, id: FileId) {
+        self.files.retain(|one: &OpenFile| one.id != id);
+    }
+
+    /// Gives a file another name.
+    pub(crate) fn rename(&mut self, id: FileId, name: String) {
+        if let Some(open) = self.files.iter_mut().find(|open| open.id == id) {
+            open.name = name;
+        }
+    }
+
+    /// Marks a file of which a sync failed.
+    pub(crate) fn lose(&mut self, id: FileId) {
+        if let Some(open) = self.files.iter_mut().find(|open| open.id == id) {
+            open.is_lost = true;
+        }
     }
 }

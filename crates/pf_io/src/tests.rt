@@ -1,10 +1,7 @@
 use crate::{
-    Bytes, DeviceWords, DiskHost, Host, HostFault, ListWords, MemHost, MemSink, MemSource, Sink,
-    Source, StdSink, StreamFault, Text, Words, WordsFault, is_name, is_target,
+    Bytes, Host, HostFault, ListWords, MemHost, MemSink, MemSource, Sink, Source, StreamFault,
+    Text, Words, WordsFault, is_name, is_target,
 };
-use std::alloc::Global;
-use std::fs::{self, File};
-use std::process;
 use std::test::Fail;
 
 #[test]
@@ -76,7 +73,7 @@ fn texts_and_bytes_are_owned(rt: HostRuntime) -> Result<(), Fail> {
 }
 
 // What a host has of a name, through its bound.
-fn opened<H: Host>(
+pub(crate) fn opened<H: Host>(
     host: &mut H,
     name: &str,
     at: u64,
@@ -156,170 +153,5 @@ fn listed_words_come_in_order_and_end(rt: HostRuntime) -> Result<(), Fail> {
     assert_eq!(rt; words.next16(), Err(WordsFault));
     words.push([3; 16])?;
     assert_eq!(rt; words.next16(), Ok([3; 16]));
-    Ok(())
-}
-
-// A path of this process in the folder for files that come and go.
-fn passing(rt: &HostRuntime, name: &str) -> Result<Text, Fail> {
-    let id = format!(in rt.alloc(); "-{}", process::id(rt.process()))?;
-    let path = Text::joined(rt.alloc(), "/tmp/pf_io-", name)?;
-    Ok(Text::joined(rt.alloc(), path.as_str(), id.as_str())?)
-}
-
-fn below(alloc: Global, folder: &str, name: &str) -> Result<Text, Fail> {
-    let folder = Text::joined(alloc, folder, "/")?;
-    Ok(Text::joined(alloc, folder.as_str(), name)?)
-}
-
-#[test]
-fn real_files_are_read(rt: HostRuntime) -> Result<(), Fail> {
-    let folder = passing(&rt, "read")?;
-    let folder = folder.as_str();
-    fs::create_dir(&rt, folder)?;
-    let alloc = rt.alloc();
-    let name = below(alloc, folder, "a")?;
-    fs::write(&rt, name.as_str(), b"newer")?;
-    let mut host = DiskHost::new(rt.clone()?);
-    assert_eq!(rt;
-        opened(&mut host, name.as_str(), 0),
-        Ok((Some(5), 4, *b"newe"))
-    );
-    assert_eq!(rt;
-        opened(&mut host, name.as_str(), 3),
-        Ok((Some(5), 2, [b'e', b'r', 9, 9]))
-    );
-    for at in [5, 1 << 62, (1 << 63) - 1, 1 << 63, u64::MAX] {
-        assert_eq!(rt; host.read_at(name.as_str(), at, &mut [0; 4]), Ok(0), "{at}");
-    }
-    for absent in ["b", "b/c", "a/b"] {
-        let absent = below(alloc, folder, absent)?;
-        assert_eq!(rt;
-            opened(&mut host, absent.as_str(), 0),
-            Ok((None, 0, [9; 4]))
-        );
-    }
-    assert_eq!(rt; host.len(folder), Err(HostFault));
-    assert_eq!(rt; host.read_at(folder, 0, &mut [0; 4]), Err(HostFault));
-    fs::remove_dir_all(&rt, folder)?;
-    Ok(())
-}
-
-#[test]
-fn more_files_are_read_in_turn_than_stay_open(rt: HostRuntime) -> Result<(), Fail> {
-    let folder = passing(&rt, "turns")?;
-    let folder = folder.as_str();
-    fs::create_dir(&rt, folder)?;
-    let names = ["a", "b", "c", "d", "e", "f"];
-    for name in names {
-        fs::write(
-            &rt,
-            below(rt.alloc(), folder, name)?.as_str(),
-            name.as_bytes(),
-        )?;
-    }
-    let mut host = DiskHost::new(rt.clone()?);
-    for _ in 0..3 {
-        for name in names {
-            let mut read = [0];
-            let path = below(rt.alloc(), folder, name)?;
-            assert_eq!(rt; host.read_at(path.as_str(), 0, &mut read), Ok(1));
-            assert_eq!(rt; read.as_slice(), name.as_bytes());
-        }
-    }
-    let path = below(rt.alloc(), folder, "f")?;
-    fs::remove_file(&rt, path.as_str())?;
-    assert_eq!(rt; opened(&mut host, path.as_str(), 0), Ok((None, 0, [9; 4])));
-    fs::remove_dir_all(&rt, folder)?;
-    Ok(())
-}
-
-#[test]
-fn a_writer_is_a_sink(rt: HostRuntime) -> Result<(), Fail> {
-    let path = passing(&rt, "sink")?;
-    let path = path.as_str();
-    let mut sink = StdSink::new(File::create(&rt, path)?);
-    assert_eq!(rt; sink.write(b"ab"), Ok(()));
-    assert_eq!(rt; sink.write(b"c"), Ok(()));
-    assert_eq!(rt; fs::read_to_string(&rt, path)?.as_str(), "abc");
-    let mut read_only = StdSink::new(File::open(&rt, path)?);
-    assert_eq!(rt; read_only.write(b"x"), Err(StreamFault));
-    assert_eq!(rt; StdSink::new(rt.stdout()).write(b""), Ok(()));
-    assert_eq!(rt; StdSink::new(rt.stderr()).write(b""), Ok(()));
-    fs::remove_file(&rt, path)?;
-    Ok(())
-}
-
-#[test]
-fn each_call_changes_real_files(rt: HostRuntime) -> Result<(), Fail> {
-    let folder = passing(&rt, "change")?;
-    let folder = folder.as_str();
-    fs::create_dir(&rt, folder)?;
-    let a = below(rt.alloc(), folder, "a")?;
-    let a = a.as_str();
-    let b = below(rt.alloc(), folder, "b")?;
-    let b = b.as_str();
-    let mut host = DiskHost::new(rt.clone()?);
-    assert_eq!(rt; host.make(a), Ok(()));
-    assert_eq!(rt; host.len(a), Ok(Some(0)));
-    assert_eq!(rt; host.write_at(a, 2, b"xyz"), Ok(()));
-    assert_eq!(rt; host.write_at(a, 1, b"w"), Ok(()));
-    assert_eq!(rt; opened(&mut host, a, 0), Ok((Some(5), 4, *b"\0wxy")));
-    assert_eq!(rt; host.cut(a, 9), Ok(()));
-    assert_eq!(rt; host.cut(a, 3), Ok(()));
-    assert_eq!(rt; host.sync(a), Ok(()));
-    assert_eq!(rt; opened(&mut host, a, 0), Ok((Some(3), 3, *b"\0wx\t")));
-    assert_eq!(rt; host.make(b), Ok(()));
-    assert_eq!(rt; host.swap_name(a, b), Ok(()));
-    assert_eq!(rt; opened(&mut host, a, 0), Ok((None, 0, [9; 4])));
-    assert_eq!(rt; opened(&mut host, b, 1), Ok((Some(3), 2, *b"wx\t\t")));
-    assert_eq!(rt; host.swap_name(b, b), Ok(()));
-    assert_eq!(rt; host.make(b), Ok(()));
-    assert_eq!(rt; opened(&mut host, b, 0), Ok((Some(0), 0, [9; 4])));
-    assert_eq!(rt; host.remove(b), Ok(()));
-    assert_eq!(rt; host.len(b), Ok(None));
-    fs::remove_dir(&rt, folder)?;
-    Ok(())
-}
-
-#[test]
-fn real_calls_on_absent_names_change_nothing(rt: HostRuntime) -> Result<(), Fail> {
-    let folder = passing(&rt, "absent")?;
-    let folder = folder.as_str();
-    fs::create_dir(&rt, folder)?;
-    let a = below(rt.alloc(), folder, "a")?;
-    let a = a.as_str();
-    let inner = below(rt.alloc(), folder, "none/b")?;
-    let inner = inner.as_str();
-    let mut host = DiskHost::new(rt.clone()?);
-    for absent in [a, inner] {
-        assert_eq!(rt; host.write_at(absent, 0, b"x"), Ok(()));
-        assert_eq!(rt; host.cut(absent, 0), Ok(()));
-        assert_eq!(rt; host.sync(absent), Ok(()));
-        assert_eq!(rt; host.swap_name(absent, a), Ok(()));
-        assert_eq!(rt; host.remove(absent), Ok(()));
-        assert_eq!(rt; host.len(absent), Ok(None));
-    }
-    assert_eq!(rt; host.make(inner), Err(HostFault));
-    assert_eq!(rt; host.make(a), Ok(()));
-    assert_eq!(rt; host.swap_name(a, inner), Err(HostFault));
-    assert_eq!(rt; host.len(a), Ok(Some(0)));
-    assert_eq!(rt; host.write_at(a, u64::MAX, b"x"), Err(HostFault));
-    for call in [
-        host.make(folder),
-        host.write_at(folder, 0, b"x"),
-        host.remove(folder),
-    ] {
-        assert_eq!(rt; call, Err(HostFault));
-    }
-    fs::remove_dir_all(&rt, folder)?;
-    Ok(())
-}
-
-#[test]
-fn the_device_gives_words_that_differ(rt: HostRuntime) -> Result<(), Fail> {
-    let mut words = DeviceWords::new(rt.clone()?);
-    let first = words.next16();
-    assert!(rt; first.is_ok());
-    assert_ne!(rt; words.next16(), first);
     Ok(())
 }

@@ -1,5 +1,5 @@
 // Why a command ends before its work is done, and what it then says.
-ghost use Rattle.std.specs.Prelude.{◌≡◌, ◌++◌};
+ghost use Rattle.std.specs.Prelude.{◌≡◌, ◌+◌, ◌≤◌, ◌++◌, IfSome, length, take};
 ghost use Rattle.std.specs.Fmt.{decimal};
 ghost use Rattle.pf_tool.specs.Faults.{fault_line, fault_status, line, kind_word, memory_line};
 ghost use Rattle.pf_tool.specs.Reports.{Says, Written};
@@ -86,14 +86,50 @@ impl From<Memory> for Fault<'_> {
     }
 }
 
-// A line of two texts.
-fn write_line<L: Sink>(log: &mut L, first: &str, second: &str) -> Result<(), StreamFault>
+// The longest line that goes out in one write.
+const LONGEST_LINE: usize = 1024;
+
+// Puts bytes into a buffer from a place on.
+fn put(to: &mut [u8; LONGEST_LINE], at: usize, bytes: &[u8])
+    requires { at + length bytes.now ≤ 1024 }
+    ensures { take (at + length bytes.now) to.new ≡ take at to.old ++ bytes.now }
+{
+    to[at..at + bytes.len()].copy_from_slice(bytes);
+}
+
+// Puts the line of two texts into a buffer, where it fits, and answers its length.
+fn put_line(to: &mut [u8; LONGEST_LINE], first: &str, second: &str) -> Option<usize>
+    ensures { IfSome result (λ n. (n ≤ length to.new) × (take n to.new ≡ line (first.now ++ second.now))) }
+{
+    let len = first.len().saturating_add(second.len());
+    if len >= LONGEST_LINE {
+        return None;
+    }
+    put(to, 0, first.as_bytes());
+    put(to, first.len(), second.as_bytes());
+    put(to, len, b"\n");
+    Some(len + 1)
+}
+
+// A line of two texts, in parts.
+fn write_parts<L: Sink>(log: &mut L, first: &str, second: &str) -> Result<(), StreamFault>
     ensures { Written result (line (first.now ++ second.now)) (L.state log.old) (L.state log.new) }
 {
     log.write(first.as_bytes())?;
     log.write(second.as_bytes())?;
     log.write(b"\n")?;
     Ok(())
+}
+
+// A line of two texts, in one write, so that the lines of several runs do not mix. A longer one goes out in parts.
+fn write_line<L: Sink>(log: &mut L, first: &str, second: &str) -> Result<(), StreamFault>
+    ensures { Written result (line (first.now ++ second.now)) (L.state log.old) (L.state log.new) }
+{
+    let mut line = [0; LONGEST_LINE];
+    match put_line(&mut line, first, second) {
+        Some(len) => log.write(&line[..len]),
+        None => write_parts(log, first, second),
+    }
 }
 
 fn say_line<L: Sink>(log: &mut L, first: &str, second: &str) -> Result<(), Unsaid>

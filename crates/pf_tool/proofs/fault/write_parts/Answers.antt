@@ -1,7 +1,7 @@
 use Rattle.std.proofs.Common.{◌++◌, ◌∷◌, [], append_assoc}
 use Rattle.std.proofs.lemmas.Result.{err_from_is_err_and}
 use Rattle.pf_tool.proofs.Writing.{front_then, front_after, wrote_then, rose_later}
-use Rattle.pf_tool.proofs.fault.write_line.Goals as goal
+use Rattle.pf_tool.proofs.fault.write_parts.Goals as goal
 
 pub returns-in_err-write : goal.returns-in_err-write
 returns-in_err-write g c =

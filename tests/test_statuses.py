@@ -1,0 +1,125 @@
+"""Each status of the program, with its line."""
+import os
+import resource
+import shutil
+import subprocess
+
+from harness import PROGRAM, Skip, TOP, can_trace, decrypt, encrypt, got, holds, put, run, same, tool, traced
+
+
+def ends(ran, status, line=""):
+    same((ran.status, ran.log, ran.out), (status, line + "\n" if line else "", b""), str(ran))
+
+
+def test_status_0_the_example_is_decrypted():
+    example = os.path.join(TOP, "examples/hello")
+    ran = tool("decrypt", "-w", f"{example}.key", "-i", f"{example}.pf")
+    same((ran.status, ran.out, ran.log), (0, b"hello", ""), str(ran))
+
+
+def test_status_0_what_was_encrypted_is_decrypted():
+    for size in (0, 1, 3071, 3072):
+        put("in", os.urandom(size))
+        ends(encrypt(), 0)
+        holds(got("in"))
+
+
+def test_status_1_damage():
+    encrypt()
+    node = got("out.pf")
+    put("out.pf", node[:4095])
+    ends(decrypt(), 1, "damaged node 0 short")
+    put("out.pf", node[:100] + bytes([node[100] ^ 1]) + node[101:])
+    ends(decrypt(), 1, "damaged node 0 tag")
+
+
+def test_status_2_words_that_are_no_command():
+    for words in ([], ["decode"], ["decrypt", "-w", "key"], [b"\xff"]):
+        ends(tool(*words), 2, "usage: unbuilt words")
+
+
+def test_status_3_refusals():
+    ends(decrypt("none"), 3, "refused not found none")
+    ends(encrypt(out="a.new"), 3, "refused bad name")
+    ends(encrypt(source="out.pf.new"), 3, "refused bad name")
+    put("in", bytes(4096))
+    ends(decrypt("in"), 3, "refused not protected")
+    ends(encrypt(), 3, "refused unbuilt")
+    put("key", bytes(15))
+    ends(decrypt(), 3, "refused key file 15")
+
+
+def test_status_4_a_folder_is_a_host_fault():
+    os.mkdir("folder")
+    ends(decrypt("folder"), 4, "host fault")
+    ends(encrypt(out="none/out.pf"), 4, "host fault")
+
+
+# The least address space in which the program starts has none left for its words.
+def test_status_5_want_of_memory():
+    found = set()
+    for limit in range(1 << 20, 8 << 20, 4096):
+        ran = encrypt(preexec_fn=lambda: resource.setrlimit(resource.RLIMIT_AS, (limit, limit)))
+        found.add(ran.status)
+        if ran.status in (0, 5):
+            break
+    if 5 not in found:
+        raise Skip(f"no limit of the address space gives it: statuses {sorted(found)}")
+
+
+def test_status_6_no_random_device():
+    if can_trace():
+        raise Skip(can_trace())
+    for call in ("openat", "read"):
+        ran, _ = traced([PROGRAM, "encrypt", "-w", "key", "-i", "in", "-o", "out.pf"], "-P", "/dev/urandom", "-e", f"inject={call}:error=EIO")
+        ends(ran, 6, "random fault")
+        same(os.path.exists("out.pf"), False, "out.pf")
+
+
+def chrooted(device):
+    """The program run where /dev/urandom is what `device` makes."""
+    if os.geteuid():
+        raise Skip("only root may change its root folder")
+    os.makedirs("room/dev")
+    ran = subprocess.run(["ldd", PROGRAM], stdout=subprocess.PIPE, text=True)
+    for word in ran.stdout.split():
+        if word.startswith("/"):
+            os.makedirs("room" + os.path.dirname(word), exist_ok=True)
+            shutil.copy(word, "room" + word)
+    shutil.copy(PROGRAM, "room/pf_tool")
+    for name in ("key", "in"):
+        shutil.copy(name, "room")
+    try:
+        device("room/dev/urandom")
+        with open("room/dev/urandom", "rb") as file:
+            file.read(1)
+    except OSError as why:
+        raise Skip(f"the device cannot be made here: {why}")
+    room = os.path.abspath("room")
+
+    def enter():
+        os.chroot(room)
+        os.chdir("/")
+
+    return run(["/pf_tool", "encrypt", "-w", "key", "-i", "in", "-o", "out.pf"], preexec_fn=enter)
+
+
+def test_status_6_a_plain_file_is_no_random_device():
+    ends(chrooted(lambda name: put(name, os.urandom(4096))), 6, "random fault")
+
+
+def test_status_6_a_device_that_repeats_itself():
+    ends(chrooted(lambda name: os.mknod(name, 0o20666, os.makedev(1, 5))), 6, "random fault")
+
+
+def test_status_7_streams_that_fail():
+    encrypt()
+    if not os.path.exists("/dev/full"):
+        raise Skip("there is no /dev/full")
+    with open("/dev/full", "wb") as full:
+        same(decrypt(stdout=full).status, 7, "full output")
+        same(tool(stderr=full).status, 7, "full log")
+    closed = "exec {}; exec \"$@\"".format
+    words = [PROGRAM, "decrypt", "-w", "key", "-i", "out.pf"]
+    same(run(["sh", "-c", closed(">&-"), "sh", *words]).status, 7, "closed output")
+    same(run(["sh", "-c", closed("2>&-"), "sh", PROGRAM]).status, 7, "closed log")
