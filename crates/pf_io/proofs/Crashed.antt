@@ -4,7 +4,7 @@ use Rattle.std.specs.Prelude.{option_map, bytes_eq}
 use Rattle.pf_io.specs.Disk.{Name, IsFileImage, IsImageAt, IsSettledAt, IsCrashOf, read_of, reading}
 use Rattle.pf_io.specs.Replay.{Event, Put, Stored, Traced, Trace, answers_of, set_at, settled, after_all, empty, file_of, disk_of}
 use Rattle.pf_io.specs.Storage.{look, stored_of, filled, torn_bytes, stored_after, IsTorn}
-use Rattle.pf_io.specs.Sound.{IsSound, SoundAt, sound_events, mark_true}
+use Rattle.pf_io.specs.SoundProofs.{IsSound, SoundAt, sound_events, mark_true}
 use Rattle.std.proofs.Math.Seq.{drop-cons}
 use Rattle.pf_io.specs.declared.storage.Entry.{Entry}
 use Rattle.pf_io.specs.declared.tear.Tear.{Tear}
@@ -54,9 +54,9 @@ torn_reads tear files events torn name = ap (λ (o : Option Traced). read_of (op
 
 pub crash_of : (tear : Tear) (files : Name → Option Stored) (old events : List Event) → ((name : Name) → files name ≡ stored_after old name) → IsTorn tear files events
     → IsCrashOf (disk_of (after_all old empty)) (disk_of (after_all events empty))
-crash_of tear files old events agrees torn = record {
+crash_of tear files old events stores torn = record {
   image = λ name.
-      let reads = torn_reads tear files events torn name ∙ ap (λ (o : Option Stored). option_map (torn_bytes tear) o) (agrees name) in
+      let reads = torn_reads tear files events torn name ∙ ap (λ (o : Option Stored). option_map (torn_bytes tear) o) (stores name) in
       subst (λ (o : Option (List ℕ)). IsImageAt (disk_of (after_all old empty) name) o) (sym reads) (image_at tear (after_all old empty name) (sound_events old name));
   settled = λ name. subst (λ (o : Option Traced). IsSettledAt (option_map file_of o)) (sym (torn name)) (settled_at tear (files name));
 }

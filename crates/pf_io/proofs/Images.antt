@@ -3,7 +3,7 @@ use Rattle.std.proofs.Common.{◌≡◌, ◌≢◌, ◌⊎◌, inl, inr, ℕ, su
 use Rattle.std.proofs.lemmas.List.{drop_all, append-nil}
 use Rattle.pf_io.specs.Disk.{Name, File, Disk, Image, IsFileImage, IsImageAt, IsImage, IsSettledFile, IsSettledAt, read_of}
 use Rattle.pf_io.specs.Steps.{Follows, KeepsOthers, overwrite, Torn, CutShort, TornEnd, RisksWrite, RisksNoMore, Writes, Cuts, Syncs, Makes, Removes, Swaps, AtOnce, IsEmptyFile}
-use Rattle.pf_io.specs.Splicing.{get_take, overwrite-length, overwrite-front, overwrite-gap, overwrite-back}
+use Rattle.pf_io.specs.SplicingProofs.{get_take, overwrite-length, overwrite-front, overwrite-gap, overwrite-back}
 
 -- two lists of one length with the same element at each place
 pub same_elements : (xs ys : List ℕ) → length xs ≡ length ys → ((i : ℕ) → i < length ys → slice_get xs i ≡ slice_get ys i) → xs ≡ ys

@@ -5,8 +5,8 @@ use Rattle.pf_io.specs.Disk.{Name, Disk}
 use Rattle.pf_io.specs.Moments.{Does}
 use Rattle.pf_io.specs.Host.{Answer, Swapped, HostState, Tells}
 use Rattle.pf_io.specs.Replay.{Event, Call, Put, Stored, Traced, Trace, answers_of, set_at, moved_by, swapped, after, after_all, before_each, empty, disk_of, honest_of}
-use Rattle.pf_io.specs.Sound.{SoundAt, sound_events}
-use Rattle.pf_io.specs.Storage.{look, event_of, events_of, stored_after, Agrees, Sets, Records}
+use Rattle.pf_io.specs.SoundProofs.{SoundAt, sound_events}
+use Rattle.pf_io.specs.Storage.{look, event_of, events_of, stored_after, StoresAfter, Sets, Records}
 use Rattle.pf_io.specs.declared.storage.Entry.{Entry}
 use Rattle.pf_io.specs.declared.told.Told.{Told}
 
@@ -68,37 +68,37 @@ mapped_set g name m o t = elim (bytes_eq name m) as (λ b. option_map g (cond b 
 abbrev kept_of : Trace → Name → Option Stored
 kept_of t name = option_map (λ file. file.stored) (t name)
 
--- the storage agrees where it stands to the old one as the event says
-pub agrees_by : (files : List Entry) (told told' : List Told) (event : Event) → events_of told' ≡ events_of told ++ event ∷ []
-    → ((name : Name) → look files name ≡ kept_of (after event (after_all (events_of told) empty)) name) → Agrees files told'
-agrees_by files told told' event records each name = each name ∙ ap (λ (t : Trace). kept_of t name) (sym (after_one (events_of told) (events_of told') event records))
+-- the storage has what the events leave where it stands to the old one as the event says
+pub stores_by : (files : List Entry) (told told' : List Told) (event : Event) → events_of told' ≡ events_of told ++ event ∷ []
+    → ((name : Name) → look files name ≡ kept_of (after event (after_all (events_of told) empty)) name) → StoresAfter files told'
+stores_by files told told' event records each name = each name ∙ ap (λ (t : Trace). kept_of t name) (sym (after_one (events_of told) (events_of told') event records))
 
 -- an event that changes nothing
-pub agrees_same : (files : List Entry) (told told' : List Told) (one : Told) → Agrees files told → told' ≡ told ++ one ∷ [] → (after (event_of one) (after_all (events_of told) empty) ≡ after_all (events_of told) empty) → Agrees files told'
-agrees_same files told told' one agrees is same =
-    agrees_by files told told' (event_of one) (ap events_of is ∙ events-push told one) (λ name. agrees name ∙ ap (λ (t : Trace). kept_of t name) (sym same))
+pub stores_same : (files : List Entry) (told told' : List Told) (one : Told) → StoresAfter files told → told' ≡ told ++ one ∷ [] → (after (event_of one) (after_all (events_of told) empty) ≡ after_all (events_of told) empty) → StoresAfter files told'
+stores_same files told told' one stores is same =
+    stores_by files told told' (event_of one) (ap events_of is ∙ events-push told one) (λ name. stores name ∙ ap (λ (t : Trace). kept_of t name) (sym same))
 
 -- one that sets what stands at a name, or at a fault nothing
-pub agrees_set : {T E : Type 0} (r : Result T E) (files files' : List Entry) (told told' : List Told) (raw event : Event) (copy name : Name) (next : Option Stored) (value : Trace → Option Traced) → Agrees files told
+pub stores_set : {T E : Type 0} (r : Result T E) (files files' : List Entry) (told told' : List Told) (raw event : Event) (copy name : Name) (next : Option Stored) (value : Trace → Option Traced) → StoresAfter files told
     → OnOk r (Sets copy next files files') → OnErr r (files' ≡ files) → Records r (λ _. raw) (events_of told) (events_of told') → raw ≡ event → copy ≡ name
-    → ((t : Trace) (m : Name) → after event t m ≡ set_at name (value t) t m) → ◌≡◌ {A = Option Stored} next (option_map (λ file. file.stored) (value (after_all (events_of told) empty))) → Agrees files' told'
-agrees_set (Ok v) files files' told told' raw event copy name next value agrees sets same records event_is name_is does next_is =
+    → ((t : Trace) (m : Name) → after event t m ≡ set_at name (value t) t m) → ◌≡◌ {A = Option Stored} next (option_map (λ file. file.stored) (value (after_all (events_of told) empty))) → StoresAfter files' told'
+stores_set (Ok v) files files' told told' raw event copy name next value stores sets same records event_is name_is does next_is =
     let t = after_all (events_of told) empty in
-    agrees_by files' told told' event (records ∙ ap (λ (e : Event). events_of told ++ e ∷ []) event_is) (λ m.
+    stores_by files' told told' event (records ∙ ap (λ (e : Event). events_of told ++ e ∷ []) event_is) (λ m.
     sets m
     ∙ ap (λ (n : Name). set_at n next (look files) m) name_is
     ∙ ap (λ (o : Option Stored). set_at name o (look files) m) next_is
-    ∙ ap (λ (o : Option Stored). cond (bytes_eq name m) (option_map (λ file. file.stored) (value t)) o) (agrees m)
+    ∙ ap (λ (o : Option Stored). cond (bytes_eq name m) (option_map (λ file. file.stored) (value t)) o) (stores m)
     ∙ sym (mapped_set (λ file. file.stored) name m (value t) t)
     ∙ sym (ap (λ (o : Option Traced). option_map (λ file. file.stored) o) (does t m)))
-agrees_set (Err x) files files' told told' raw event copy name next value agrees sets same records event_is name_is does next_is =
-    λ m. ap (λ (l : List Entry). look l m) same ∙ agrees m ∙ ap (λ (l : List Event). stored_after l m) (sym records)
+stores_set (Err x) files files' told told' raw event copy name next value stores sets same records event_is name_is does next_is =
+    λ m. ap (λ (l : List Entry). look l m) same ∙ stores m ∙ ap (λ (l : List Event). stored_after l m) (sym records)
 
 -- what is stored of a changed file
-pub next_stored : (f : Traced → Traced) (g : Stored → Stored) (next : Option Stored) (shown files : List Entry) (told : List Told) (copy name : Name) → ((file : Traced) → g file.stored ≡ (f file).stored) → Agrees files told
+pub next_stored : (f : Traced → Traced) (g : Stored → Stored) (next : Option Stored) (shown files : List Entry) (told : List Told) (copy name : Name) → ((file : Traced) → g file.stored ≡ (f file).stored) → StoresAfter files told
     → shown ≡ files → copy ≡ name → next ≡ option_map g (look shown copy) → next ≡ option_map (λ file. file.stored) (option_map f (after_all (events_of told) empty name))
-next_stored f g next shown files told copy name each agrees files_is name_is next_is =
-    next_is ∙ ap (λ (l : List Entry). option_map g (look l copy)) files_is ∙ ap (λ (n : Name). option_map g (look files n)) name_is ∙ ap (λ (o : Option Stored). option_map g o) (agrees name) ∙ mapped (after_all (events_of told) empty name)
+next_stored f g next shown files told copy name each stores files_is name_is next_is =
+    next_is ∙ ap (λ (l : List Entry). option_map g (look l copy)) files_is ∙ ap (λ (n : Name). option_map g (look files n)) name_is ∙ ap (λ (o : Option Stored). option_map g o) (stores name) ∙ mapped (after_all (events_of told) empty name)
   where
     mapped : (o : Option Traced) → option_map g (option_map (λ file. file.stored) o) ≡ option_map (λ file. file.stored) (option_map f o)
     mapped (Some file) = ap (λ (s : Stored). Some s) (each file)
@@ -112,13 +112,13 @@ carried (Err x) (Ok w) want event events events' records ok err = absurd (cc)
 carried (Err x) (Err y) want event events events' records ok err = records
 
 -- A swap of one name with itself, or of an absent one, changes nothing.
-pub agrees_unmoved : (files : List Entry) (told told' : List Told) (one : Told) (from to from' to' : Name) → Agrees files told → told' ≡ told ++ one ∷ [] → event_of one ≡ Call (Swapped from to) → from' ≡ from → to' ≡ to
-    → (shown : List Entry) → shown ≡ files → None ≡ moved_by from' to' (look shown) → Agrees files told'
-agrees_unmoved files told told' one from to from' to' agrees is event_is from_is to_is shown files_is none =
+pub stores_unmoved : (files : List Entry) (told told' : List Told) (one : Told) (from to from' to' : Name) → StoresAfter files told → told' ≡ told ++ one ∷ [] → event_of one ≡ Call (Swapped from to) → from' ≡ from → to' ≡ to
+    → (shown : List Entry) → shown ≡ files → None ≡ moved_by from' to' (look shown) → StoresAfter files told'
+stores_unmoved files told told' one from to from' to' stores is event_is from_is to_is shown files_is none =
     let t = after_all (events_of told) empty in
     let none_there : None ≡ moved_by from to (look files) = none ∙ ap (λ (l : List Entry). moved_by from' to' (look l)) files_is ∙ ap (λ (n : Name). moved_by n to' (look files)) from_is ∙ ap (λ (n : Name). moved_by from n (look files)) to_is in
-    agrees_same files told told' one agrees is
-    (ap (λ (e : Event). after e t) event_is ∙ ap (λ (o : Option Traced). swapped o from to t) (unmoved (bytes_eq from to) (look files from) (t from) (agrees from) none_there))
+    stores_same files told told' one stores is
+    (ap (λ (e : Event). after e t) event_is ∙ ap (λ (o : Option Traced). swapped o from to t) (unmoved (bytes_eq from to) (look files from) (t from) (stores from) none_there))
   where
     unmoved : (b : Bool) (s : Option Stored) (o : Option Traced) → s ≡ option_map (λ file. file.stored) o → ◌≡◌ {A = Option Stored} None (cond b None s) → cond b None o ≡ None
     unmoved true s o is none = refl
@@ -126,16 +126,16 @@ agrees_unmoved files told told' one from to from' to' agrees is event_is from_is
     unmoved false s None is none = refl
 
 -- a swap of a file that is there
-pub agrees_moved : (files mid files' : List Entry) (told told' : List Told) (raw : Event) (from to from' to' copy gone : Name) (stored : Stored) → Agrees files told → Sets copy (Some stored) files mid → Sets gone None mid files'
-    → events_of told' ≡ events_of told ++ raw ∷ [] → raw ≡ Call (Swapped from to) → copy ≡ to → gone ≡ from → from' ≡ from → to' ≡ to → (shown : List Entry) → shown ≡ files → Some stored ≡ moved_by from' to' (look shown) → Agrees files' told'
-agrees_moved files mid files' told told' raw from to from' to' copy gone stored agrees sets removes records event_is copy_is gone_is from_is to_is shown files_is moved =
+pub stores_moved : (files mid files' : List Entry) (told told' : List Told) (raw : Event) (from to from' to' copy gone : Name) (stored : Stored) → StoresAfter files told → Sets copy (Some stored) files mid → Sets gone None mid files'
+    → events_of told' ≡ events_of told ++ raw ∷ [] → raw ≡ Call (Swapped from to) → copy ≡ to → gone ≡ from → from' ≡ from → to' ≡ to → (shown : List Entry) → shown ≡ files → Some stored ≡ moved_by from' to' (look shown) → StoresAfter files' told'
+stores_moved files mid files' told told' raw from to from' to' copy gone stored stores sets removes records event_is copy_is gone_is from_is to_is shown files_is moved =
     let t = after_all (events_of told) empty in
     let there : Some stored ≡ moved_by from to (look files) = moved ∙ ap (λ (l : List Entry). moved_by from' to' (look l)) files_is ∙ ap (λ (n : Name). moved_by n to' (look files)) from_is ∙ ap (λ (n : Name). moved_by from n (look files)) to_is in
-    let file = moves (bytes_eq from to) (look files from) (t from) stored (agrees from) there in
-    agrees_by files' told told' (Call (Swapped from to)) (records ∙ ap (λ (e : Event). events_of told ++ e ∷ []) event_is) (λ m.
+    let file = moves (bytes_eq from to) (look files from) (t from) stored (stores from) there in
+    stores_by files' told told' (Call (Swapped from to)) (records ∙ ap (λ (e : Event). events_of told ++ e ∷ []) event_is) (λ m.
     removes m
     ∙ ap (λ (n : Name). set_at n None (look mid) m) gone_is
-    ∙ ap (λ (o : Option Stored). cond (bytes_eq from m) None o) (sets m ∙ ap (λ (n : Name). set_at n (Some stored) (look files) m) copy_is ∙ ap (λ (o : Option Stored). cond (bytes_eq to m) (Some stored) o) (agrees m))
+    ∙ ap (λ (o : Option Stored). cond (bytes_eq from m) None o) (sets m ∙ ap (λ (n : Name). set_at n (Some stored) (look files) m) copy_is ∙ ap (λ (o : Option Stored). cond (bytes_eq to m) (Some stored) o) (stores m))
     ∙ ap (λ (s : Stored). cond (bytes_eq from m) None (set_at to (Some s) (kept_of t) m)) (sym file.2)
     ∙ ap (λ (o : Option Stored). cond (bytes_eq from m) None o) (sym (mapped_set (λ file. file.stored) to m (Some file.0) t))
     ∙ sym (mapped_set (λ file. file.stored) from m None (set_at to (Some file.0) t))

@@ -8,8 +8,8 @@ use Rattle.pf_io.specs.Steps.{Follows, Stays, Changes, Writes, Cuts, Syncs, Make
 use Rattle.pf_io.specs.Host.{Wrote, WasCut, Synced, Made, Swapped, Removed}
 use Rattle.pf_io.specs.Replay.{Event, Call, Put, Traced, Trace, set_at, written, shortened, settled, moved_by, swapped, after, after_all, empty, file_of, disk_of, honest_of}
 use Rattle.pf_io.specs.Storage.{Records}
-use Rattle.pf_io.specs.Splicing.{get_take, get_inside, get_replicate, unkept-front, unkept-back}
-use Rattle.pf_io.specs.Sound.{IsSound, SoundAt, mark_true}
+use Rattle.pf_io.specs.SplicingProofs.{get_take, get_inside, get_replicate, unkept-front, unkept-back}
+use Rattle.pf_io.specs.SoundProofs.{IsSound, SoundAt, mark_true}
 use Rattle.pf_io.proofs.Stored.{set_at-same, set_at-other}
 use Rattle.pf_io.proofs.Recorded.{after_one, recorded}
 use Rattle.pf_io.proofs.Faulted.{changes_nothing, writes_nothing, cuts_nothing, syncs_nothing}

@@ -11,9 +11,9 @@ pub mod Replay
 pub mod Streams
 pub mod Words
 pub mod Replace
-pub mod Splicing
+pub mod SplicingProofs
 pub mod Storage
-pub mod Sound
+pub mod SoundProofs
 pub mod Memory
 pub mod Buffers
 pub mod Std

@@ -43,8 +43,8 @@ abbrev pub stored_after : List Event → Name → Option Stored
 stored_after events name = option_map (λ file. file.stored) (after_all events empty name)
 
 -- the storage has what the events leave
-abbrev pub Agrees : List Entry → List Told → Type 0
-Agrees files told = (name : Name) → look files name ≡ stored_after (events_of told) name
+abbrev pub StoresAfter : List Entry → List Told → Type 0
+StoresAfter files told = (name : Name) → look files name ≡ stored_after (events_of told) name
 
 -- the name has this, and every other name what it had
 abbrev pub Sets : Name → Option Stored → List Entry → List Entry → Type 0

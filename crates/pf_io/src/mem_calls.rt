@@ -2,7 +2,7 @@
 ghost use Rattle.std.specs.Prelude.{◌≡◌, [], List, ℕ, Some, None, IfOk, OnOk, OnErr, option_map, length, take};
 ghost use Rattle.pf_io.specs.Host.{LengthWas, Gave, Wrote, WasCut, Synced, Made, Swapped, Removed, ReadsFrom, KeepsRest, length_of, contents};
 ghost use Rattle.pf_io.specs.Replay.{Call, Put, write_stored, cut_stored, settled_stored, moved_by, answers_of};
-ghost use Rattle.pf_io.specs.Storage.{look, bytes_of, stored_of, events_of, event_of, Agrees, Sets, Records, IsTorn};
+ghost use Rattle.pf_io.specs.Storage.{look, bytes_of, stored_of, events_of, event_of, StoresAfter, Sets, Records, IsTorn};
 
 use crate::storage::{Entry, StoredFile, find, len_of, read_from, remove_all};
 use crate::tear::Tear;
@@ -15,8 +15,8 @@ pub(crate) fn answer_length(
     told: &mut Vec<Told>,
     name: &str,
 ) -> Result<Option<u64>, AllocError>
-    requires { Agrees files.now told.old.items }
-    ensures agrees { Agrees files.now told.new.items }
+    requires { StoresAfter files.now told.old.items }
+    ensures stores { StoresAfter files.now told.new.items }
     ensures answer { IfOk result (λ length. length ≡ length_of (bytes_of (look files.now name.now))) }
     ensures records { Records result (λ length. Call (LengthWas name.now length)) (events_of told.old.items) (events_of told.new.items) }
 {
@@ -33,8 +33,8 @@ pub(crate) fn give(
     at: u64,
     to: &mut [u8],
 ) -> Result<usize, AllocError>
-    requires { Agrees files.now told.old.items }
-    ensures agrees { Agrees files.now told.new.items }
+    requires { StoresAfter files.now told.old.items }
+    ensures stores { StoresAfter files.now told.new.items }
     ensures reads { IfOk result (λ n. ReadsFrom at n to.new (contents (bytes_of (look files.now name.now)))) }
     ensures rest { IfOk result (λ n. KeepsRest n to.old to.new) }
     ensures records { Records result (λ n. Call (Gave name.now at (length to.old) (take n to.new))) (events_of told.old.items) (events_of told.new.items) }
@@ -89,8 +89,8 @@ pub(crate) fn write(
     at: u64,
     from: &[u8],
 ) -> Result<(), AllocError>
-    requires { Agrees files.old.items told.old.items }
-    ensures agrees { Agrees files.new.items told.new.items }
+    requires { StoresAfter files.old.items told.old.items }
+    ensures stores { StoresAfter files.new.items told.new.items }
     ensures records { Records result (λ _. Call (Wrote name.now at from.now)) (events_of told.old.items) (events_of told.new.items) }
 {
     let next = next_written(alloc, files, name.as_bytes(), at, from)?;
@@ -119,8 +119,8 @@ pub(crate) fn cut(
     name: &str,
     len: u64,
 ) -> Result<(), AllocError>
-    requires { Agrees files.old.items told.old.items }
-    ensures agrees { Agrees files.new.items told.new.items }
+    requires { StoresAfter files.old.items told.old.items }
+    ensures stores { StoresAfter files.new.items told.new.items }
     ensures records { Records result (λ _. Call (WasCut name.now len)) (events_of told.old.items) (events_of told.new.items) }
 {
     let next = next_cut(alloc, files, name.as_bytes(), len)?;
@@ -147,8 +147,8 @@ pub(crate) fn sync(
     told: &mut Vec<Told>,
     name: &str,
 ) -> Result<(), AllocError>
-    requires { Agrees files.old.items told.old.items }
-    ensures agrees { Agrees files.new.items told.new.items }
+    requires { StoresAfter files.old.items told.old.items }
+    ensures stores { StoresAfter files.new.items told.new.items }
     ensures records { Records result (λ _. Call (Synced name.now)) (events_of told.old.items) (events_of told.new.items) }
 {
     let next = next_synced(alloc, files, name.as_bytes())?;
@@ -162,8 +162,8 @@ pub(crate) fn make(
     told: &mut Vec<Told>,
     name: &str,
 ) -> Result<(), AllocError>
-    requires { Agrees files.old.items told.old.items }
-    ensures agrees { Agrees files.new.items told.new.items }
+    requires { StoresAfter files.old.items told.old.items }
+    ensures stores { StoresAfter files.new.items told.new.items }
     ensures records { Records result (λ _. Call (Made name.now)) (events_of told.old.items) (events_of told.new.items) }
 {
     let file = StoredFile::settled(alloc, &[])?;
@@ -184,8 +184,8 @@ pub(crate) fn put(
     name: &[u8],
     bytes: &[u8],
 ) -> Result<(), AllocError>
-    requires { Agrees files.old.items told.old.items }
-    ensures agrees { Agrees files.new.items told.new.items }
+    requires { StoresAfter files.old.items told.old.items }
+    ensures stores { StoresAfter files.new.items told.new.items }
     ensures records { Records result (λ _. Put name.now bytes.now) (events_of told.old.items) (events_of told.new.items) }
 {
     let file = StoredFile::settled(alloc, bytes)?;
@@ -199,8 +199,8 @@ pub(crate) fn remove(
     told: &mut Vec<Told>,
     name: &str,
 ) -> Result<(), AllocError>
-    requires { Agrees files.old.items told.old.items }
-    ensures agrees { Agrees files.new.items told.new.items }
+    requires { StoresAfter files.old.items told.old.items }
+    ensures stores { StoresAfter files.new.items told.new.items }
     ensures records { Records result (λ _. Call (Removed name.now)) (events_of told.old.items) (events_of told.new.items) }
 {
     let event = Told::Remove(name.as_bytes().to_vec(alloc)?);
@@ -232,8 +232,8 @@ pub(crate) fn swap(
     from: &str,
     to: &str,
 ) -> Result<(), AllocError>
-    requires { Agrees files.old.items told.old.items }
-    ensures agrees { Agrees files.new.items told.new.items }
+    requires { StoresAfter files.old.items told.old.items }
+    ensures stores { StoresAfter files.new.items told.new.items }
     ensures records { Records result (λ _. Call (Swapped from.now to.now)) (events_of told.old.items) (events_of told.new.items) }
 {
     let event = Told::Swap(from.as_bytes().to_vec(alloc)?, to.as_bytes().to_vec(alloc)?);
@@ -256,7 +256,7 @@ pub(crate) fn put_torn(
 ) -> Result<(), AllocError>
     requires no_files { files.old.items ≡ [] }
     requires no_events { told.old.items ≡ [] }
-    ensures agrees { Agrees files.new.items told.new.items }
+    ensures stores { StoresAfter files.new.items told.new.items }
     ensures no_answers { answers_of (events_of told.new.items) ≡ [] }
     ensures torn { OnOk result (IsTorn tear (look old.now) (events_of told.new.items)) }
 {

@@ -6,9 +6,9 @@ ghost use Rattle.pf_io.specs.Moments.{Does};
 ghost use Rattle.pf_io.specs.Steps.{Stays, Changes, Writes, Cuts, Syncs, Makes, Swaps, Removes, AtOnce};
 ghost use Rattle.pf_io.specs.Host.{LengthWas, Gave, Wrote, WasCut, Synced, Made, Swapped, Removed, Tells, CountsRead, CountsWrite, CountsNeither, KeepsFiles, OnHonest, OnDisk, ReadsFrom, KeepsRest, length_of, contents};
 ghost use Rattle.pf_io.specs.Replay.{Call, answers_of};
-ghost use Rattle.pf_io.specs.Storage.{Agrees, Records, events_of};
+ghost use Rattle.pf_io.specs.Storage.{StoresAfter, Records, events_of};
 ghost use Rattle.pf_io.specs.Memory.{memory_of, host_of, disk_now, IsUnused, Puts, NamesCall, earlier, IsToFail, IsCall, IsAfterCrash};
-ghost use Rattle.pf_io.specs.Sound.{reads_as_image};
+ghost use Rattle.pf_io.specs.SoundProofs.{reads_as_image};
 
 use crate::counts::raise;
 use crate::mem_calls::{answer_length, cut, give, make, put, put_torn, remove, swap, sync, write};
@@ -31,7 +31,7 @@ impl MemHost {
 
     // A host with these files and events, of which nothing was asked yet.
     fn unused(alloc: Global, files: Vec<Entry>, told: Vec<Told>) -> Self
-        requires agrees { Agrees files.items told.items }
+        requires stores { StoresAfter files.items told.items }
         requires no_answers { answers_of (events_of told.items) ≡ [] }
         ensures unused { IsUnused (memory_of result) }
         ensures events { (memory_of result).events ≡ events_of told.items }

@@ -1,5 +1,5 @@
 // The state of a host in memory.
-ghost use Rattle.pf_io.specs.Storage.{Agrees};
+ghost use Rattle.pf_io.specs.Storage.{StoresAfter};
 
 use crate::storage::Entry;
 use crate::told::Told;
@@ -20,5 +20,5 @@ pub struct MemHost {
     pub(crate) widest: usize,
     pub(crate) starved: u64,
     // What is stored is what the recorded events leave.
-    ghost agrees: { Agrees files.items told.items },
+    ghost stores: { StoresAfter files.items told.items },
 }

@@ -12,10 +12,10 @@ pub returns : goal.returns
 returns c =
     let files = c.args.self.files.items in
     let old = events_of c.args.self.told.items in
-    let agrees : (name : Name) → look c.deref.result.now name ≡ stored_after old name = λ name. ap (λ (l : List Entry). look l name) c.deref.ensures.value ∙ c.args.self.agrees name in
+    let stores : (name : Name) → look c.deref.result.now name ≡ stored_after old name = λ name. ap (λ (l : List Entry). look l name) c.deref.ensures.value ∙ c.args.self.stores name in
     let torn = subst (IsTorn c.args.tear (look c.deref.result.now)) (sym c.unused.ensures.events) c.in_ok-put_torn.ensures.torn in
     record {
       unused = c.unused.ensures.unused;
-      torn = λ name. torn_reads c.args.tear (look c.deref.result.now) (memory_of c.unused.result).events torn name ∙ ap (λ (o : Option Stored). option_map (torn_bytes c.args.tear) o) (agrees name);
-      crash = crash_of c.args.tear (look c.deref.result.now) old (memory_of c.unused.result).events agrees torn;
+      torn = λ name. torn_reads c.args.tear (look c.deref.result.now) (memory_of c.unused.result).events torn name ∙ ap (λ (o : Option Stored). option_map (torn_bytes c.args.tear) o) (stores name);
+      crash = crash_of c.args.tear (look c.deref.result.now) old (memory_of c.unused.result).events stores torn;
     }

@@ -1,4 +1,5 @@
--- The disk that events leave reads as one of its images, and so does each outcome of a crash. (These proofs stand here since a law of a trait is proved by what `specs/` has.)
+-- Proofs, no definitions of what is promised: the disk that events leave reads as one of its images, and so does each outcome of a crash.
+-- (They stand here since a law of a trait is proved by what `specs/` has.)
 use Rattle.std.proofs.Common.{◌≡◌, ◌⊎◌, inl, inr, ℕ, ◌+◌, ◌<◌, ◌≤◌, max, Bool, true, false, cond, List, [], ◌∷◌, length, take, slice_get, refl, sym, ◌∙◌, ap, Option, Some, None, option_map, arith}
 use Rattle.std.proofs.lemmas.List.{length-take, length-replicate}
 use Rattle.std.specs.Prelude.{bytes_eq, unwrap_or}
@@ -6,7 +7,7 @@ use Rattle.pf_io.specs.Disk.{Name, IsImageAt, IsImage, read_of, reading}
 use Rattle.pf_io.specs.Steps.{overwrite, reach}
 use Rattle.pf_io.specs.Host.{Answer, LengthWas, Gave, Wrote, WasCut, Synced, Made, Swapped, Removed}
 use Rattle.pf_io.specs.Replay.{Event, Call, Put, Traced, Trace, set_at, written, shortened, settled, moved_by, swapped, answered, after, after_all, empty, file_of, disk_of}
-use Rattle.pf_io.specs.Splicing.{get_take, get_inside, overwrite-length, overwrite-front, overwrite-back, unkept-length, unkept-kept}
+use Rattle.pf_io.specs.SplicingProofs.{get_take, get_inside, overwrite-length, overwrite-front, overwrite-back, unkept-length, unkept-kept}
 
 -- What is kept of a file fits together: the lengths are in their range, and at a kept place the byte is that of the last sync.
 pub record IsSound (file : Traced) : Type 0 where

@@ -1,4 +1,4 @@
--- What stands where in a list after a write at a place.
+-- Proofs, no definitions of what is promised: what stands where in a list after a write at a place. (They stand here for those of `SoundProofs`.)
 use Rattle.std.proofs.Common.{◌≡◌, ◌⊎◌, inl, inr, ℕ, zero, suc, ◌+◌, ◌-◌, ◌<◌, ◌≤◌, max, Bool, true, false, List, [], ◌∷◌, ◌++◌, length, take, drop, replicate, slice_get, refl, sym, ◌∙◌, ap, Some, arith, length-append, length-drop}
 use Rattle.std.proofs.lemmas.List.{length-take, length-replicate}
 use Rattle.pf_io.specs.Steps.{overwrite, reach}
