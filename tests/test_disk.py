@@ -39,7 +39,9 @@ def test_of_two_runs_on_one_out_one_makes_it():
         out = decrypt()
         if out.status or out.out not in [contents[name] for name in done]:
             raise AssertionError(f"pair {pair}: {done} made it, and it holds {out.out[:1]!r} ({out})")
-        same(sorted(os.listdir(".")), ["a", "b", "in", "key", "out.pf"], f"pair {pair}")
+        # A run that fails may leave its side file.
+        left = {"out.pf.new"} if 4 in ended.values() else set()
+        same(set(os.listdir(".")) - left, {"a", "b", "in", "key", "out.pf"}, f"pair {pair}")
         os.remove("out.pf")
 
 
