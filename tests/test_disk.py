@@ -151,6 +151,19 @@ def test_after_a_failed_sync_a_file_is_not_changed():
         same(ran.status, 0, f"sync {at}: {ran}")
 
 
+def test_a_file_system_without_locks_or_hard_links_serves():
+    for old in (None, b"old"):
+        for call, error in (("flock", "EOPNOTSUPP"), ("flock", "ENOLCK"), ("link", "EPERM"), ("link", "EOPNOTSUPP")):
+            if os.path.exists("out.pf"):
+                os.remove("out.pf")
+            if old:
+                put("out.pf", old)
+            ran, _ = traced(ENCRYPT, "-e", f"inject={call}:error={error}")
+            same((ran.status, ran.log), (0, ""), f"{call} {error}: {ran}")
+            holds(b"content")
+    same(sorted(os.listdir(".")), ["in", "key", "out.pf"], "what is left")
+
+
 # Names at which nothing stands, or no plain file.
 
 
