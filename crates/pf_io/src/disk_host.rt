@@ -1,6 +1,6 @@
 // Real files as a host.
 ghost use Rattle.std.specs.Prelude.{◌≡◌, ◌≤◌, length, drop, IfOk, OnOk};
-ghost use Rattle.pf_io.specs.Counts.{HasCause};
+ghost use Rattle.pf_io.specs.Counts.{HasCause, CountsFault};
 ghost use Rattle.pf_io.specs.Host.{KeepsRest};
 ghost use Rattle.pf_io.specs.Std.{DiskState, host_of};
 
@@ -60,6 +60,7 @@ impl<R: Files<File = File> + AllocGlobal + Drop> DiskHost<R> {
 // An error is a counted fault.
 fn count_fault<T>(faults: &mut u64, outcome: io::Result<T>) -> Result<T, HostFault>
     ensures cause { HasCause faults.old faults.new result }
+    ensures once { CountsFault faults.old faults.new result }
     ensures value { IfOk result (λ value. outcome ≡ Ok value) }
 {
     match outcome {
