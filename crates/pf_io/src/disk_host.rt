@@ -1,7 +1,7 @@
 // Real files as a host.
 ghost use Rattle.std.specs.Prelude.{◌≡◌, ◌≤◌, length, drop, IfOk, OnOk};
 ghost use Rattle.pf_io.specs.Counts.{HasCause, CountsFault};
-ghost use Rattle.pf_io.specs.Host.{KeepsRest};
+ghost use Rattle.pf_io.specs.Host.{KeepsRest, CountsRead, CountsWrite, CountsNeither};
 ghost use Rattle.pf_io.specs.Std.{DiskState, host_of};
 
 use crate::counts::raise;
@@ -60,7 +60,7 @@ impl<R: Files<File = File> + AllocGlobal + Drop> DiskHost<R> {
 // An error is a counted fault.
 fn count_fault<T>(faults: &mut u64, outcome: io::Result<T>) -> Result<T, HostFault>
     ensures cause { HasCause faults.old faults.new result }
-    ensures once { CountsFault faults.old faults.new result }
+    ensures fault { CountsFault faults.old faults.new result }
     ensures value { IfOk result (λ value. outcome ≡ Ok value) }
 {
     match outcome {
@@ -144,48 +144,81 @@ impl<R: Files<File = File> + AllocGlobal + Drop> Host for DiskHost<R> {
 
     ghost reads_as_image = { λ _. tt };
 
-    fn len(&mut self, name: &str) -> Result<Option<u64>, HostFault> {
+    fn len(&mut self, name: &str) -> Result<Option<u64>, HostFault>
+        ensures cause { HasCause self.old.faults self.new.faults result }
+        ensures fault { CountsFault self.old.faults self.new.faults result }
+        ensures counts { CountsNeither (host_of self.old) (host_of self.new) }
+    {
         let outcome = file_len(&self.system, &mut self.handles, name);
         count_fault(&mut self.faults, outcome)
     }
 
-    fn read_at(&mut self, name: &str, at: u64, to: &mut [u8]) -> Result<usize, HostFault> {
+    fn read_at(&mut self, name: &str, at: u64, to: &mut [u8]) -> Result<usize, HostFault>
+        ensures rest { IfOk result (λ n. KeepsRest n to.old to.new) }
+        ensures cause { HasCause self.old.faults self.new.faults result }
+        ensures fault { CountsFault self.old.faults self.new.faults result }
+        ensures counts { CountsRead (length to.old) (host_of self.old) (host_of self.new) }
+    {
         raise(&mut self.reads);
         self.widest = self.widest.max(to.len());
         let outcome = read_file(&self.system, &mut self.handles, name, at, to);
         count_fault(&mut self.faults, outcome)
     }
 
-    fn write_at(&mut self, name: &str, at: u64, from: &[u8]) -> Result<(), HostFault> {
+    fn write_at(&mut self, name: &str, at: u64, from: &[u8]) -> Result<(), HostFault>
+        ensures cause { HasCause self.old.faults self.new.faults result }
+        ensures fault { CountsFault self.old.faults self.new.faults result }
+        ensures counts { CountsWrite (length from.now) (host_of self.old) (host_of self.new) }
+    {
         raise(&mut self.writes);
         self.widest = self.widest.max(from.len());
         let outcome = write_file(&self.system, &mut self.handles, name, at, from);
         count_fault(&mut self.faults, outcome)
     }
 
-    fn cut(&mut self, name: &str, len: u64) -> Result<(), HostFault> {
+    fn cut(&mut self, name: &str, len: u64) -> Result<(), HostFault>
+        ensures cause { HasCause self.old.faults self.new.faults result }
+        ensures fault { CountsFault self.old.faults self.new.faults result }
+        ensures counts { CountsNeither (host_of self.old) (host_of self.new) }
+    {
         let outcome = cut_file(&self.system, &mut self.handles, name, len);
         count_fault(&mut self.faults, outcome)
     }
 
-    fn sync(&mut self, name: &str) -> Result<(), HostFault> {
+    fn sync(&mut self, name: &str) -> Result<(), HostFault>
+        ensures cause { HasCause self.old.faults self.new.faults result }
+        ensures fault { CountsFault self.old.faults self.new.faults result }
+        ensures counts { CountsNeither (host_of self.old) (host_of self.new) }
+    {
         let outcome = sync_file(&self.system, &mut self.handles, name);
         count_fault(&mut self.faults, outcome)
     }
 
-    fn make(&mut self, name: &str) -> Result<(), HostFault> {
+    fn make(&mut self, name: &str) -> Result<(), HostFault>
+        ensures cause { HasCause self.old.faults self.new.faults result }
+        ensures fault { CountsFault self.old.faults self.new.faults result }
+        ensures counts { CountsNeither (host_of self.old) (host_of self.new) }
+    {
         let alloc = self.system.alloc();
         let outcome = make_file(&self.system, alloc, &mut self.handles, name);
         count_fault(&mut self.faults, outcome)
     }
 
-    fn swap_name(&mut self, from: &str, to: &str) -> Result<(), HostFault> {
+    fn swap_name(&mut self, from: &str, to: &str) -> Result<(), HostFault>
+        ensures cause { HasCause self.old.faults self.new.faults result }
+        ensures fault { CountsFault self.old.faults self.new.faults result }
+        ensures counts { CountsNeither (host_of self.old) (host_of self.new) }
+    {
         let alloc = self.system.alloc();
         let outcome = swap_file(&self.system, alloc, &mut self.handles, from, to);
         count_fault(&mut self.faults, outcome)
     }
 
-    fn remove(&mut self, name: &str) -> Result<(), HostFault> {
+    fn remove(&mut self, name: &str) -> Result<(), HostFault>
+        ensures cause { HasCause self.old.faults self.new.faults result }
+        ensures fault { CountsFault self.old.faults self.new.faults result }
+        ensures counts { CountsNeither (host_of self.old) (host_of self.new) }
+    {
         let outcome = remove_file(&self.system, &mut self.handles, name);
         count_fault(&mut self.faults, outcome)
     }
