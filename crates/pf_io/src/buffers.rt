@@ -48,7 +48,8 @@ impl MemSource {
         }
     }
 
-    /// From now on the read with this number, counted from 0, is a counted fault that takes nothing, and no other is.
+    /// From now on the read with this number, counted from 0, is a counted fault that takes nothing and leaves the
+    /// buffer, and no other is.
     pub fn fail_at(&mut self, call: u64)
         ensures { self.new ≡ record self.old { failing = Some call } }
     {
