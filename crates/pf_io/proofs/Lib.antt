@@ -1,4 +1,6 @@
 pub mod Telling
+pub mod Answering
+pub mod OnlyReading
 pub mod Loans
 pub mod Runs
 pub mod Images

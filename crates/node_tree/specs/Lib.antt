@@ -1,0 +1,13 @@
+pub mod Content
+pub mod Touched
+pub mod Sheet
+pub mod Existing
+pub mod Opened
+pub mod Listing
+pub mod Nodes
+pub mod State
+pub mod Fetching
+pub mod Backing
+pub mod Reading
+pub mod Inside
+pub mod Copying
