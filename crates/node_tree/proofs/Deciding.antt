@@ -7,7 +7,8 @@ use Rattle.std.proofs.lemmas.List.{get_or_append_left, length-append}
 use Rattle.std.proofs.lemmas.Option.{same_Some}
 use Rattle.node_layout.specs.declared.damage.Damage.{Damage}
 use Rattle.pf_io.specs.Host.{Name, Answer, Gave, HostState}
-use Rattle.node_tree.specs.Opened.{AtNodes, IsPart}
+use Rattle.node_tree.specs.Opened.{AtNodes}
+use Rattle.node_tree.specs.Parts.{IsPart}
 use Rattle.node_tree.proofs.Opening.{IsSingle}
 use Rattle.node_tree.proofs.Parting.{one_end}
 use Rattle.node_tree.specs.State.{TreeState, held_at, Held, root_in, readable}

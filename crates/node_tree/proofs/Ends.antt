@@ -10,7 +10,8 @@ use Rattle.node_layout.specs.declared.damage.Damage.{Damage}
 use Rattle.pf_io.specs.Host.{Name, Answer, HostState}
 use Rattle.node_tree.specs.Content.{bytes_of}
 use Rattle.node_tree.specs.Touched.{IsTouched, AreTouched}
-use Rattle.node_tree.specs.Opened.{IsAt, Opened, IsPart}
+use Rattle.node_tree.specs.Opened.{IsAt, Opened}
+use Rattle.node_tree.specs.Parts.{IsPart}
 use Rattle.node_tree.specs.Nodes.{plain_at}
 use Rattle.node_tree.specs.State.{TreeState, held_at, Held, root_in, readable, plain_or}
 use Rattle.node_tree.specs.Inside.{plains}

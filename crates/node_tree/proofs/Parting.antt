@@ -8,7 +8,8 @@ use Rattle.node_layout.specs.declared.damage.Kind.{Kind}
 use Rattle.node_layout.specs.Places.{data_place, parent_of, slot_of}
 use Rattle.node_layout.specs.Entries.{entry_at}
 use Rattle.node_tree.specs.Touched.{IsTouched}
-use Rattle.node_tree.specs.Opened.{AtNodes, Entry, OpensUnder, FailsUnder, Opened, was_held, root_opens, child_opens, Fails, is_short, root_fails, child_fails, IsWhole, IsBroken, IsPart, NothingHeld, BlockOf, OnePart}
+use Rattle.node_tree.specs.Opened.{AtNodes, Entry, OpensUnder, FailsUnder, Opened, was_held, root_opens, child_opens, Fails, is_short, root_fails, child_fails, NothingHeld, BlockOf}
+use Rattle.node_tree.specs.Parts.{IsWhole, IsBroken, IsPart, OnePart}
 use Rattle.node_tree.proofs.Opening.{IsSingle, opened_one, nothing_single, blocks_single}
 use Rattle.node_tree.proofs.SameBytes.{same_bytes}
 
@@ -73,4 +74,4 @@ module _ (held given : AtNodes) (root : Entry) (one_held : IsSingle held) (one_g
     one_end (Err d) (Err e) one two = ap (λ (x : Damage). Err x) (broken_one d e one two)
 
 pub one_part : OnePart
-one_part file first root at n part other one two = one_end NothingHeld (BlockOf file) root nothing_single (blocks_single file) first at n part other one two
+one_part file secret at n part other one two = one_end NothingHeld (BlockOf file) (secret.root_key, secret.root_tag) nothing_single (blocks_single file) secret.first at n part other one two

@@ -1,22 +1,36 @@
 -- Nodes that are fetched of a host, opened and kept.
-use Rattle.std.specs.Prelude.{◌≡◌, ◌⊎◌, ℕ, ◌+◌, ◌*◌, ◌<◌, ◌≤◌, Bool, true, false, List, [], ◌∷◌, ◌++◌, length, filter, slice_index, Contains, Result, Ok, Err, Option, Some, None, is_none, IsSome}
+use Rattle.std.specs.Prelude.{◌≡◌, ◌⊎◌, ℕ, ◌+◌, ◌*◌, ◌<◌, ◌≤◌, max, List, [], ◌∷◌, ◌++◌, length, filter, slice_index, Contains, Result, Ok, Err, Option, is_none}
 use Rattle.std.specs.List.{AllZip}
-use Rattle.aes_gcm.specs.Gcm.{opens}
 use Rattle.node_layout.specs.declared.damage.Damage.{Damage}
 use Rattle.node_layout.specs.declared.damage.Kind.{Kind}
 use Rattle.node_layout.specs.declared.damage.Kind.TheVariants.{Short, Tag}
-use Rattle.pf_io.specs.Counts.{Rose}
-use Rattle.pf_io.specs.Host.{Name, Answer, Gave, HostState}
 use Rattle.node_layout.specs.Places.{parent_of, slot_of}
 use Rattle.node_layout.specs.Entries.{entry_at}
-use Rattle.node_tree.specs.Opened.{AtNodes, At, IsAt, Entry, OpensUnder, FailsUnder, Opened, Fails}
-use Rattle.pf_io.specs.Answered.{Answered}
+use Rattle.pf_io.specs.Counts.{HasCause}
+use Rattle.pf_io.specs.Host.{Name, Answer, Gave, HostState}
+use Rattle.pf_io.specs.Answered.{Answered, OnlyReads}
+use Rattle.node_tree.specs.Opened.{AtNodes, At, IsAt, Entry, Given, OpensUnder, FailsUnder, Opened, Fails}
 use Rattle.node_tree.specs.declared.fault.TreeFault.{TreeFault}
 use Rattle.node_tree.specs.declared.fault.TreeFault.TheVariants as faults
 
--- a block that was given of node k of a name
-abbrev pub Given : Name → List Answer → AtNodes
-Given name these k block = Contains these (Gave name (4096 * k) 4096 block)
+-- a result, of which only a fault of the host counts as a fault
+abbrev pub host_part : {T : Type 0} → Result T TreeFault → Result (Unit {0}) (Unit {0})
+host_part (Ok value) = Ok tt
+host_part (Err (faults.Damaged damage)) = Ok tt
+host_part (Err faults.Host) = Err tt
+host_part (Err faults.Memory) = Ok tt
+
+-- the counts after at most n reads of a node
+pub record CountsReads (n : ℕ) (old new : HostState) : Type 0 where
+  pub reads : new.reads ≤ old.reads + n
+  pub writes : new.writes ≡ old.writes
+  pub widest : new.widest ≤ max old.widest 4096
+
+-- Calls that only read: a fault of the host comes of the host, the reads are at most n, and an honest disk stays at every moment.
+pub record Asking {T : Type 0} (result : Result T TreeFault) (n : ℕ) (old new : HostState) : Type 0 where
+  pub cause : HasCause old.faults new.faults (host_part result)
+  pub counts : CountsReads n old new
+  pub disk : OnlyReads old new
 
 -- the entry of node k: the root's, or that in the plain text of its parent
 pub data HasEntry (held : AtNodes) (root : Entry) (k : ℕ) (entry : Entry) : Type 0 where
@@ -43,16 +57,11 @@ pub record NodeFails (name : Name) (k : ℕ) (entry : Entry) (old new : HostStat
   pub node_is : damage.node ≡ k
   pub fails : BlockFails entry block damage.kind
 
--- a call of the host failed, and no answer came of it
-pub record HostFails (old new : HostState) : Type 0 where
-  pub rose : Rose old.faults new.faults
-  pub answered : Answered [] old new
-
 -- how the opening of node k ends
 abbrev pub NodeEnds : Result (List ℕ) TreeFault → Name → ℕ → Entry → HostState → HostState → Type 0
 NodeEnds (Ok plain) name k entry old new = NodeOpens name k entry old new plain
 NodeEnds (Err (faults.Damaged damage)) name k entry old new = NodeFails name k entry old new damage
-NodeEnds (Err faults.Host) name k entry old new = HostFails old new
+NodeEnds (Err faults.Host) name k entry old new = Answered [] old new
 NodeEnds (Err faults.Memory) name k entry old new = ⊥
 
 -- What is held afterwards was held before, or opens from given blocks; and nothing that was held is let go.
@@ -60,7 +69,7 @@ pub record Fetched (held held_now given : AtNodes) (root : Entry) : Type 0 where
   pub kept : (k : ℕ) (plain : List ℕ) → held k plain → held_now k plain
   pub came : (k : ℕ) (plain : List ℕ) → held_now k plain → Opened held given root k plain
 
--- how many of some numbers a test passes
+-- those of some numbers at which nothing is held
 abbrev pub missing_of : (ℕ → Option (List ℕ)) → List ℕ → List ℕ
 missing_of held numbers = filter (λ k. is_none (held k)) numbers
 
@@ -77,11 +86,11 @@ pub record FailsAt (numbers : List ℕ) (held held_now given : AtNodes) (root : 
   pub fails : Fails held given root damage.node damage.kind
 
 -- how the fetching of some numbers ends
-abbrev pub FetchEnds : {T : Type 0} → Result T TreeFault → List ℕ → AtNodes → AtNodes → AtNodes → Entry → HostState → HostState → Type 0
-FetchEnds (Ok value) numbers held held_now given root old new = (i : ℕ) → i < length numbers → IsAt held_now (slice_index numbers i)
-FetchEnds (Err (faults.Damaged damage)) numbers held held_now given root old new = FailsAt numbers held held_now given root damage
-FetchEnds (Err faults.Host) numbers held held_now given root old new = Rose old.faults new.faults
-FetchEnds (Err faults.Memory) numbers held held_now given root old new = Unit {0}
+abbrev pub FetchEnds : {T : Type 0} → Result T TreeFault → List ℕ → AtNodes → AtNodes → AtNodes → Entry → Type 0
+FetchEnds (Ok value) numbers held held_now given root = (i : ℕ) → i < length numbers → IsAt held_now (slice_index numbers i)
+FetchEnds (Err (faults.Damaged damage)) numbers held held_now given root = FailsAt numbers held held_now given root damage
+FetchEnds (Err faults.Host) numbers held held_now given root = Unit {0}
+FetchEnds (Err faults.Memory) numbers held held_now given root = Unit {0}
 
 -- each of the numbers was asked for, and these answers came of it, in turn
 abbrev pub AsksInTurn : Name → List ℕ → List Answer → Type 0
@@ -106,4 +115,4 @@ pub record Fetches {T : Type 0} (result : Result T TreeFault) (name : Name) (num
   pub fetched : Fetched (At held) (At held_now) (Given name these) root
   pub only : (k : ℕ) → IsAt (At held_now) k → IsAt (At held) k ⊎ Contains numbers k
   pub asked : Asks result name (missing_of held numbers) these
-  pub ends : FetchEnds result numbers (At held) (At held_now) (Given name these) root old new
+  pub ends : FetchEnds result numbers (At held) (At held_now) (Given name these) root

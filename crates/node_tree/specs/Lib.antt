@@ -3,9 +3,11 @@ pub mod Touched
 pub mod Sheet
 pub mod Existing
 pub mod Opened
+pub mod Parts
 pub mod Listing
 pub mod Nodes
 pub mod State
+pub mod Unforged
 pub mod Fetching
 pub mod Backing
 pub mod Reading

@@ -1,5 +1,5 @@
 -- What contracts see of a tree.
-use Rattle.std.specs.Prelude.{◌≡◌, ℕ, ◌+◌, ◌*◌, ◌-◌, ◌<◌, ◌≤◌, min, List, slice_index, Option, Some, None, refl}
+use Rattle.std.specs.Prelude.{◌≡◌, ℕ, ◌+◌, ◌*◌, ◌-◌, ◌<◌, ◌≤◌, ◌^◌, min, List, length, slice_index, Option, Some, None, refl}
 use Rattle.std.specs.Coded.{Coded, code_by, coded×, coded_ℕ, coded_list}
 use Rattle.std.specs.Map.{lookup}
 use Rattle.std.specs.BTreeMap.{is_at}
@@ -39,7 +39,7 @@ Held tree k plain = held_at tree k ≡ Some plain
 abbrev pub root_in : TreeState → Entry
 root_in tree = (tree.root_key, tree.root_tag)
 
--- the plain text that is held of node k, or no bytes
+-- the plain text that is held of node k, or another
 abbrev pub plain_or : Option (List ℕ) → List ℕ → List ℕ
 plain_or (Some plain) other = plain
 plain_or None other = other
@@ -48,6 +48,15 @@ plain_or None other = other
 pub record IsPadded (other : ℕ → List ℕ) (tree : TreeState) : Type 0 where
   pub of_first : (i : ℕ) → tree.size ≤ i → i < 3072 → slice_index tree.first i ≡ 0
   pub of_nodes : (d r : ℕ) → data_place d < node_count tree.size → tree.size ≤ 3072 + 4096 * d + r → r < 4096 → slice_index (plain_or (held_at tree (data_place d)) (other (data_place d))) r ≡ 0
+
+-- each plain text is a whole block
+abbrev pub AreBlocks : AtNodes → Type 0
+AreBlocks there = (k : ℕ) (plain : List ℕ) → there k plain → length plain ≡ 4096
+
+-- what holds of each tree
+pub record IsSound (tree : TreeState) : Type 0 where
+  pub small : tree.size ≤ 2 ^ 40
+  pub blocks : AreBlocks (Held tree)
 
 -- how many bytes of a room can be read from a place on
 abbrev pub readable : TreeState → ℕ → ℕ → ℕ
