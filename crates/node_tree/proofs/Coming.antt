@@ -6,8 +6,8 @@ use Rattle.node_layout.specs.declared.damage.Kind.{Kind}
 use Rattle.pf_io.specs.Host.{Name, Answer, Gave}
 use Rattle.node_layout.specs.Places.{parent_of, slot_of}
 use Rattle.node_layout.specs.Entries.{entry_at}
-use Rattle.node_tree.specs.Opened.{AtNodes, IsAt, Entry, OpensUnder, FailsUnder, Opened, was_held, root_opens, child_opens, Fails, is_short, root_fails, child_fails}
-use Rattle.node_tree.specs.Fetching.{Given, HasEntry, of_root, of_parent, BlockFails, Fetched}
+use Rattle.node_tree.specs.Opened.{AtNodes, IsAt, Entry, OpensUnder, FailsUnder, Opened, was_held, root_opens, child_opens, Fails, is_short, root_fails, child_fails, Given}
+use Rattle.node_tree.specs.Fetching.{HasEntry, of_root, of_parent, BlockFails, Fetched}
 
 under : (e f : Entry) (block plain : List ℕ) → e ≡ f → OpensUnder e block plain → OpensUnder f block plain
 under e f block plain same o = subst (λ (x : Entry). OpensUnder x block plain) same o

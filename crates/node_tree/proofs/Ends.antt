@@ -10,13 +10,13 @@ use Rattle.node_layout.specs.declared.damage.Damage.{Damage}
 use Rattle.pf_io.specs.Host.{Name, Answer, HostState}
 use Rattle.node_tree.specs.Content.{bytes_of}
 use Rattle.node_tree.specs.Touched.{IsTouched, AreTouched}
-use Rattle.node_tree.specs.Opened.{IsAt, Opened}
+use Rattle.node_tree.specs.Opened.{IsAt, Opened, Given}
 use Rattle.node_tree.specs.Parts.{IsPart}
 use Rattle.node_tree.specs.Nodes.{plain_at}
 use Rattle.node_tree.specs.State.{TreeState, held_at, Held, root_in, readable, plain_or}
+use Rattle.node_tree.specs.Fetching.{CountsReads, Fetches, missing_of}
+use Rattle.node_tree.specs.Reading.{KeepsFields, ReadEnds, Reads, ReadsFew}
 use Rattle.node_tree.specs.Inside.{plains}
-use Rattle.node_tree.specs.Fetching.{Given, AsksInTurn, AsksFront, Fetches, missing_of}
-use Rattle.node_tree.specs.Reading.{KeepsRest, ReadEnds, Reads, ReadsFew}
 use Rattle.node_tree.specs.declared.fault.TreeFault.{TreeFault}
 use Rattle.node_tree.specs.declared.fault.TreeFault.TheVariants as faults
 use Rattle.node_tree.specs.declared.nodes.HeldNode.{HeldNode}
@@ -62,7 +62,7 @@ module _ (name : Name) (at : ℕ) (s s' : TreeState) (before after : HostState) 
     );
   }
 
-  module _ (rest : KeepsRest s s') (numbers : List ℕ) where
+  module _ (rest : KeepsFields s s') (numbers : List ℕ) where
     pub reads_ok : {T : Type 0} (value : T) (buffer : List ℕ) (n : ℕ) → n ≡ readable s at (length buffer) → AreTouched at (at + n) numbers
         → Fetches (Ok value) name numbers (held_at s) (held_at s') (root_in s) before after → take n buffer ≡ bytes_of s.first (λ k. plain_or (held_at s' k) []) at n → Reads (Ok n) name at buffer s s' before after
     reads_ok value buffer n is touched fetches bytes =
@@ -110,10 +110,8 @@ module _ (name : Name) (at : ℕ) (s s' : TreeState) (before after : HostState) 
             fails = ends.fails;
           };
         }
-    reads_failed faults.Host buffer touched fetches = record { these = fetches.these; answered = fetches.answered; rest = rest; fetched = fetches.fetched; numbers = numbers; touched = touched; asked = fetches.asked; ends = fetches.ends }
+    reads_failed faults.Host buffer touched fetches = record { these = fetches.these; answered = fetches.answered; rest = rest; fetched = fetches.fetched; numbers = numbers; touched = touched; asked = fetches.asked; ends = tt }
     reads_failed faults.Memory buffer touched fetches = record { these = fetches.these; answered = fetches.answered; rest = rest; fetched = fetches.fetched; numbers = numbers; touched = touched; asked = fetches.asked; ends = tt }
 
-  pub few_reads : (room : ℕ) (numbers : List ℕ) → AreTouched at (at + readable s at room) numbers → after.reads ≤ before.reads + length (missing_of (held_at s) numbers) → ReadsFew at room s before after
-  few_reads room numbers touched few others touched' =
-      let same = same_rising numbers others touched.rising touched'.rising (λ k there. (touched'.exactly k).1 ((touched.exactly k).0 there)) (λ k there. (touched.exactly k).1 ((touched'.exactly k).0 there)) in
-      subst (λ (l : List ℕ). after.reads ≤ before.reads + length (missing_of (held_at s) l)) same few
+  pub few_reads : (room : ℕ) (numbers : List ℕ) → AreTouched at (at + readable s at room) numbers → CountsReads (length (missing_of (held_at s) numbers)) before after → ReadsFew at room s before after
+  few_reads room numbers touched few others touched' = subst (λ (l : List ℕ). CountsReads (length (missing_of (held_at s) l)) before after) (same_numbers at (at + readable s at room) numbers others touched touched') few

@@ -9,13 +9,13 @@ use Rattle.node_layout.proofs.Numbers.{data_live}
 use Rattle.node_tree.specs.Content.{first_text, data_text, bytes_of}
 use Rattle.node_tree.specs.Sheet.{Node, Sheet, HasNode, IsLinked, plain_in, root_of, meta_of}
 use Rattle.node_tree.specs.Opened.{Opened, NothingHeld, BlockOf}
-use Rattle.node_tree.proofs.Bytes.{content_is, first_padding, data_padding}
-use Rattle.node_tree.proofs.Standing.{node_there, plain_in-there, meta_is_text}
 use Rattle.node_tree.specs.State.{TreeState, held_at, Held, root_in}
-use Rattle.node_tree.specs.Inside.{plains}
-use Rattle.node_tree.specs.declared.nodes.HeldNode.{HeldNode}
 use Rattle.node_tree.specs.Backing.{Backs, IsMetaOf, now}
 use Rattle.node_tree.specs.Reading.{IsOfFile}
+use Rattle.node_tree.specs.Inside.{plains}
+use Rattle.node_tree.proofs.Bytes.{content_is, first_padding, data_padding}
+use Rattle.node_tree.proofs.Standing.{data_within, node_there, plain_in-there, meta_is_text}
+use Rattle.node_tree.specs.declared.nodes.HeldNode.{HeldNode}
 
 -- a tree of which no node is held
 abbrev pub fresh : MetaSecret → TreeState
@@ -24,11 +24,8 @@ fresh meta = record { size = meta.size; first = meta.first; root_key = meta.root
 no_member : (k : ℕ) → Contains {X = ℕ} [] k → ⊥
 no_member k (i, within, is) = omega arith
 
-data_within : (s d n : ℕ) → 1 + n ≡ node_count s → d < data_count s → data_place d ≤ n
-data_within s d n is lt = omega arith
-
 module _ (sheet : Sheet) (linked : IsLinked sheet) where
-  slices : (d : ℕ) → d < data_count (length sheet.content) → plain_in sheet (data_place d) ≡ data_text sheet.content d
+  pub slices : (d : ℕ) → d < data_count (length sheet.content) → plain_in sheet (data_place d) ≡ data_text sheet.content d
   slices d lt =
       let all = linked.all_nodes in
       let there = node_there sheet (data_place d) (omega arith) (data_within (length sheet.content) d (length sheet.nodes) all lt) in

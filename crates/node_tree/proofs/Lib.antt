@@ -11,6 +11,7 @@ pub mod Existing
 pub mod Rising
 pub mod Levels
 pub mod Listed
+pub mod Asking
 pub mod Coming
 pub mod Absent
 pub mod One
@@ -18,10 +19,15 @@ pub mod Several
 pub mod Filled
 pub mod Order
 pub mod Rooted
+pub mod Lively
 pub mod Ends
 pub mod OfTree
 pub mod Unforging
 pub mod Giving
+pub mod Undamaged
 pub mod OfFile
 pub mod Fresh
+pub mod Small
+pub mod Pieces
+pub mod FileParts
 pub mod Deciding

@@ -1,18 +1,22 @@
 -- A read of a tree, from its fields.
-use Rattle.std.proofs.Common.{◌≡◌, inl, ℕ, ◌+◌, ◌<◌, ◌≤◌, slice_index, List, [], ◌++◌, length, take, drop, refl, ap, ◌∙◌, sym, arith, subst, Option, Result, Ok, Err}
-use Rattle.std.specs.BTreeMap.{BTreeMap}
+use Rattle.std.proofs.Common.{◌≡◌, inl, ℕ, ◌+◌, ◌<◌, ◌≤◌, slice_index, List, [], ◌++◌, length, take, drop, refl, ap, ◌∙◌, sym, arith, subst, is_some, Option, Some, None, Result, Ok, Err}
+use Rattle.std.specs.Option.{option_map}
+use Rattle.std.specs.Ordering.{nat_cmp}
+use Rattle.std.specs.BTreeMap.{BTreeMap, get}
 use Rattle.std.proofs.lemmas.List.{take_at, length-append, length-drop}
 use Rattle.pf_io.specs.Host.{Name, HostState}
 use Rattle.node_tree.specs.Content.{bytes_of}
-use Rattle.node_layout.specs.Places.{data_place}
 use Rattle.node_tree.specs.Touched.{AreTouched, Meets}
-use Rattle.node_tree.specs.Opened.{AtNodes, IsAt}
+use Rattle.node_tree.specs.Opened.{AtNodes, At, IsAt, Given}
 use Rattle.node_tree.specs.Nodes.{plain_at, Keeps, kept_plain}
-use Rattle.node_tree.specs.State.{TreeState, held_at, Held, readable, plain_or}
+use Rattle.node_tree.specs.State.{TreeState, held_at, Held, readable, plain_or, AreBlocks, IsSound}
+use Rattle.node_tree.specs.Fetching.{CountsReads, Fetches, missing_of}
+use Rattle.node_tree.specs.Reading.{Reads, ReadsFew, DamageComes}
 use Rattle.node_tree.specs.Inside.{state_of}
-use Rattle.node_tree.specs.Fetching.{Fetches, missing_of}
-use Rattle.node_tree.specs.Reading.{Reads, ReadsFew}
+use Rattle.node_layout.specs.Places.{data_place}
 use Rattle.node_tree.specs.declared.fault.TreeFault.{TreeFault}
+use Rattle.node_tree.specs.declared.fault.TreeFault.TheVariants as faults
+use Rattle.node_tree.proofs.Opening.{opened_block}
 use Rattle.node_tree.specs.declared.nodes.HeldNode.{HeldNode}
 use Rattle.node_tree.specs.declared.tree.Tree.TheInside.{Inside}
 use Rattle.node_tree.proofs.Order.{place_of}
@@ -44,11 +48,11 @@ module _ (name : Name) (at : ℕ) (inside : Inside) (nodes : BTreeMap ℕ HeldNo
       subst (λ (t : TreeState). Reads (Ok count) name at buffer t (state_of (record inside { nodes = nodes })) before after) is
       (reads_ok name at (state_of inside) (state_of (record inside { nodes = nodes })) before after refl numbers value buffer count here touched (states (Ok value) fetches) (bytes ∙ same))
 
-  pub tree_few : after.reads ≤ before.reads + length (missing_of (plain_at inside.nodes) numbers) → ReadsFew at room old before after
+  pub tree_few : CountsReads (length (missing_of (plain_at inside.nodes) numbers)) before after → ReadsFew at room old before after
   tree_few few =
       subst (λ (t : TreeState). ReadsFew at room t before after) is
       (few_reads name at (state_of inside) (state_of inside) before after room numbers (subst (λ (n : ℕ). AreTouched at (at + n) numbers) count_is touched)
-      (subst (λ (f : ℕ → Option (List ℕ)). after.reads ≤ before.reads + length (missing_of f numbers)) (same_held inside.nodes) few))
+      (subst (λ (f : ℕ → Option (List ℕ)). CountsReads (length (missing_of f numbers)) before after) (same_held inside.nodes) few))
 
 -- nothing was to be read
 pub tree_none : (name : Name) (at : ℕ) (old : TreeState) (host : HostState) (buffer : List ℕ) (count : ℕ) → count ≡ 0 → count ≡ readable old at (length buffer) → Reads (Ok 0) name at buffer old old host host
@@ -64,3 +68,29 @@ data_held at count n d numbers held same touched all meets =
     let there = subst (λ (m : ℕ). Meets at (at + m) d) same meets in
     let place = place_of numbers (data_place d) ((touched.exactly (data_place d)).1 (d, there, inl refl)) in
     subst (λ (k : ℕ). IsAt held k) place.2 (all place.0 place.1)
+
+-- what holds of a tree holds once nodes came
+pub sound_then : {T : Type 0} (r : Result T TreeFault) (name : Name) (numbers : List ℕ) (inside : Inside) (nodes : BTreeMap ℕ HeldNode) (before after : HostState) → IsSound (state_of inside)
+    → Fetches r name numbers (plain_at inside.nodes) (plain_at nodes) inside.root before after → IsSound (state_of (record inside { nodes = nodes }))
+sound_then r name numbers inside nodes before after sound fetches = record {
+  small = sound.small;
+  blocks =
+      subst (λ (f : ℕ → Option (List ℕ)). AreBlocks (At f)) (same_held nodes)
+      (λ k plain there. opened_block (At (plain_at inside.nodes)) (Given name fetches.these) inside.root (subst (λ (f : ℕ → Option (List ℕ)). AreBlocks (At f)) (sym (same_held inside.nodes)) sound.blocks) k plain (fetches.fetched.came k plain there));
+}
+
+-- why a read met a damage
+pub damage_comes : (result : Result ℕ TreeFault) (name : Name) (at : ℕ) (buffer : List ℕ) (old new : TreeState) (before after : HostState) → Reads result name at buffer old new before after → DamageComes result name at (length buffer) old before after
+damage_comes (Ok n) name at buffer old new before after reads = tt
+damage_comes (Err (faults.Damaged damage)) name at buffer old new before after reads = record { these = reads.these; answered = reads.answered; holds = reads.ends }
+damage_comes (Err faults.Host) name at buffer old new before after reads = tt
+damage_comes (Err faults.Memory) name at buffer old new before after reads = tt
+
+some_plain : (o : Option HeldNode) → is_some o ≡ is_some (option_map (λ (n : HeldNode). n.plain) o)
+some_plain (Some node) = refl
+some_plain None = refl
+
+-- a node is held where the map has it
+pub tree_holds : (inside : Inside) (tree : TreeState) (k : ℕ) → state_of inside ≡ tree → is_some (get nat_cmp inside.nodes k) ≡ is_some (held_at tree k)
+tree_holds inside tree k is =
+    some_plain (get nat_cmp inside.nodes k) ∙ ap (λ (f : ℕ → Option (List ℕ)). is_some (f k)) (same_held inside.nodes) ∙ ap (λ (t : TreeState). is_some (held_at t k)) is

@@ -6,14 +6,14 @@ use Rattle.std.proofs.lemmas.Bool.{true≢false, cases_eq, ne_eqb, cond-true, co
 use Rattle.std.proofs.lemmas.List.{append-nil}
 use Rattle.std.proofs.lemmas.Option.{same_Some, none-some}
 use Rattle.node_layout.specs.declared.damage.Damage.{Damage}
-use Rattle.pf_io.specs.Counts.{Rose}
 use Rattle.pf_io.specs.Host.{Name, Answer, Gave, HostState}
-use Rattle.node_tree.specs.Opened.{AtNodes, At, IsAt, Entry, Opened, was_held, Fails}
+use Rattle.node_tree.specs.Opened.{AtNodes, At, IsAt, Entry, Opened, was_held, Fails, Given}
+use Rattle.node_tree.specs.Fetching.{Asking, HasEntry, node_answer, NodeOpens, NodeFails, NodeEnds, Fetched, FailsAt, FetchEnds, AsksInTurn, AsksFront, Fetches, missing_of}
 use Rattle.pf_io.specs.Answered.{Answered}
-use Rattle.node_tree.specs.Fetching.{Given, HasEntry, node_answer, NodeOpens, NodeFails, HostFails, NodeEnds, Fetched, FailsAt, FetchEnds, AsksInTurn, AsksFront, Fetches, missing_of}
 use Rattle.node_tree.specs.declared.fault.TreeFault.{TreeFault}
 use Rattle.node_tree.specs.declared.fault.TreeFault.TheVariants as faults
 use Rattle.pf_io.proofs.Answering.{answered_none}
+use Rattle.node_tree.proofs.Asking.{asking_err, asking_as, memory_part}
 use Rattle.node_tree.proofs.Coming.{opened_by, fails_by, fetched_none}
 
 pub only_one : (P : ℕ → Type 0) (k i : ℕ) → i < 1 → P k → P (slice_index (k ∷ []) i)
@@ -40,6 +40,15 @@ missing_held f k plain is = ap (λ (o : Option (List ℕ)). cond (is_none o) (k 
 
 missing_there : (f : ℕ → Option (List ℕ)) (k : ℕ) → ¬ (IsAt (At f) k) → missing_of f (k ∷ []) ≡ k ∷ []
 missing_there f k missing = ap (λ (o : Option (List ℕ)). cond (is_none o) (k ∷ []) []) (nowhere (f k) (λ plain is. missing (plain, is)))
+
+-- the calls for a node that is not held, where it fails, and where it is kept
+pub asks_missing : {T : Type 0} (f : ℕ → Option (List ℕ)) (k : ℕ) → ¬ (IsAt (At f) k) → (fault : TreeFault) (old new : HostState) → Asking {T = List ℕ} (Err fault) 1 old new → Asking {T = T} (Err fault) (length (missing_of f (k ∷ []))) old new
+asks_missing {T} f k missing fault old new asking =
+    subst (λ (l : List ℕ). Asking {T = T} (Err fault) (length l) old new) (sym (missing_there f k missing)) (asking_err fault 1 old new asking)
+
+pub asks_kept : {T : Type 0} (f : ℕ → Option (List ℕ)) (k : ℕ) → ¬ (IsAt (At f) k) → (plain : List ℕ) (r : Result T TreeFault) (old new : HostState) → Asking {T = List ℕ} (Ok plain) 1 old new → IfErr r (λ fault. fault ≡ faults.Memory)
+    → Asking r (length (missing_of f (k ∷ []))) old new
+asks_kept f k missing plain r old new asking memory = subst (λ (l : List ℕ). Asking r (length l) old new) (sym (missing_there f k missing)) (asking_as plain r 1 old new asking (memory_part r memory))
 
 asks_one : (name : Name) (f : ℕ → Option (List ℕ)) (k : ℕ) (block : List ℕ) → ¬ (IsAt (At f) k) → AsksInTurn name (missing_of f (k ∷ [])) (node_answer name k block)
 asks_one name f k block missing = subst (λ (l : List ℕ). AsksInTurn name l (node_answer name k block)) (sym (missing_there f k missing)) ((block, refl), tt)
@@ -81,11 +90,11 @@ module _ (name : Name) (k : ℕ) (root : Entry) where
   }
   fetch_failed faults.Host f entry old new has missing ends = record {
     these = [];
-    answered = ends.answered;
+    answered = ends;
     fetched = fetched_none (At f) (Given name []) root;
     only = λ j there. inl there;
     asked = asks_none name (missing_of f (k ∷ []));
-    ends = ends.rose;
+    ends = tt;
   }
   fetch_failed faults.Memory f entry old new has missing ends = absurd ends
 
@@ -131,5 +140,5 @@ module _ (name : Name) (k : ℕ) (root : Entry) where
       fetched = record { kept = λ j p there. same j ∙ there; came = λ j p there. was_held j p (sym (same j) ∙ there) };
       only = λ j there. inl (there.0, sym (same j) ∙ there.1);
       asked = asks_front name f k opens.block missing;
-      ends = subst (λ (x : TreeFault). FetchEnds {T = T} (Err x) (k ∷ []) (At f) (At f') (Given name (node_answer name k opens.block)) root old new) (sym memory) tt;
+      ends = subst (λ (x : TreeFault). FetchEnds {T = T} (Err x) (k ∷ []) (At f) (At f') (Given name (node_answer name k opens.block)) root) (sym memory) tt;
     }

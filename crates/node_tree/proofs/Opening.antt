@@ -1,9 +1,11 @@
 -- What opens over a file is one.
-use Rattle.std.proofs.Common.{◌≡◌, ℕ, List, [], refl, ap, ap₂, ◌∙◌, sym, arith, Some}
+use Rattle.std.proofs.Common.{◌≡◌, ℕ, List, [], length, is_some, refl, ap, ap₂, ◌∙◌, sym, arith, Some}
 use Rattle.std.proofs.lemmas.Option.{same_Some}
-use Rattle.aes_gcm.specs.Gcm.{opens}
+use Rattle.aes_gcm.specs.Gcm.{opens, crypted}
+use Rattle.aes_gcm.proofs.Sealed.{same_where_opens, opens_where_same, length-crypted}
 use Rattle.node_layout.specs.Places.{parent_of, slot_of}
 use Rattle.node_layout.specs.Entries.{entry_at}
+use Rattle.node_tree.specs.State.{AreBlocks}
 use Rattle.node_tree.specs.Opened.{AtNodes, IsAt, Entry, Opened, was_held, root_opens, child_opens, NothingHeld, BlockOf}
 
 -- one entry and one block, one plain text
@@ -37,3 +39,15 @@ nothing_single k a b there there' = absurd there
 
 pub blocks_single : (file : List ℕ) → IsSingle (BlockOf file)
 blocks_single file k a b there there' = there ∙ sym there'
+
+length-opens : (key block tag plain : List ℕ) → opens key [] block tag ≡ Some plain → length plain ≡ length block
+length-opens key block tag plain is =
+    let same = same_where_opens key [] block tag (ap is_some is) in
+    ap length (same_Some plain (crypted key block) (sym is ∙ opens_where_same key [] block tag (crypted key block) same refl)) ∙ length-crypted key block
+
+-- what opens is a whole block, where what is held is
+pub opened_block : (held given : AtNodes) (root : Entry) → AreBlocks held → (k : ℕ) (plain : List ℕ) → Opened held given root k plain → length plain ≡ 4096
+opened_block held given root blocks k plain (was_held _ _ there) = blocks k plain there
+opened_block held given root blocks k plain (root_opens _ block _ missing one gave opens) = length-opens root.0 block root.1 plain opens.opened ∙ opens.whole
+opened_block held given root blocks k plain (child_opens _ parent block _ missing two up gave opens) =
+    length-opens (entry_at parent (slot_of k)).0 block (entry_at parent (slot_of k)).1 plain opens.opened ∙ opens.whole

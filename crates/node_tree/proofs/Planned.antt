@@ -12,8 +12,8 @@ use Rattle.node_layout.specs.Entries.{entry_at}
 use Rattle.node_layout.proofs.Numbers.{parent_before, slot_below}
 use Rattle.node_tree.specs.Content.{data_text}
 use Rattle.node_tree.specs.Sheet.{Node, Sheet, HasNode, IsLinked, tag_of}
-use Rattle.node_tree.specs.Opened.{Entry}
 use Rattle.node_tree.specs.Existing.{MayBeSealed}
+use Rattle.node_tree.specs.Opened.{Entry}
 use Rattle.node_tree.proofs.Children.{child_of, child_after, child_is, parent_rest}
 use Rattle.node_tree.proofs.Entering.{entries_text, AreWhole, length-entries_text, entry_at-entries_text}
 

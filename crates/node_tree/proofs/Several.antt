@@ -7,15 +7,15 @@ use Rattle.std.proofs.lemmas.Bool.{cases_eq, cases_lt}
 use Rattle.std.proofs.lemmas.List.{length-append, take_more, take_all, take-append-drop}
 use Rattle.std.proofs.lemmas.List.Elements.{filter-append, Contains-get_or, Contains-append_left, Contains-append_right}
 use Rattle.node_layout.specs.declared.damage.Damage.{Damage}
-use Rattle.pf_io.specs.Counts.{Rose, LAST}
 use Rattle.pf_io.specs.Host.{Name, Answer, Gave, HostState}
 use Rattle.node_layout.specs.Places.{parent_of}
-use Rattle.node_tree.specs.Opened.{AtNodes, At, IsAt, Entry, Opened, Fails}
+use Rattle.node_tree.specs.Opened.{AtNodes, At, IsAt, Entry, Opened, Fails, Given}
+use Rattle.node_tree.specs.Fetching.{Asking, Fetched, FailsAt, FetchEnds, AsksInTurn, AsksFront, Fetches, missing_of, AreRooted}
 use Rattle.pf_io.specs.Answered.{Answered}
-use Rattle.node_tree.specs.Fetching.{Given, Fetched, FailsAt, FetchEnds, AsksInTurn, AsksFront, Fetches, missing_of, AreRooted}
 use Rattle.node_tree.specs.declared.fault.TreeFault.{TreeFault}
 use Rattle.node_tree.specs.declared.fault.TreeFault.TheVariants as faults
 use Rattle.pf_io.proofs.Answering.{answered_none, answered_then}
+use Rattle.node_tree.proofs.Asking.{asking_none, asking_then, asking_as, asking_err}
 use Rattle.node_tree.proofs.Coming.{fetched_none, fetched_then, opened_then, fails_then}
 use Rattle.node_tree.proofs.Order.{in_order}
 
@@ -27,8 +27,7 @@ pub record FetchedTo (name : Name) (numbers : List ℕ) (i : ℕ) (f f' : ℕ �
   pub all : (j : ℕ) → j < i → IsAt (At f') (slice_index numbers j)
   pub only : (k : ℕ) → IsAt (At f') k → IsAt (At f) k ⊎ ((j : ℕ) × (j < i) × (slice_index numbers j ≡ k))
   pub asked : AsksInTurn name (missing_of f (take i numbers)) these
-  pub faults : old.faults ≤ new.faults
-  pub reads : new.reads ≤ old.reads + length (missing_of f (take i numbers))
+  pub asking : Asking {T = Unit {0}} (Ok tt) (length (missing_of f (take i numbers))) old new
 
 module _ (name : Name) (numbers : List ℕ) (f : ℕ → Option (List ℕ)) (root : Entry) (old : HostState) where
   pub fetched_to_none : FetchedTo name numbers 0 f f root old old
@@ -39,8 +38,7 @@ module _ (name : Name) (numbers : List ℕ) (f : ℕ → Option (List ℕ)) (roo
     all = λ j lt. absurd (omega arith);
     only = λ k there. inl there;
     asked = tt;
-    faults = omega arith;
-    reads = omega arith;
+    asking = asking_none tt 0 old;
   }
 
 one_of : (n k : ℕ) → Contains (n ∷ []) k → n ≡ k
@@ -95,12 +93,9 @@ parent_held numbers i held rooted lt all =
       | inr up ↦ inr (up.0, subst (λ (k : ℕ). IsAt held k) up.1.2 (all up.1.0 up.1.1))
     ]
 
-module _ (name : Name) (numbers : List ℕ) (i : ℕ) (f g h : ℕ → Option (List ℕ)) (root : Entry) (old mid new : HostState) (rising : IsStrictlyIncreasing numbers) (lt : i < length numbers) (to : FetchedTo name numbers i f g root old mid) (later : mid.faults ≤ new.faults) (count : new.reads ≤ mid.reads + length (missing_of g (slice_index numbers i ∷ []))) where
-  reads_on : new.reads ≤ old.reads + length (missing_of f (take (i + 1) numbers))
-  reads_on =
-      let before = to.reads in
-      let fewer = fewer_missing f g (slice_index numbers i) (to.fetched.kept (slice_index numbers i)) in
-      omega (arith, missing_more f numbers i lt, fewer, before, count)
+module _ (name : Name) (numbers : List ℕ) (i : ℕ) (f g h : ℕ → Option (List ℕ)) (root : Entry) (old mid new : HostState) (rising : IsStrictlyIncreasing numbers) (lt : i < length numbers) (to : FetchedTo name numbers i f g root old mid) where
+  few_more : length (missing_of f (take i numbers)) + length (missing_of g (slice_index numbers i ∷ [])) ≤ length (missing_of f (take (i + 1) numbers))
+  few_more = omega (arith, missing_more f numbers i lt, fewer_missing f g (slice_index numbers i) (to.fetched.kept (slice_index numbers i)))
 
   -- what is missing now was missing at first
   same_missing : missing_of g (slice_index numbers i ∷ []) ≡ missing_of f (slice_index numbers i ∷ [])
@@ -128,8 +123,9 @@ module _ (name : Name) (numbers : List ℕ) (i : ℕ) (f g h : ℕ → Option (L
       ]
 
   -- one more number
-  pub fetched_to_more : {T : Type 0} (value : T) → Fetches (Ok value) name (slice_index numbers i ∷ []) g h root mid new → FetchedTo name numbers (i + 1) f h root old new
-  fetched_to_more value fetches = record {
+  pub fetched_to_more : {T : Type 0} (value : T) → Asking (Ok value) (length (missing_of g (slice_index numbers i ∷ []))) mid new → Fetches (Ok value) name (slice_index numbers i ∷ []) g h root mid new
+      → FetchedTo name numbers (i + 1) f h root old new
+  fetched_to_more value asking fetches = record {
     these = to.these ++ fetches.these;
     answered = answered_then to.these fetches.these old mid new to.answered fetches.answered;
     fetched = fetched_then (At f) (At g) (At h) root name to.these fetches.these to.fetched fetches.fetched;
@@ -139,8 +135,8 @@ module _ (name : Name) (numbers : List ℕ) (i : ℕ) (f g h : ℕ → Option (L
     ];
     only = only_on value fetches;
     asked = asked_on value fetches;
-    faults = let before = to.faults in omega arith;
-    reads = reads_on;
+    asking = asking_then tt (Ok tt) (length (missing_of f (take i numbers))) (length (missing_of g (slice_index numbers i ∷ []))) (length (missing_of f (take (i + 1) numbers))) old mid new to.asking
+        (asking_as value (Ok tt) (length (missing_of g (slice_index numbers i ∷ []))) mid new asking refl) few_more;
   }
 
   missing_all : missing_of f numbers ≡ (missing_of f (take i numbers) ++ missing_of g (slice_index numbers i ∷ [])) ++ missing_of f (drop (i + 1) numbers)
@@ -149,7 +145,7 @@ module _ (name : Name) (numbers : List ℕ) (i : ℕ) (f g h : ℕ → Option (L
       ∙ ap (λ (l : List ℕ). l ++ missing_of f (drop (i + 1) numbers)) missing_split
 
   ends_on : {T : Type 0} (U : Type 0) (fault : TreeFault) → (fetches : Fetches {T = T} (Err fault) name (slice_index numbers i ∷ []) g h root mid new)
-      → FetchEnds {T = U} (Err fault) numbers (At f) (At h) (Given name (to.these ++ fetches.these)) root old new
+      → FetchEnds {T = U} (Err fault) numbers (At f) (At h) (Given name (to.these ++ fetches.these)) root
   ends_on U (faults.Damaged damage) fetches =
       let at = fetches.ends in
       let first : damage.node ≡ slice_index numbers i = at.node_is ∙ only at.i at.within in
@@ -164,7 +160,7 @@ module _ (name : Name) (numbers : List ℕ) (i : ℕ) (f g h : ℕ → Option (L
         only : (j : ℕ) → j < 1 → slice_index (slice_index numbers i ∷ []) j ≡ slice_index numbers i
         only zero below = refl
         only (suc j) below = absurd (omega arith)
-  ends_on U faults.Host fetches = let before = to.faults in let rose = fetches.ends in omega arith
+  ends_on U faults.Host fetches = tt
   ends_on U faults.Memory fetches = tt
 
   -- it failed at this number
@@ -181,9 +177,11 @@ module _ (name : Name) (numbers : List ℕ) (i : ℕ) (f g h : ℕ → Option (L
     ends = ends_on {T = T} U fault fetches;
   }
 
-  -- no more calls come of the numbers that are left
-  pub reads_failed : new.reads ≤ old.reads + length (missing_of f numbers)
-  reads_failed = let here = reads_on in omega (arith, here, fewer_of_front f (i + 1) numbers)
+  -- the calls until then
+  pub asking_until : {T U : Type 0} (fault : TreeFault) → Asking {T = T} (Err fault) (length (missing_of g (slice_index numbers i ∷ []))) mid new → Asking {T = U} (Err fault) (length (missing_of f numbers)) old new
+  asking_until {T} {U} fault asking =
+      asking_then {T = Unit {0}} {U = U} tt (Err fault) (length (missing_of f (take i numbers))) (length (missing_of g (slice_index numbers i ∷ []))) (length (missing_of f numbers)) old mid new to.asking
+      (asking_err fault (length (missing_of g (slice_index numbers i ∷ []))) mid new asking) (omega (arith, few_more, fewer_of_front f (i + 1) numbers))
 
 -- all of them
 pub fetches_done : {T : Type 0} (value : T) (name : Name) (numbers : List ℕ) (i : ℕ) (f g : ℕ → Option (List ℕ)) (root : Entry) (old new : HostState) → length numbers ≤ i → i ≤ length numbers → FetchedTo name numbers i f g root old new
@@ -203,6 +201,6 @@ fetches_done value name numbers i f g root old new le at_most to = record {
   ends = λ j lt. to.all j (omega arith);
 }
 
-pub reads_done : (name : Name) (numbers : List ℕ) (i : ℕ) (f g : ℕ → Option (List ℕ)) (root : Entry) (old new : HostState) → length numbers ≤ i → FetchedTo name numbers i f g root old new
-    → new.reads ≤ old.reads + length (missing_of f numbers)
-reads_done name numbers i f g root old new le to = subst (λ (l : List ℕ). new.reads ≤ old.reads + length (missing_of f l)) (take_all i numbers le) to.reads
+pub asking_done : (name : Name) (numbers : List ℕ) (i : ℕ) (f g : ℕ → Option (List ℕ)) (root : Entry) (old new : HostState) → length numbers ≤ i → FetchedTo name numbers i f g root old new
+    → Asking {T = Unit {0}} (Ok tt) (length (missing_of f numbers)) old new
+asking_done name numbers i f g root old new le to = subst (λ (l : List ℕ). Asking {T = Unit {0}} (Ok tt) (length (missing_of f l)) old new) (take_all i numbers le) to.asking

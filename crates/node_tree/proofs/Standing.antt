@@ -153,7 +153,7 @@ module _ (sheet : Sheet) (linked : IsLinked sheet) where
         ∙ ap₂ (λ (p t : List ℕ). opening (nonce_at block) p t) (block_piece 59 3880 (omega arith)) (block_piece 42 16 (omega arith))
         ∙ meta_opens-meta_block user sheet.nonce (meta_of sheet) user_length linked.nonce_length length-meta_of
 
-    block_is : (k : ℕ) (node : Node) → HasNode sheet k node → block_of file k ≡ sealed node
+    pub block_is : (k : ℕ) (node : Node) → HasNode sheet k node → block_of file k ≡ sealed node
     block_is k node has =
         let low = has.numbered in
         let high = within sheet k node has in
@@ -196,7 +196,7 @@ module _ (sheet : Sheet) (linked : IsLinked sheet) where
     opened_there k node has = opened_below (suc k) k node (omega arith) has
 
 -- the numbers of the data nodes of a content
-data_within : (s d n : ℕ) → 1 + n ≡ node_count s → d < data_count s → data_place d ≤ n
+pub data_within : (s d n : ℕ) → 1 + n ≡ node_count s → d < data_count s → data_place d ≤ n
 data_within s d n is lt = omega arith
 
 module _ (file user : List ℕ) (sheet other : Sheet) (user_length : length user ≡ 16) (stands : Stands file user sheet) (stands' : Stands file user other) where

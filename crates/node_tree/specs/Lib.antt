@@ -10,6 +10,7 @@ pub mod State
 pub mod Unforged
 pub mod Fetching
 pub mod Backing
+pub mod Standing
 pub mod Reading
 pub mod Inside
 pub mod Copying

@@ -8,8 +8,8 @@ use Rattle.node_tree.specs.Sheet.{Node, Sheet, HasNode, sealed, Stands}
 use Rattle.node_tree.specs.Opened.{AtNodes, IsAt, Given, Opened, NothingHeld, BlockOf}
 use Rattle.node_tree.specs.Parts.{IsBroken, IsPart}
 use Rattle.node_tree.specs.State.{TreeState, held_at, Held, root_in, readable}
-use Rattle.node_tree.specs.Fetching.{Fetched, Asks, CountsReads, missing_of}
 use Rattle.node_tree.specs.Unforged.{GivenOf}
+use Rattle.node_tree.specs.Fetching.{Fetched, Asks, CountsReads, missing_of}
 use Rattle.node_tree.specs.Backing.{Backs, now}
 use Rattle.node_tree.specs.declared.fault.TreeFault.{TreeFault}
 use Rattle.node_tree.specs.declared.fault.TreeFault.TheVariants as faults

@@ -1,15 +1,15 @@
-// The bytes of a content, copied out of its nodes.
+//! The bytes of a content, copied out of its nodes.
 ghost use Rattle.std.specs.Prelude.{◌≡◌, ◌+◌, ◌-◌, ◌^◌, ◌<◌, ◌≤◌, ◌≢◌, ℕ, List, min, length, slice_index, Some};
 ghost use Rattle.node_layout.specs.Places.{data_place};
 ghost use Rattle.node_tree.specs.Content.{bytes_of};
 ghost use Rattle.node_tree.specs.Touched.{Meets};
 ghost use Rattle.node_tree.specs.Opened.{IsAt};
 ghost use Rattle.node_tree.specs.Nodes.{Keeps, plain_at, kept_plain};
-ghost use Rattle.node_tree.specs.Copying.{Copies, with_piece};
+ghost use Rattle.node_tree.specs.Copying.{Copies};
 
 use crate::nodes::HeldNode;
-use std::collections::BTreeMap;
 use node_layout::data_place;
+use std::collections::BTreeMap;
 
 // Copies bytes from a place on, to a place on, as far as either reaches, and answers how many.
 fn copy_piece(from: &[u8], place: usize, to: &mut [u8], done: usize) -> usize
@@ -46,24 +46,4 @@ pub(crate) fn copy_out(first: &[u8; 3072], nodes: &BTreeMap<u64, HeldNode>, at: 
         let plain = kept(nodes, data_place(from / 4096));
         done += copy_piece(plain, (from % 4096) as usize, to, done);
     }
-}
-
-// Puts bytes into a node that is kept.
-pub(crate) fn put_piece(nodes: &mut BTreeMap<u64, HeldNode>, number: u64, place: usize, from: &[u8])
-    requires held { IsAt (Keeps nodes.old) number }
-    requires within { place + length from.now ≤ 4096 }
-    ensures here { (plain : List ℕ) → plain_at nodes.old number ≡ Some plain → plain_at nodes.new number ≡ Some (with_piece plain place from.now) }
-    ensures others { (k : ℕ) → k ≢ number → plain_at nodes.new k ≡ plain_at nodes.old k }
-{
-    match nodes.get_mut(&number) {
-        Some(node) => put_bytes(&mut node.plain, place, from),
-        None => unreachable!(),
-    }
-}
-
-fn put_bytes(plain: &mut [u8; 4096], place: usize, from: &[u8])
-    requires { place + length from.now ≤ 4096 }
-    ensures { plain.new ≡ with_piece plain.old place from.now }
-{
-    plain[place..place + from.len()].copy_from_slice(from);
 }

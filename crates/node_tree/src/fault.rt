@@ -1,4 +1,4 @@
-// Why a call of a tree ends early.
+//! Why a call of a tree ends early.
 ghost use Rattle.std.specs.Prelude.{◌≡◌};
 ghost use Rattle.node_tree.specs.declared.fault.TreeFault.TheVariants.{Host as HostFailed};
 

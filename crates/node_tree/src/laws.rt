@@ -1,8 +1,9 @@
 //! What the definitions of sheets, parts and reads say together.
 ghost use Rattle.node_tree.specs.Sheet.{StandsForOne};
 ghost use Rattle.node_tree.specs.Existing.{LinkedExist};
-ghost use Rattle.node_tree.specs.Opened.{OnePart};
-ghost use Rattle.node_tree.specs.Backing.{EachUnforgedGives, EachFileGives};
+ghost use Rattle.node_tree.specs.Parts.{OnePart, OnePieces};
+ghost use Rattle.node_tree.specs.Unforged.{EachUnforgedGives, EachFileGives};
+ghost use Rattle.node_tree.specs.Standing.{EachStandingFile, EachSmallSheet};
 ghost use Rattle.node_tree.specs.Reading.{OneEnding};
 
 /// A file stands for at most one path, nonce and content under a user's key.
@@ -15,9 +16,20 @@ pub fn linked_sheets_exist()
     ensures { LinkedExist }
 {}
 
-/// A part of a file comes to one end: the bytes, or the first damage.
-pub fn part_is_one()
-    ensures { OnePart }
+/// A sheet of at most 3072 bytes is linked exactly where it has no other node than node 0.
+pub fn small_sheets_have_one_node()
+    ensures { EachSmallSheet }
+{}
+
+/// A part of a file comes to one end: the bytes, or the first damage. So its pieces are one list.
+pub fn parts_are_one()
+    ensures part { OnePart }
+    ensures pieces { OnePieces }
+{}
+
+/// A file that stands for a sheet opens to the sheet's metadata, and its parts and pieces are the sheet's content.
+pub fn standing_file_is_read()
+    ensures { EachStandingFile }
 {}
 
 /// Where nothing that was given is forged, it is given of each sheet of the list.

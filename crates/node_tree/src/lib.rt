@@ -12,7 +12,7 @@ mod tree;
 
 pub use fault::TreeFault;
 pub use laws::{
-    file_is_given, file_stands_for_one, linked_sheets_exist, part_is_one, reads_are_decided,
-    unforged_is_given,
+    file_is_given, file_stands_for_one, linked_sheets_exist, parts_are_one, reads_are_decided,
+    small_sheets_have_one_node, standing_file_is_read, unforged_is_given,
 };
 pub use tree::Tree;

@@ -1,18 +1,16 @@
-// The nodes that a tree keeps, and the fetching of those that it lacks.
-ghost use Rattle.std.specs.Prelude.{◌≡◌, ◌⊎◌, ◌^◌, ◌<◌, ◌≤◌, ◌==◌, ◌+◌, ℕ, List, [], ◌∷◌, All, length, OnOk, OnErr, IfErr, if◌then◌else◌, Some};
+//! The nodes that a tree keeps, and the fetching of those that it lacks.
+ghost use Rattle.std.specs.Prelude.{◌≡◌, ◌⊎◌, ◌^◌, ◌<◌, ◌≤◌, ◌==◌, ℕ, List, [], ◌∷◌, All, length, OnOk, OnErr, IfErr, if◌then◌else◌, Some};
 ghost use Rattle.std.specs.List.Sorted.{IsStrictlyIncreasing};
-ghost use Rattle.pf_io.specs.Host.{CountsRead};
 ghost use Rattle.node_layout.specs.Places.{parent_of};
 ghost use Rattle.node_tree.specs.Opened.{IsAt};
 ghost use Rattle.node_tree.specs.Nodes.{Keeps, plain_at};
-ghost use Rattle.node_tree.specs.Fetching.{NodeEnds, HasEntry, AreRooted, Fetches, missing_of};
+ghost use Rattle.node_tree.specs.Fetching.{Asking, NodeEnds, HasEntry, AreRooted, Fetches, missing_of};
 
 use crate::fault::TreeFault;
 use aes_gcm::{Key, open_in_place};
-use node_layout::{Damage, Kind};
+use node_layout::{Damage, Kind, entry, parent_of, slot_of};
 use pf_io::Host;
 use std::collections::BTreeMap;
-use node_layout::{entry, parent_of, slot_of};
 
 /// A node that is kept: the key that it was opened under, and its plain text.
 #[derive(Drop)]
@@ -36,8 +34,7 @@ fn open_node<H: Host>(
     tag: &[u8; 16],
 ) -> Result<[u8; 4096], TreeFault>
     requires { number < 2 ^ 30 }
-    ensures faults { (H.state host.old).faults ≤ (H.state host.new).faults }
-    ensures counts { CountsRead 4096 (H.state host.old) (H.state host.new) }
+    ensures asking { Asking result 1 (H.state host.old) (H.state host.new) }
     ensures ends { NodeEnds result name.now number (key.now, tag.now) (H.state host.old) (H.state host.new) }
 {
     let mut block = [0; 4096];
@@ -97,8 +94,7 @@ fn fetch<H: Host>(
 ) -> Result<(), TreeFault>
     requires high { number < 2 ^ 30 }
     requires known { (number ≡ 1) ⊎ ((2 ≤ number) × IsAt (Keeps nodes.old) (parent_of number)) }
-    ensures faults { (H.state host.old).faults ≤ (H.state host.new).faults }
-    ensures reads { (H.state host.new).reads ≤ (H.state host.old).reads + length (missing_of (plain_at nodes.old) (number ∷ [])) }
+    ensures asking { Asking result (length (missing_of (plain_at nodes.old) (number ∷ []))) (H.state host.old) (H.state host.new) }
     ensures fetches { Fetches result name.now (number ∷ []) (plain_at nodes.old) (plain_at nodes.new) root.now (H.state host.old) (H.state host.new) }
 {
     if nodes.contains_key(&number) {
@@ -120,8 +116,7 @@ pub(crate) fn fetch_all<H: Host>(
     requires high { All (λ number. number < 2 ^ 30) numbers.now }
     requires rooted { AreRooted numbers.now }
     requires rising { IsStrictlyIncreasing numbers.now }
-    ensures faults { (H.state host.old).faults ≤ (H.state host.new).faults }
-    ensures reads { (H.state host.new).reads ≤ (H.state host.old).reads + length (missing_of (plain_at nodes.old) numbers.now) }
+    ensures asking { Asking result (length (missing_of (plain_at nodes.old) numbers.now)) (H.state host.old) (H.state host.new) }
     ensures fetches { Fetches result name.now numbers.now (plain_at nodes.old) (plain_at nodes.new) root.now (H.state host.old) (H.state host.new) }
 {
     for number in numbers {

@@ -1,111 +1,157 @@
-// A file of four nodes, read through its tree.
-ghost use Rattle.std.specs.Prelude.{◌≡◌};
+//! Files of several sizes, sealed node by node, and read through their trees.
+ghost use Rattle.std.specs.Prelude.{◌≡◌, ◌≤◌, ◌^◌, length};
 
 use crate::{Tree, TreeFault};
 use aes_gcm::{Key, seal_in_place};
-use node_layout::{Damage, Kind, MetaSecret, PathText};
+use node_layout::{
+    Damage, Kind, MetaPlain, MetaSecret, PathText, data_place, node_count, open_meta, parent_of,
+    seal_meta, set_entry, slot_of,
+};
 use pf_io::MemHost;
 use std::alloc::{AllocError, Global};
 use std::process::Abort;
-use node_layout::set_entry;
 
-const KEYS: [[u8; 16]; 3] = [[1; 16], [2; 16], [3; 16]];
+const USER: [u8; 16] = [7; 16];
 
-// A sealed node, and its tag.
-fn sealed(key: &[u8; 16], plain: &[u8; 4096]) -> ([u8; 4096], [u8; 16]) {
-    let mut node = *plain;
-    let tag = seal_in_place(&Key::new(key), &[], &mut node);
-    (node, tag)
+const NONCE: [u8; 32] = [9; 32];
+
+// A content that shows its place: 251 is a prime, so bytes of two nodes at one place differ.
+fn content_byte(place: u64) -> u8 {
+    (place % 251) as u8
 }
 
-fn root_of(first: &[u8; 16], second: &[u8; 16]) -> [u8; 4096] {
-    let mut root = [0; 4096];
-    set_entry(&mut root, 0, &KEYS[1], first);
-    set_entry(&mut root, 1, &KEYS[2], second);
+fn key_of(number: usize) -> [u8; 16] {
+    (number as u128).to_be_bytes()
+}
+
+// The plain text of data node `d` of a content of this size.
+fn data_text(d: u64, size: u64) -> [u8; 4096] {
+    let mut text = [0; 4096];
+    let mut place = d.saturating_mul(4096).saturating_add(3072);
+    for byte in &mut text {
+        if place < size {
+            *byte = content_byte(place);
+        }
+        place = place.saturating_add(1);
+    }
+    text
+}
+
+// The nodes from 1 on, the hash-tree nodes without entries.
+fn plain_nodes(alloc: Global, size: u64) -> Result<Vec<[u8; 4096]>, AllocError>
+    requires { size ≤ 2 ^ 20 }
+{
+    let mut nodes = vec![in alloc; [0; 4096]; node_count(size) as usize - 1]?;
+    for d in 0..256u64 {
+        let place = data_place(d) as usize - 1;
+        if let Some(node) = nodes.get_mut(place) {
+            *node = data_text(d, size);
+        }
+    }
+    Ok(nodes)
+}
+
+fn put_entry(rt: &impl Abort, nodes: &mut Vec<[u8; 4096]>, number: u64, tag: &[u8; 16]) {
+    assert!(rt; number >= 2 && number < 1000);
+    let Some(parent) = nodes.get_mut(parent_of(number) as usize - 1) else {
+        panic!(rt; "no parent");
+    };
+    set_entry(parent, slot_of(number), &key_of(number as usize), tag);
+}
+
+// Seals all nodes, children first, and gives the root's key and tag.
+fn seal_nodes(rt: &impl Abort, nodes: &mut Vec<[u8; 4096]>) -> ([u8; 16], [u8; 16]) {
+    let mut root = ([0; 16], [0; 16]);
+    for number in (1..1000usize).rev() {
+        let Some(node) = nodes.get_mut(number - 1) else {
+            continue;
+        };
+        let tag = seal_in_place(&Key::new(&key_of(number)), &[], node);
+        if number == 1 {
+            root = (key_of(1), tag);
+        } else {
+            put_entry(rt, nodes, number as u64, &tag);
+        }
+    }
     root
 }
 
-fn meta_of(rt: &impl Abort, tag: &[u8; 16]) -> MetaSecret
-    ensures { result.size ≡ 7169 }
-{
+// Node 0 of a content of this size.
+fn metadata(rt: &impl Abort, size: u64, root: &([u8; 16], [u8; 16])) -> [u8; 4096] {
     let Some(path) = PathText::new("a.pf") else {
         panic!(rt; "no path");
     };
-    MetaSecret {
-        path,
-        size: 7169,
-        root_key: KEYS[0],
-        root_tag: *tag,
-        first: [b'a'; 3072],
+    let mut first = [0; 3072];
+    for (place, byte) in first.iter_mut().enumerate() {
+        if (place as u64) < size {
+            *byte = content_byte(place as u64);
+        }
     }
+    let secret = MetaSecret {
+        path,
+        size,
+        root_key: root.0,
+        root_tag: root.1,
+        first,
+    };
+    let mut node = [0; 4096];
+    seal_meta(&USER, &NONCE, &secret, &mut node);
+    node
 }
 
-// Node 0 of zeros, and these nodes behind it.
-fn file_of(
-    alloc: Global,
-    root: &[u8; 4096],
-    data: &[u8; 4096],
-    last: &[u8; 4096],
-) -> Result<Vec<u8>, AllocError> {
-    let mut file = vec![in alloc; 0; 4096]?;
-    file.extend_from_slice(root)?;
-    file.extend_from_slice(data)?;
-    file.extend_from_slice(last)?;
+// The file of a content of this size.
+fn file_of(rt: &impl Abort, alloc: Global, size: u64) -> Result<Vec<u8>, AllocError>
+    requires { size ≤ 2 ^ 20 }
+{
+    let mut nodes = plain_nodes(alloc, size)?;
+    let root = seal_nodes(rt, &mut nodes);
+    let mut file = Vec::new(alloc);
+    file.extend_from_slice(&metadata(rt, size, &root))?;
+    for node in &nodes {
+        file.extend_from_slice(node)?;
+    }
     Ok(file)
 }
 
-fn put_file(
-    rt: &impl Abort,
-    alloc: Global,
-    host: &mut MemHost,
-    root: &[u8; 4096],
-    data: &[u8; 4096],
-    last: &[u8; 4096],
-) {
-    let Ok(file) = file_of(alloc, root, data, last) else {
-        panic!(rt; "no memory");
+fn host_of(rt: &impl Abort, alloc: Global, file: &[u8]) -> MemHost {
+    let mut host = MemHost::new(alloc);
+    assert!(rt; host.put("a.pf", file).is_ok());
+    host
+}
+
+fn secret_of(rt: &impl Abort, node: &[u8; 4096]) -> MetaSecret
+    ensures { result.size ≤ 2 ^ 32 }
+{
+    assert!(rt; MetaPlain::read(node).is_ok());
+    match open_meta(&USER, node) {
+        Ok(secret) => secret,
+        Err(_) => panic!(rt; "node 0 does not open"),
+    }
+}
+
+fn tree_of(rt: &impl Abort, alloc: Global, file: &[u8]) -> Tree {
+    let Some(node) = file.first_chunk::<4096>() else {
+        panic!(rt; "no node 0");
     };
-    assert!(rt; host.put("a.pf", &file).is_ok());
-}
-
-fn expect_read(rt: &impl Abort, tree: &mut Tree, host: &mut MemHost, at: u64, wanted: &[u8]) {
-    let mut to = [0; 64];
-    assert_eq!(rt; tree.read(host, "a.pf", at, &mut to), Ok(wanted.len()));
-    assert!(rt; wanted.len() <= 64);
-    assert_eq!(rt; &to[..wanted.len()], wanted);
-}
-
-fn tree_of(rt: &impl Abort, alloc: Global, tag: &[u8; 16]) -> Tree {
-    let Ok(tree) = Tree::from_meta(alloc, &meta_of(rt, tag)) else {
+    let Ok(tree) = Tree::from_meta(alloc, &secret_of(rt, node)) else {
         panic!(rt; "no memory");
     };
     tree
 }
 
-#[test]
-fn a_file_of_four_nodes_is_read(rt: HostRuntime) {
-    let (mut data, data_tag) = sealed(&KEYS[1], &[b'b'; 4096]);
-    let mut last_text = [0; 4096];
-    last_text[0] = b'c';
-    let (last, last_tag) = sealed(&KEYS[2], &last_text);
-    let (root, root_tag) = sealed(&KEYS[0], &root_of(&data_tag, &last_tag));
-    let mut host = MemHost::new(rt.alloc());
-    put_file(&rt, rt.alloc(), &mut host, &root, &data, &last);
-    let mut tree = tree_of(&rt, rt.alloc(), &root_tag);
-    expect_read(&rt, &mut tree, &mut host, 7169, b"");
-    expect_read(&rt, &mut tree, &mut host, 7166, b"bbc");
-    let mut edge = [b'b'; 64];
-    edge[0] = b'a';
-    edge[1] = b'a';
-    expect_read(&rt, &mut tree, &mut host, 3070, &edge);
-    data[0] ^= 1;
-    put_file(&rt, rt.alloc(), &mut host, &root, &data, &last);
-    expect_read(&rt, &mut tree, &mut host, 3070, &edge);
-    let mut other = tree_of(&rt, rt.alloc(), &root_tag);
-    let damage = Damage {
-        node: 2,
-        kind: Kind::Tag,
-    };
-    let outcome = other.read(&mut host, "a.pf", 0, &mut [0; 8000]);
-    assert_eq!(rt; outcome, Err(TreeFault::Damaged(damage)));
+fn expect_read(
+    rt: &impl Abort,
+    tree: &mut Tree,
+    host: &mut MemHost,
+    at: u64,
+    to: &mut [u8],
+    wanted: usize,
+)
+    requires { length to.old ≤ 32768 }
+{
+    assert_eq!(rt; tree.read(host, "a.pf", at, to), Ok(wanted), "at {at}");
+    for (i, byte) in to.iter().take(wanted).enumerate() {
+        let place = at.saturating_add(i as u64);
+        assert_eq!(rt; *byte, content_byte(place), "byte {place}");
+    }
 }

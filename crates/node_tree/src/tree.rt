@@ -1,24 +1,28 @@
-// The tree of a protected file's nodes.
-ghost use Rattle.std.specs.Prelude.{◌≡◌, ◌+◌, ◌^◌, ◌-◌, min, ◌<◌, ◌≤◌, ℕ, List, [], length, IfOk, OnErr};
+//! The tree of a protected file's nodes.
+ghost use Rattle.std.specs.Prelude.{◌≡◌, ◌+◌, ◌^◌, ◌-◌, min, ◌≤◌, ℕ, List, [], length, IfOk, OnErr, is_some};
+ghost use Rattle.pf_io.specs.Counts.{HasCause};
 ghost use Rattle.pf_io.specs.Host.{KeepsRest};
+ghost use Rattle.pf_io.specs.Answered.{OnlyReads};
 ghost use Rattle.node_layout.specs.Places.{node_count};
-ghost use Rattle.node_tree.specs.State.{TreeState};
 ghost use Rattle.node_tree.specs.Sheet.{Sheet, IsLinked};
+ghost use Rattle.node_tree.specs.State.{held_at};
+ghost use Rattle.node_tree.specs.Fetching.{host_part};
 ghost use Rattle.node_tree.specs.Backing.{Backs, IsMetaOf, now};
-ghost use Rattle.node_tree.specs.Reading.{Reads, ReadsFew, KeptRead, HonestRead, IsOfFile};
+ghost use Rattle.node_tree.specs.Reading.{Reads, ReadsFew, DamageComes, BackedRead, ReadsStanding, HonestRead, IsOfFile};
 
 use crate::copying::copy_out;
 use crate::fault::TreeFault;
 use crate::nodes::{HeldNode, fetch_all};
-use node_layout::MetaSecret;
+use crate::numbers::touched;
+use node_layout::{MetaSecret, node_count};
 use pf_io::{Host, Memory};
 use std::alloc::Global;
 use std::collections::BTreeMap;
 use std::marker::Model;
-use node_layout::node_count;
-use crate::numbers::touched;
 
-/// The tree of a protected file: its first bytes, its root's key and tag, and the nodes that it keeps in plain text.
+/// The tree of a protected file: its first bytes, its root's key and tag, and the nodes that it holds in plain text.
+///
+/// Contracts see it as a `TreeState`. Its content is `now sheet tree`, for the sheet on which it stands.
 #[derive(Drop)]
 pub struct Tree {
     size: u64,
@@ -29,8 +33,7 @@ pub struct Tree {
 }
 
 impl Model for Tree {
-    ghost use Rattle.std.specs.Prelude.{◌≤◌, ◌^◌};
-    ghost use Rattle.node_tree.specs.State.{TreeState, state_code};
+    ghost use Rattle.node_tree.specs.State.{TreeState, state_code, IsSound};
 
     ghost Value = { TreeState };
 
@@ -40,11 +43,11 @@ impl Model for Tree {
 
     ghost view = { state_of };
 
-    ghost invariant = { λ tree. tree.size ≤ 2 ^ 40 };
+    ghost invariant = { λ tree. IsSound (state_of tree) };
 }
 
 impl Tree {
-    /// The tree of a file with this metadata. No node is held.
+    /// The tree of a file with these metadata, whose size is at most 2^32. It holds no node. `Memory` is want of memory.
     pub fn from_meta(alloc: Global, meta: &MetaSecret) -> Result<Tree, Memory>
         requires { meta.now.size ≤ 2 ^ 32 }
         ensures fields { IfOk result (λ tree. tree ≡ record { size = meta.now.size; first = meta.now.first; root_key = meta.now.root_key; root_tag = meta.now.root_tag; base = node_count meta.now.size; held = []; dirty = [] }) }
@@ -67,7 +70,19 @@ impl Tree {
         self.size
     }
 
-    /// Reads the content from the byte at `at` on, as far as the room of `to` and the content reach, and answers how many bytes.
+    /// Whether the tree holds the node of this number.
+    pub fn holds(&self, number: u64) -> bool
+        ensures { result ≡ is_some (held_at self.now number) }
+    {
+        self.nodes.contains_key(&number)
+    }
+
+    /// Reads the content from the byte at `at` on, as far as `to`, of at most 32,768 bytes, and the content reach, and
+    /// answers how many bytes.
+    ///
+    /// The touched nodes that are not held are fetched from the host's file `name` in rising number, opened, and held from
+    /// then on, also where the read fails at a later one. `Damaged` names the first that is short or does not open under
+    /// its entry. `Host` comes where a call of the host failed, and `Memory` is want of memory. The content stays.
     pub fn read<H: Host>(
         &mut self,
         host: &mut H,
@@ -79,9 +94,12 @@ impl Tree {
         ensures reads { Reads result name.now at to.new self.old self.new (H.state host.old) (H.state host.new) }
         ensures rest { IfOk result (λ n. KeepsRest n to.old to.new) }
         ensures unchanged { OnErr result (to.new ≡ to.old) }
-        ensures faults { (H.state host.old).faults ≤ (H.state host.new).faults }
+        ensures cause { HasCause (H.state host.old).faults (H.state host.new).faults (host_part result) }
         ensures few { ReadsFew at (length to.old) self.old (H.state host.old) (H.state host.new) }
-        ensures kept { KeptRead result name.now at to.new self.old self.new (H.state host.old) (H.state host.new) }
+        ensures disk { OnlyReads (H.state host.old) (H.state host.new) }
+        ensures damage { DamageComes result name.now at (length to.old) self.old (H.state host.old) (H.state host.new) }
+        ensures backed { BackedRead result name.now at to.new self.old self.new (H.state host.old) (H.state host.new) }
+        ensures standing { ReadsStanding result name.now at to.new self.old self.new (H.state host.old) }
         ensures honest { HonestRead result name.now at to.new self.old self.new (H.state host.old) }
     {
         let count = readable(self.size, at, to.len());

@@ -1,12 +1,38 @@
-use Rattle.std.proofs.Common.{◌≡◌, ◌⊎◌, inl, inr, ℕ, ◌<◌, ◌≤◌, ◌*◌, List, [], ◌∷◌, Some, None, Option, take, length, refl, ap, ◌∙◌, sym, arith, subst, rules}
+use Rattle.std.proofs.Common.{◌≡◌, ◌⊎◌, inl, inr, ℕ, ◌<◌, ◌≤◌, ◌*◌, List, [], ◌∷◌, Some, None, Option, Err, take, length, refl, ap, ◌∙◌, sym, arith, subst, rules}
 use Rattle.std.proofs.lemmas.Bool.{false≢true}
 use Rattle.std.proofs.lemmas.List.{length-take-le, take_all}
 use Rattle.aes_gcm.specs.Gcm.{opens}
+use Rattle.std.proofs.lemmas.Result.{err_from_is_err_and}
 use Rattle.pf_io.specs.Answered.{Answered}
-use Rattle.node_tree.specs.Fetching.{node_answer}
+use Rattle.node_tree.specs.Fetching.{Asking, node_answer}
+use Rattle.node_tree.specs.declared.fault.TreeFault.{TreeFault}
 use Rattle.pf_io.proofs.Answering.{answered_bytes}
 use Rattle.node_tree.proofs.Absent.{none_of}
+use Rattle.node_tree.proofs.Asking.{asking_once, asking_failed}
 use Rattle.node_tree.proofs.nodes.open_node.Goals as goal
+
+pub returns-in_err-given-clause-asking : goal.returns-in_err-given-clause-asking
+returns-in_err-given-clause-asking g c =
+    let p = err_from_is_err_and c.from_residual.result c.from_residual.ensures.1 in
+    let e = c.in_err-given.ensures in
+    let old = g.H.Host.state c.args.host.now in
+    let new = g.H.Host.state c.read_at.new.self in
+    rw p.1 (subst (λ (x : TreeFault). Asking {T = List ℕ} (Err x) 1 old new) (sym p.2) (asking_failed old new e.cause.later e.cause.rose e.counts e.disk))
+
+pub returns-then-given-lt4096-clause-asking : goal.returns-then-given-lt4096-clause-asking
+returns-then-given-lt4096-clause-asking g c =
+    let e = c.in_ok-given.ensures in
+    rw c.damaged.ensures (asking_once _ (g.H.Host.state c.args.host.now) (g.H.Host.state c.read_at.new.self) refl e.cause.still e.counts e.disk)
+
+pub returns-then-not-open_in_place-clause-asking : goal.returns-then-not-open_in_place-clause-asking
+returns-then-not-open_in_place-clause-asking g c =
+    let e = c.in_ok-given.ensures in
+    rw c.damaged-then-not-open_in_place.ensures (asking_once _ (g.H.Host.state c.args.host.now) (g.H.Host.state c.read_at.new.self) refl e.cause.still e.counts e.disk)
+
+pub returns-clause-asking : goal.returns-clause-asking
+returns-clause-asking g c =
+    let e = c.in_ok-given.ensures in
+    asking_once _ (g.H.Host.state c.args.host.now) (g.H.Host.state c.read_at.new.self) refl e.cause.still e.counts e.disk
 
 pub returns-then-given-lt4096-clause-ends : goal.returns-then-given-lt4096-clause-ends
 returns-then-given-lt4096-clause-ends g c =

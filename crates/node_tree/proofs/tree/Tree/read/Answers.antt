@@ -5,14 +5,15 @@ use Rattle.node_tree.specs.Content.{bytes_of}
 use Rattle.node_tree.specs.Touched.{AreTouched}
 use Rattle.node_tree.specs.Nodes.{Keeps, plain_at, kept_plain}
 use Rattle.node_tree.specs.State.{TreeState, readable}
-use Rattle.node_tree.specs.Inside.{state_of}
 use Rattle.node_tree.specs.Fetching.{Fetches}
 use Rattle.node_tree.specs.Reading.{Reads}
+use Rattle.node_tree.specs.Inside.{state_of}
 use Rattle.node_tree.specs.declared.fault.TreeFault.{TreeFault}
 use Rattle.node_tree.proofs.Rooted.{rooted, all_small}
-use Rattle.node_tree.proofs.OfTree.{tree_fails, tree_ok, tree_few, tree_none, front_of, data_held}
-use Rattle.node_tree.proofs.Unforging.{kept_read}
+use Rattle.node_tree.proofs.OfTree.{tree_fails, tree_ok, tree_few, tree_none, front_of, data_held, sound_then, damage_comes}
+use Rattle.node_tree.proofs.Unforging.{backed_read}
 use Rattle.node_tree.proofs.OfFile.{honest_read}
+use Rattle.node_tree.proofs.Undamaged.{standing_read}
 use Rattle.node_tree.proofs.tree.Tree.read.Goals as goal
 
 pub returns-then-count-eq0-clause-reads : goal.returns-then-count-eq0-clause-reads
@@ -20,17 +21,21 @@ returns-then-count-eq0-clause-reads g c =
     tree_none c.args.name.now c.args.at c.args.self.now (g.H.Host.state c.args.host.now) c.args.to.now c.readable-count.result c.if-count-eq0.true
     (c.readable-count.ensures ∙ ap (λ (s : TreeState). readable s c.args.at (length c.args.to.now)) c.self.view_is)
 
-pub returns-then-count-eq0-clause-kept : goal.returns-then-count-eq0-clause-kept
-returns-then-count-eq0-clause-kept g c =
-    kept_read _ c.args.name.now c.args.at c.args.to.now c.args.self.now c.args.self.now (g.H.Host.state c.args.host.now) (g.H.Host.state c.args.host.now) (returns-then-count-eq0-clause-reads g c)
+pub returns-then-count-eq0-clause-backed : goal.returns-then-count-eq0-clause-backed
+returns-then-count-eq0-clause-backed g c =
+    backed_read _ c.args.name.now c.args.at c.args.to.now c.args.self.now c.args.self.now (g.H.Host.state c.args.host.now) (g.H.Host.state c.args.host.now) (returns-then-count-eq0-clause-reads g c)
 
 pub returns-then-count-eq0-clause-honest : goal.returns-then-count-eq0-clause-honest
 returns-then-count-eq0-clause-honest g c =
     honest_read _ c.args.name.now c.args.at c.args.to.now c.args.self.now c.args.self.now (g.H.Host.state c.args.host.now) (g.H.Host.state c.args.host.now) (returns-then-count-eq0-clause-reads g c)
 
+pub returns-then-count-eq0-clause-standing : goal.returns-then-count-eq0-clause-standing
+returns-then-count-eq0-clause-standing g c =
+    standing_read _ c.args.name.now c.args.at c.args.to.now c.args.self.now c.args.self.now (g.H.Host.state c.args.host.now) (g.H.Host.state c.args.host.now) (returns-then-count-eq0-clause-reads g c)
+
 pub fetch_all-requires-clause-high : goal.fetch_all-requires-clause-high
 fetch_all-requires-clause-high g c =
-    let le : c.args.at + c.readable-count.result ≤ 2 ^ 40 = omega (arith, c.readable-count.ensures, c.self.invariant) in
+    let le : c.args.at + c.readable-count.result ≤ 2 ^ 40 = omega (arith, c.readable-count.ensures, c.self.invariant.small) in
     subst (λ (l : List ℕ). All (λ k. k < 2 ^ 30) l) (sym c.deref.ensures.0) (all_small c.args.at (c.args.at + c.readable-count.result) c.touched-numbers.result.items le c.touched-numbers.ensures)
 
 pub fetch_all-requires-clause-rooted : goal.fetch_all-requires-clause-rooted
@@ -51,16 +56,26 @@ pub returns-in_err-fetch_all-clause-few : goal.returns-in_err-fetch_all-clause-f
 returns-in_err-fetch_all-clause-few g c =
     let touched = subst (λ (l : List ℕ). AreTouched c.args.at (c.args.at + c.readable-count.result) l) (sym c.deref.ensures.0) c.touched-numbers.ensures in
     tree_few c.args.name.now c.args.at c.self.inside c.fetch_all.new.nodes c.args.self.now c.self.view_is (g.H.Host.state c.args.host.now) (g.H.Host.state c.fetch_all.new.host)
-    c.deref.result.now c.readable-count.result (length c.args.to.now) c.readable-count.ensures touched c.in_err-fetch_all.ensures.reads
+    c.deref.result.now c.readable-count.result (length c.args.to.now) c.readable-count.ensures touched c.in_err-fetch_all.ensures.asking.counts
 
-pub returns-in_err-fetch_all-clause-kept : goal.returns-in_err-fetch_all-clause-kept
-returns-in_err-fetch_all-clause-kept g c =
-    kept_read _ c.args.name.now c.args.at c.args.to.now c.args.self.now (state_of (record c.self.inside { nodes = c.fetch_all.new.nodes })) (g.H.Host.state c.args.host.now) (g.H.Host.state c.fetch_all.new.host)
+pub returns-in_err-fetch_all-clause-damage : goal.returns-in_err-fetch_all-clause-damage
+returns-in_err-fetch_all-clause-damage g c =
+    damage_comes _ c.args.name.now c.args.at c.args.to.now c.args.self.now (state_of (record c.self.inside { nodes = c.fetch_all.new.nodes })) (g.H.Host.state c.args.host.now) (g.H.Host.state c.fetch_all.new.host)
+    (returns-in_err-fetch_all-clause-reads g c)
+
+pub returns-in_err-fetch_all-clause-backed : goal.returns-in_err-fetch_all-clause-backed
+returns-in_err-fetch_all-clause-backed g c =
+    backed_read _ c.args.name.now c.args.at c.args.to.now c.args.self.now (state_of (record c.self.inside { nodes = c.fetch_all.new.nodes })) (g.H.Host.state c.args.host.now) (g.H.Host.state c.fetch_all.new.host)
     (returns-in_err-fetch_all-clause-reads g c)
 
 pub returns-in_err-fetch_all-clause-honest : goal.returns-in_err-fetch_all-clause-honest
 returns-in_err-fetch_all-clause-honest g c =
     honest_read _ c.args.name.now c.args.at c.args.to.now c.args.self.now (state_of (record c.self.inside { nodes = c.fetch_all.new.nodes })) (g.H.Host.state c.args.host.now) (g.H.Host.state c.fetch_all.new.host)
+    (returns-in_err-fetch_all-clause-reads g c)
+
+pub returns-in_err-fetch_all-clause-standing : goal.returns-in_err-fetch_all-clause-standing
+returns-in_err-fetch_all-clause-standing g c =
+    standing_read _ c.args.name.now c.args.at c.args.to.now c.args.self.now (state_of (record c.self.inside { nodes = c.fetch_all.new.nodes })) (g.H.Host.state c.args.host.now) (g.H.Host.state c.fetch_all.new.host)
     (returns-in_err-fetch_all-clause-reads g c)
 
 pub copy_out-requires-clause-held : goal.copy_out-requires-clause-held
@@ -84,14 +99,29 @@ pub returns-clause-few : goal.returns-clause-few
 returns-clause-few g c =
     let touched = subst (λ (l : List ℕ). AreTouched c.args.at (c.args.at + c.readable-count.result) l) (sym c.deref.ensures.0) c.touched-numbers.ensures in
     tree_few c.args.name.now c.args.at c.self.inside c.fetch_all.new.nodes c.args.self.now c.self.view_is (g.H.Host.state c.args.host.now) (g.H.Host.state c.fetch_all.new.host)
-    c.deref.result.now c.readable-count.result (length c.args.to.now) c.readable-count.ensures touched c.in_ok-fetch_all.ensures.reads
+    c.deref.result.now c.readable-count.result (length c.args.to.now) c.readable-count.ensures touched c.in_ok-fetch_all.ensures.asking.counts
 
-pub returns-clause-kept : goal.returns-clause-kept
-returns-clause-kept g c =
-    kept_read _ c.args.name.now c.args.at (c.copy_out.new.to ++ drop c.readable-count.result c.args.to.now) c.args.self.now (state_of (record c.self.inside { nodes = c.fetch_all.new.nodes })) (g.H.Host.state c.args.host.now) (g.H.Host.state c.fetch_all.new.host)
+pub returns-clause-backed : goal.returns-clause-backed
+returns-clause-backed g c =
+    backed_read _ c.args.name.now c.args.at (c.copy_out.new.to ++ drop c.readable-count.result c.args.to.now) c.args.self.now (state_of (record c.self.inside { nodes = c.fetch_all.new.nodes })) (g.H.Host.state c.args.host.now) (g.H.Host.state c.fetch_all.new.host)
     (returns-clause-reads g c)
 
 pub returns-clause-honest : goal.returns-clause-honest
 returns-clause-honest g c =
     honest_read _ c.args.name.now c.args.at (c.copy_out.new.to ++ drop c.readable-count.result c.args.to.now) c.args.self.now (state_of (record c.self.inside { nodes = c.fetch_all.new.nodes })) (g.H.Host.state c.args.host.now) (g.H.Host.state c.fetch_all.new.host)
     (returns-clause-reads g c)
+
+pub returns-clause-standing : goal.returns-clause-standing
+returns-clause-standing g c =
+    standing_read _ c.args.name.now c.args.at (c.copy_out.new.to ++ drop c.readable-count.result c.args.to.now) c.args.self.now (state_of (record c.self.inside { nodes = c.fetch_all.new.nodes })) (g.H.Host.state c.args.host.now) (g.H.Host.state c.fetch_all.new.host)
+    (returns-clause-reads g c)
+
+pub invariant_of-self : goal.invariant_of-self
+invariant_of-self g c =
+    sound_then {T = Unit {0}} (Err c.in_err-fetch_all.field-0.0) c.args.name.now c.deref.result.now c.self.inside c.fetch_all.new.nodes (g.H.Host.state c.args.host.now) (g.H.Host.state c.fetch_all.new.host) c.self.invariant
+    c.in_err-fetch_all.ensures.fetches
+
+pub invariant_of-self-2 : goal.invariant_of-self-2
+invariant_of-self-2 g c =
+    sound_then {T = Unit {0}} (Ok tt) c.args.name.now c.deref.result.now c.self.inside c.fetch_all.new.nodes (g.H.Host.state c.args.host.now) (g.H.Host.state c.fetch_all.new.host) c.self.invariant
+    c.in_ok-fetch_all.ensures.fetches
