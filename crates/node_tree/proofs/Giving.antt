@@ -37,8 +37,7 @@ file_gives user files name sheet given user_length all stands = record {
   };
   node_0 = λ block gave.
       let is : block ≡ block_of (contents (files name)) 0 = file_block files name given all 0 block gave in
-      let file = contents (files name) in
-      (
+      let file = contents (files name) in (
         ap length is ∙ whole_0 sheet stands.linked file user user_length stands,
         record {
           nonce = ap nonce_at is ∙ nonce_0 sheet stands.linked file user user_length stands;

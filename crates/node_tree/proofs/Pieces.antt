@@ -48,8 +48,7 @@ module _ (file : List ℕ) (secret : MetaSecret) where
               let n = min PIECE (secret.size - at) in
               let rest = pieces_joined m (at + PIECE) (omega arith) in
               let front : take n (drop at content) ≡ take PIECE (drop at content) =
-              ap (λ (j : ℕ). take (min PIECE j) (drop at content)) (omega (arith, length-drop at content, long)) ∙ take_min PIECE (drop at content) in
-              (
+              ap (λ (j : ℕ). take (min PIECE j) (drop at content)) (omega (arith, length-drop at content, long)) ∙ take_min PIECE (drop at content) in (
                 take n (drop at content) ∷ rest.0,
                 (lt, parts at n (omega (arith, long)), rest.1),
                 ap₂ (λ (a b : List ℕ). a ++ b) front (rest.2 ∙ ap (λ (j : ℕ). drop j content) (omega arith) ∙ sym (drop-drop PIECE at content)) ∙ take-append-drop PIECE (drop at content),

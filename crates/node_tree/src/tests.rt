@@ -155,3 +155,76 @@ fn expect_read(
         assert_eq!(rt; *byte, content_byte(place), "byte {place}");
     }
 }
+
+// Reads a file of this size in pieces, from the first byte to the end and past it.
+fn expect_content(rt: &impl Abort, alloc: Global, size: u64) -> Result<(), AllocError>
+    requires { size ≤ 2 ^ 20 }
+{
+    let file = file_of(rt, alloc, size)?;
+    let mut host = host_of(rt, alloc, &file);
+    let mut tree = tree_of(rt, alloc, &file);
+    assert_eq!(rt; tree.size(), size);
+    let mut to = vec![in alloc; 0; 32768]?;
+    for piece in 0..32u64 {
+        let at = 32768 * piece;
+        let wanted = size.saturating_sub(at).min(32768);
+        expect_read(rt, &mut tree, &mut host, at, &mut to, wanted as usize);
+    }
+    Ok(())
+}
+
+#[test]
+fn contents_of_several_sizes_are_read(rt: HostRuntime) {
+    for size in [0, 3072, 3073, 7168, 396_288, 396_289] {
+        assert!(rt;
+            expect_content(&rt, rt.alloc(), size).is_ok(),
+            "size {size}"
+        );
+    }
+}
+
+fn damaged(node: u64, kind: Kind) -> TreeFault {
+    TreeFault::Damaged(Damage { node, kind })
+}
+
+#[test]
+fn a_damaged_node_is_named_and_those_before_it_stay(rt: HostRuntime) {
+    let Ok(mut file) = file_of(&rt, rt.alloc(), 396_289) else {
+        panic!(rt; "no memory");
+    };
+    let mut tree = tree_of(&rt, rt.alloc(), &file);
+    if let Some(byte) = file.get_mut(8192) {
+        *byte ^= 1;
+    }
+    let mut host = host_of(&rt, rt.alloc(), &file);
+    let mut to = [0; 100];
+    let outcome = tree.read(&mut host, "a.pf", 3000, &mut to);
+    assert_eq!(rt; outcome, Err(damaged(2, Kind::Tag)));
+    assert!(rt; tree.holds(1) && !tree.holds(2));
+    if let Some(byte) = file.get_mut(8192) {
+        *byte ^= 1;
+    }
+    let mut host = host_of(&rt, rt.alloc(), &file);
+    expect_read(&rt, &mut tree, &mut host, 3000, &mut to, 100);
+}
+
+#[test]
+fn a_short_node_and_a_failed_call_are_told_apart(rt: HostRuntime) {
+    let Ok(file) = file_of(&rt, rt.alloc(), 396_289) else {
+        panic!(rt; "no memory");
+    };
+    let mut tree = tree_of(&rt, rt.alloc(), &file);
+    let Some(front) = file.get(..409_599) else {
+        panic!(rt; "another length");
+    };
+    let mut host = host_of(&rt, rt.alloc(), front);
+    assert!(rt; host.fail_at(1).is_ok());
+    let mut to = [0; 2];
+    let outcome = tree.read(&mut host, "a.pf", 396_288, &mut to);
+    assert_eq!(rt; outcome, Err(TreeFault::Host));
+    assert!(rt; tree.holds(1) && !tree.holds(98));
+    let outcome = tree.read(&mut host, "a.pf", 396_288, &mut to);
+    assert_eq!(rt; outcome, Err(damaged(99, Kind::Short)));
+    let mut host = host_of(&rt, rt.alloc(), &file);
+    expect_read(&rt, &mut tree, &mut host, 396_288, &mut to, 1);
+}
