@@ -1,17 +1,17 @@
 -- The same answers lead two reads to one end.
-use Rattle.std.proofs.Common.{◌≡◌, ◌⊎◌, inl, inr, ℕ, zero, suc, ◌+◌, ◌*◌, ◌<◌, ◌≤◌, List, [], ◌∷◌, ◌++◌, length, take, refl, ap, ap₂, ◌∙◌, sym, arith, subst, Option, Some, None, Result, Ok, Err}
+use Rattle.std.proofs.Common.{◌≡◌, ℕ, zero, suc, ◌+◌, ◌*◌, List, [], ◌∷◌, ◌++◌, length, take, refl, ap, ◌∙◌, sym, arith, subst, Result, Ok, Err}
 use Rattle.std.specs.Prelude.{Contains, is_none}
 use Rattle.std.specs.List.Sorted.{IsStrictlyIncreasing}
 use Rattle.std.proofs.lemmas.List.Kept.{IsStrictlyIncreasing-filter}
 use Rattle.std.proofs.lemmas.List.{get_or_append_left, length-append}
 use Rattle.std.proofs.lemmas.Option.{same_Some}
 use Rattle.node_layout.specs.declared.damage.Damage.{Damage}
-use Rattle.pf_io.specs.Host.{Name, Answer, Gave, HostState}
+use Rattle.pf_io.specs.Host.{Name, Answer, Gave}
 use Rattle.node_tree.specs.Opened.{AtNodes, Given}
 use Rattle.node_tree.specs.Parts.{IsPart}
 use Rattle.node_tree.specs.State.{TreeState, held_at, Held, root_in, readable}
-use Rattle.node_tree.specs.Fetching.{AsksInTurn, AsksFront, Asks, missing_of}
-use Rattle.node_tree.specs.Reading.{ReadEnds, Reads, IsDecided, part_read, OneEnding}
+use Rattle.node_tree.specs.Fetching.{AsksInTurn, Asks, missing_of}
+use Rattle.node_tree.specs.Reading.{ReadEnds, IsDecided, part_read, OneEnding}
 use Rattle.node_tree.proofs.Opening.{IsSingle}
 use Rattle.node_tree.proofs.Parting.{one_end}
 use Rattle.node_tree.specs.declared.fault.TreeFault.{TreeFault}

@@ -1,21 +1,18 @@
 -- How a read ends, from how the fetching of the touched nodes ends.
-use Rattle.std.proofs.Common.{◌≡◌, ◌⊎◌, inl, inr, ℕ, zero, suc, ◌+◌, ◌-◌, ◌<◌, ◌≤◌, min, List, [], ◌∷◌, length, take, slice_index, map, refl, ap, ◌∙◌, sym, arith, subst, Option, Some, None, Result, Ok, Err, cond, Bool, true, false}
-use Rattle.std.specs.Prelude.{Contains}
+use Rattle.std.proofs.Common.{◌≡◌, ℕ, ◌+◌, List, [], ◌∷◌, length, take, slice_index, refl, ap, ◌∙◌, sym, arith, subst, Option, Some, Ok, Err, cond, Bool, true, false}
 use Rattle.std.specs.Option.{option_map}
 use Rattle.std.specs.Map.{lookup}
 use Rattle.std.specs.BTreeMap.{BTreeMap, is_at}
 use Rattle.std.specs.Ordering.{nat_cmp}
 use Rattle.std.proofs.lemmas.List.Elements.{Contains-get_or}
-use Rattle.node_layout.specs.declared.damage.Damage.{Damage}
-use Rattle.pf_io.specs.Host.{Name, Answer, HostState}
+use Rattle.pf_io.specs.Host.{Name, HostState}
 use Rattle.node_tree.specs.Content.{bytes_of}
 use Rattle.node_tree.specs.Touched.{IsTouched, AreTouched}
 use Rattle.node_tree.specs.Opened.{IsAt, Opened, Given}
-use Rattle.node_tree.specs.Parts.{IsPart}
 use Rattle.node_tree.specs.Nodes.{plain_at}
 use Rattle.node_tree.specs.State.{TreeState, held_at, Held, root_in, readable, plain_or}
 use Rattle.node_tree.specs.Fetching.{CountsReads, Fetches, missing_of}
-use Rattle.node_tree.specs.Reading.{KeepsFields, ReadEnds, Reads, ReadsFew}
+use Rattle.node_tree.specs.Reading.{KeepsFields, Reads, ReadsFew}
 use Rattle.node_tree.specs.Inside.{plains}
 use Rattle.node_tree.specs.declared.fault.TreeFault.{TreeFault}
 use Rattle.node_tree.specs.declared.fault.TreeFault.TheVariants as faults

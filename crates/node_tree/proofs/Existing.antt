@@ -1,5 +1,5 @@
 -- A linked sheet of a content, by a plan in which each node gets a key.
-use Rattle.std.proofs.Common.{◌≡◌, ℕ, ◌-◌, List, [], length, refl, ap, ◌∙◌, sym, arith, Some}
+use Rattle.std.proofs.Common.{ℕ, ◌-◌, List, [], length, refl, ap, ◌∙◌, sym, arith, Some}
 use Rattle.std.specs.Prelude.{slice_index_or}
 use Rattle.std.proofs.lemmas.Option.{same_Some, none-some}
 use Rattle.node_layout.specs.Places.{node_count}

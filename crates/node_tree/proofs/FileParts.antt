@@ -1,15 +1,12 @@
 -- The parts of a file that stands for a sheet.
-use Rattle.std.proofs.Common.{◌≡◌, inl, inr, ℕ, ◌+◌, ◌<◌, ◌≤◌, List, length, take, drop, refl, ap, ap₂, ◌∙◌, sym, arith, subst, Some, None, Ok}
+use Rattle.std.proofs.Common.{◌≡◌, ℕ, ◌+◌, ◌<◌, ◌≤◌, List, length, take, drop, refl, ap, ◌∙◌, sym, arith, subst, Ok}
 use Rattle.node_layout.specs.declared.metadata.MetaSecret.{MetaSecret}
 use Rattle.node_layout.specs.Opening.{OpensTo}
-use Rattle.node_layout.specs.Places.{data_place, data_count, node_count}
-use Rattle.node_layout.proofs.Numbers.{data_live}
-use Rattle.node_tree.specs.Content.{first_text, bytes_of}
-use Rattle.node_tree.specs.Touched.{IsTouched}
-use Rattle.node_tree.specs.Sheet.{Node, Sheet, HasNode, IsLinked, plain_in, root_of, meta_of, Stands}
-use Rattle.node_tree.specs.Opened.{Entry, Opened, NothingHeld, BlockOf, block_of}
-use Rattle.node_tree.specs.Parts.{IsFilePart, ArePieces}
-use Rattle.node_tree.specs.Backing.{IsMetaOf}
+use Rattle.node_layout.specs.Places.{node_count}
+use Rattle.node_tree.specs.Content.{first_text}
+use Rattle.node_tree.specs.Sheet.{Sheet, plain_in, root_of, meta_of, Stands}
+use Rattle.node_tree.specs.Opened.{Opened, NothingHeld, BlockOf, block_of}
+use Rattle.node_tree.specs.Parts.{IsFilePart}
 use Rattle.node_tree.specs.Standing.{StandingFile, EachStandingFile}
 use Rattle.node_tree.proofs.Bytes.{content_is}
 use Rattle.node_tree.proofs.SameBytes.{slice_bytes}

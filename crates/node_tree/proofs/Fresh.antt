@@ -1,5 +1,5 @@
 -- A tree of a sheet's metadata stands on the sheet.
-use Rattle.std.proofs.Common.{◌≡◌, ℕ, ◌+◌, ◌<◌, ◌≤◌, List, [], length, slice_index, refl, ap, ap₂, ◌∙◌, sym, arith, Some, None, Option}
+use Rattle.std.proofs.Common.{◌≡◌, ℕ, ◌<◌, List, [], length, slice_index, ap, ap₂, ◌∙◌, sym, arith}
 use Rattle.std.specs.Prelude.{Contains}
 use Rattle.std.proofs.lemmas.Option.{none-some}
 use Rattle.node_layout.specs.declared.metadata.MetaSecret.{MetaSecret}
@@ -7,9 +7,8 @@ use Rattle.node_layout.proofs.Texts.{fields_same}
 use Rattle.node_layout.specs.Places.{data_place, data_count, node_count}
 use Rattle.node_layout.proofs.Numbers.{data_live}
 use Rattle.node_tree.specs.Content.{first_text, data_text, bytes_of}
-use Rattle.node_tree.specs.Sheet.{Node, Sheet, HasNode, IsLinked, plain_in, root_of, meta_of}
-use Rattle.node_tree.specs.Opened.{Opened, NothingHeld, BlockOf}
-use Rattle.node_tree.specs.State.{TreeState, held_at, Held, root_in}
+use Rattle.node_tree.specs.Sheet.{Sheet, IsLinked, plain_in, root_of, meta_of}
+use Rattle.node_tree.specs.State.{TreeState}
 use Rattle.node_tree.specs.Backing.{Backs, IsMetaOf, now}
 use Rattle.node_tree.specs.Reading.{IsOfFile}
 use Rattle.node_tree.specs.Inside.{plains}

@@ -1,15 +1,14 @@
 -- What is given of a sheet: where nothing is forged, and where a file stands for it.
-use Rattle.std.proofs.Common.{◌≡◌, inl, inr, ℕ, ◌+◌, ◌*◌, ◌<◌, ◌≤◌, List, [], length, take, drop, refl, ap, ap₂, ◌∙◌, sym, arith, subst, Option, Some}
-use Rattle.std.specs.Prelude.{Contains}
+use Rattle.std.proofs.Common.{◌≡◌, ℕ, ◌*◌, List, [], length, ap, ◌∙◌, sym, Some}
 use Rattle.std.specs.List.{AllByRecursion}
 use Rattle.std.proofs.lemmas.List.Elements.{All-from_recursion, All-contains}
 use Rattle.std.proofs.lemmas.Option.{same_Some}
 use Rattle.aes_gcm.specs.Gcm.{opens}
 use Rattle.node_layout.specs.Metadata.{meta_opens, nonce_at}
 use Rattle.pf_io.specs.Host.{Name, Files, Answer, Gave, contents}
-use Rattle.node_tree.specs.Sheet.{Node, Sheet, HasNode, tag_of, meta_of, Stands}
+use Rattle.node_tree.specs.Sheet.{tag_of}
 use Rattle.node_tree.specs.Opened.{BlockOf, block_of, Given}
-use Rattle.node_tree.specs.Unforged.{WasGiven, Unforged, GivenOf, Carries, EachUnforgedGives, EachFileGives}
+use Rattle.node_tree.specs.Unforged.{EachUnforgedGives, EachFileGives}
 use Rattle.node_tree.proofs.Standing.{opens_there, whole_0, nonce_0, meta_0}
 use Rattle.pf_io.specs.Answered.{IsAnswerOf}
 

@@ -1,16 +1,13 @@
 -- What opens from the answers of an honest host opens from the file.
-use Rattle.std.proofs.Common.{◌≡◌, ℕ, ◌+◌, ◌*◌, ◌<◌, ◌≤◌, List, length, take, refl, ap, ◌∙◌, sym, subst, Option, Some, None, Result, Ok, Err}
-use Rattle.std.specs.Prelude.{Contains, IfSome}
+use Rattle.std.proofs.Common.{◌≡◌, ℕ, List, ap, sym, subst, Result, Ok, Err}
 use Rattle.std.specs.List.{AllByRecursion}
-use Rattle.std.proofs.lemmas.List.Elements.{All-from_recursion, All-contains}
 use Rattle.std.proofs.lemmas.Option.{IfSome_then}
 use Rattle.node_layout.specs.declared.damage.Kind.{Kind}
-use Rattle.pf_io.specs.Host.{Name, Files, Answer, Gave, HostState, contents, files_of}
+use Rattle.pf_io.specs.Host.{Name, Files, Answer, HostState, contents, files_of}
 use Rattle.node_layout.specs.Places.{parent_of}
-use Rattle.node_tree.specs.Touched.{IsTouched}
-use Rattle.node_tree.specs.Opened.{IsAt, Entry, Opened, was_held, root_opens, child_opens, Fails, is_short, root_fails, child_fails, NothingHeld, BlockOf, block_of, Given}
-use Rattle.node_tree.specs.State.{TreeState, Held, root_in, readable}
-use Rattle.node_tree.specs.Reading.{KeepsFields, ReadEnds, Reads, IsOfFile, PartEnds, IsPartOfFile, HonestRead}
+use Rattle.node_tree.specs.Opened.{Entry, Opened, was_held, root_opens, child_opens, Fails, is_short, root_fails, child_fails, NothingHeld, BlockOf, Given}
+use Rattle.node_tree.specs.State.{TreeState, Held, root_in}
+use Rattle.node_tree.specs.Reading.{KeepsFields, ReadEnds, Reads, IsOfFile, PartEnds, HonestRead}
 use Rattle.node_tree.proofs.Opening.{nothing_held}
 use Rattle.node_tree.proofs.Giving.{file_block}
 use Rattle.pf_io.specs.Answered.{IsAnswerOf}

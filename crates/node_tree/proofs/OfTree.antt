@@ -8,8 +8,8 @@ use Rattle.pf_io.specs.Host.{Name, HostState}
 use Rattle.node_tree.specs.Content.{bytes_of}
 use Rattle.node_tree.specs.Touched.{AreTouched, Meets}
 use Rattle.node_tree.specs.Opened.{AtNodes, At, IsAt, Given}
-use Rattle.node_tree.specs.Nodes.{plain_at, Keeps, kept_plain}
-use Rattle.node_tree.specs.State.{TreeState, held_at, Held, readable, plain_or, AreBlocks, IsSound}
+use Rattle.node_tree.specs.Nodes.{plain_at, kept_plain}
+use Rattle.node_tree.specs.State.{TreeState, held_at, readable, plain_or, AreBlocks, IsSound}
 use Rattle.node_tree.specs.Fetching.{CountsReads, Fetches, missing_of}
 use Rattle.node_tree.specs.Reading.{Reads, ReadsFew, DamageComes}
 use Rattle.node_tree.specs.Inside.{state_of}

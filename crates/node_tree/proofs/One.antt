@@ -1,15 +1,13 @@
 -- The fetching of one node.
-use Rattle.std.proofs.Common.{◌≡◌, ◌⊎◌, inl, inr, ℕ, zero, suc, ◌+◌, ◌*◌, ◌<◌, ◌≤◌, ◌==◌, Bool, true, false, List, [], ◌∷◌, length, refl, ap, ◌∙◌, sym, arith, subst, Option, Some, None, Result, Ok, Err, OnOk, OnErr, IfErr, get_or, cond, eqb}
-use Rattle.std.specs.Prelude.{Contains, slice_index, filter, is_none, is_some}
+use Rattle.std.proofs.Common.{◌≡◌, ◌⊎◌, inl, inr, ℕ, zero, suc, ◌<◌, true, false, List, [], ◌∷◌, length, refl, ap, ◌∙◌, sym, arith, subst, Option, Some, None, Result, Ok, Err, OnOk, OnErr, IfErr, cond, eqb}
+use Rattle.std.specs.Prelude.{Contains, slice_index, is_none, is_some}
 use Rattle.std.specs.Option.{option_map}
 use Rattle.std.proofs.lemmas.Bool.{true≢false, cases_eq, ne_eqb, cond-true, cond-false, eq-eqb}
 use Rattle.std.proofs.lemmas.List.{append-nil}
 use Rattle.std.proofs.lemmas.Option.{same_Some, none-some}
-use Rattle.node_layout.specs.declared.damage.Damage.{Damage}
-use Rattle.pf_io.specs.Host.{Name, Answer, Gave, HostState}
-use Rattle.node_tree.specs.Opened.{AtNodes, At, IsAt, Entry, Opened, was_held, Fails, Given}
-use Rattle.node_tree.specs.Fetching.{Asking, HasEntry, node_answer, NodeOpens, NodeFails, NodeEnds, Fetched, FailsAt, FetchEnds, AsksInTurn, AsksFront, Fetches, missing_of}
-use Rattle.pf_io.specs.Answered.{Answered}
+use Rattle.pf_io.specs.Host.{Name, HostState}
+use Rattle.node_tree.specs.Opened.{At, IsAt, Entry, Opened, was_held, Fails, Given}
+use Rattle.node_tree.specs.Fetching.{Asking, HasEntry, node_answer, NodeOpens, NodeEnds, FetchEnds, AsksInTurn, AsksFront, Fetches, missing_of}
 use Rattle.node_tree.specs.declared.fault.TreeFault.{TreeFault}
 use Rattle.node_tree.specs.declared.fault.TreeFault.TheVariants as faults
 use Rattle.pf_io.proofs.Answering.{answered_none}

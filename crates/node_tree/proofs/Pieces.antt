@@ -1,5 +1,5 @@
 -- The pieces of a file.
-use Rattle.std.proofs.Common.{◌≡◌, inl, inr, ℕ, zero, suc, ◌+◌, ◌-◌, ◌<◌, ◌≤◌, min, List, [], ◌∷◌, ◌++◌, length, take, drop, refl, ap, ap₂, ◌∙◌, sym, arith, subst, Option, Some, None, Result, Ok, Err}
+use Rattle.std.proofs.Common.{◌≡◌, inl, inr, ℕ, zero, suc, ◌+◌, ◌-◌, ◌≤◌, min, List, [], ◌∷◌, ◌++◌, length, take, drop, refl, ap, ap₂, ◌∙◌, sym, arith, subst, Option, Some, None, Result, Ok, Err}
 use Rattle.std.specs.List.{concat}
 use Rattle.std.proofs.lemmas.Bool.{cases_lt}
 use Rattle.std.proofs.lemmas.List.{take_min, take-append-drop, drop-drop, drop_all, length-drop}
@@ -7,7 +7,7 @@ use Rattle.node_layout.specs.declared.damage.Damage.{Damage}
 use Rattle.node_layout.specs.declared.metadata.MetaSecret.{MetaSecret}
 use Rattle.node_layout.proofs.Secrets.{opens_to_one}
 use Rattle.node_tree.specs.Opened.{block_of}
-use Rattle.node_tree.specs.Parts.{IsFilePart, PIECE, ArePiecesFrom, ArePieces, OnePieces}
+use Rattle.node_tree.specs.Parts.{IsFilePart, PIECE, ArePiecesFrom, OnePieces}
 use Rattle.node_tree.proofs.Parting.{one_part}
 
 same_ok : (a b : List ℕ) → ◌≡◌ {A = Result (List ℕ) Damage} (Ok a) (Ok b) → a ≡ b

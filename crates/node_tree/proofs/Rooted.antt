@@ -1,11 +1,10 @@
 -- Touched nodes come with their parents.
-use Rattle.std.proofs.Common.{◌≡◌, ◌⊎◌, inl, inr, ℕ, zero, suc, ◌+◌, ◌*◌, ◌^◌, ◌<◌, ◌≤◌, List, length, slice_index, All, refl, ap, ◌∙◌, sym, arith, subst}
-use Rattle.std.specs.Prelude.{Contains}
+use Rattle.std.proofs.Common.{◌≡◌, ◌⊎◌, inl, inr, ℕ, zero, suc, ◌^◌, ◌<◌, ◌≤◌, List, slice_index, All, refl, ap, ◌∙◌, sym, arith}
 use Rattle.std.proofs.lemmas.Bool.{cases_eq}
 use Rattle.std.proofs.lemmas.List.Elements.{Contains-get_or, All-from_get_or}
-use Rattle.node_layout.specs.Places.{data_place, mht_place, leaf_of, up, levels_up, parent_of}
+use Rattle.node_layout.specs.Places.{leaf_of, up, levels_up, parent_of}
 use Rattle.node_layout.proofs.Numbers.{of_data, of_mht, parent_before}
-use Rattle.node_tree.specs.Touched.{Meets, IsTouched, AreTouched}
+use Rattle.node_tree.specs.Touched.{IsTouched, AreTouched}
 use Rattle.node_tree.specs.Fetching.{AreRooted}
 use Rattle.node_tree.proofs.Order.{place_of, stands_before}
 

@@ -1,22 +1,21 @@
 -- The fetching of several nodes, one after the other.
-use Rattle.std.proofs.Common.{◌≡◌, ◌⊎◌, inl, inr, ℕ, zero, suc, ◌+◌, ◌*◌, ◌<◌, ◌≤◌, Bool, true, false, List, [], ◌∷◌, ◌++◌, length, take, drop, refl, ap, ◌∙◌, sym, arith, subst, Option, Some, None, Result, Ok, Err, get_or, cond, append_assoc}
-use Rattle.std.specs.Prelude.{Contains, slice_index, filter, is_none}
+use Rattle.std.proofs.Common.{◌≡◌, ◌⊎◌, inl, inr, ℕ, zero, suc, ◌+◌, ◌*◌, ◌<◌, ◌≤◌, List, [], ◌∷◌, ◌++◌, length, take, drop, refl, ap, ◌∙◌, sym, arith, subst, Option, Some, None, Ok, Err, cond, append_assoc}
+use Rattle.std.specs.Prelude.{Contains, slice_index, is_none}
 use Rattle.std.specs.List.Sorted.{IsStrictlyIncreasing}
 use Rattle.std.proofs.lemmas.Option.{none-some}
 use Rattle.std.proofs.lemmas.Bool.{cases_eq, cases_lt}
 use Rattle.std.proofs.lemmas.List.{length-append, take_more, take_all, take-append-drop}
 use Rattle.std.proofs.lemmas.List.Elements.{filter-append, Contains-get_or, Contains-append_left, Contains-append_right}
-use Rattle.node_layout.specs.declared.damage.Damage.{Damage}
 use Rattle.pf_io.specs.Host.{Name, Answer, Gave, HostState}
 use Rattle.node_layout.specs.Places.{parent_of}
-use Rattle.node_tree.specs.Opened.{AtNodes, At, IsAt, Entry, Opened, Fails, Given}
-use Rattle.node_tree.specs.Fetching.{Asking, Fetched, FailsAt, FetchEnds, AsksInTurn, AsksFront, Fetches, missing_of, AreRooted}
+use Rattle.node_tree.specs.Opened.{AtNodes, At, IsAt, Entry, Given}
+use Rattle.node_tree.specs.Fetching.{Asking, Fetched, FetchEnds, AsksInTurn, AsksFront, Fetches, missing_of, AreRooted}
 use Rattle.pf_io.specs.Answered.{Answered}
 use Rattle.node_tree.specs.declared.fault.TreeFault.{TreeFault}
 use Rattle.node_tree.specs.declared.fault.TreeFault.TheVariants as faults
 use Rattle.pf_io.proofs.Answering.{answered_none, answered_then}
 use Rattle.node_tree.proofs.Asking.{asking_none, asking_then, asking_as, asking_err}
-use Rattle.node_tree.proofs.Coming.{fetched_none, fetched_then, opened_then, fails_then}
+use Rattle.node_tree.proofs.Coming.{fetched_none, fetched_then, fails_then}
 use Rattle.node_tree.proofs.Order.{in_order}
 
 -- so far the first i of some numbers were fetched

@@ -1,12 +1,12 @@
 -- Sheets of one node.
-use Rattle.std.proofs.Common.{◌≡◌, ℕ, ◌+◌, ◌-◌, ◌<◌, ◌≤◌, ◌↔◌, ◌^◌, List, [], ◌∷◌, ◌++◌, length, replicate, refl, ap, ◌∙◌, sym, arith}
+use Rattle.std.proofs.Common.{◌≡◌, ℕ, ◌≤◌, List, [], ◌∷◌, ◌++◌, length, replicate, refl, ap, ◌∙◌, arith}
 use Rattle.std.specs.List.{flat_map}
 use Rattle.std.proofs.lemmas.List.{append-nil}
 use Rattle.node_layout.specs.Metadata.{meta_text, meta_block}
 use Rattle.node_layout.specs.Places.{node_count}
 use Rattle.node_tree.specs.Content.{first_text}
 use Rattle.node_tree.specs.Sheet.{Node, Sheet, HasNode, IsLinked, sealed, root_of, image_of}
-use Rattle.node_tree.specs.Standing.{IsOneNode, SmallSheet, EachSmallSheet}
+use Rattle.node_tree.specs.Standing.{IsOneNode, EachSmallSheet}
 use Rattle.node_tree.proofs.Standing.{within}
 
 no_list : {X : Type 0} (xs : List X) → length xs ≡ 0 → xs ≡ []

@@ -1,8 +1,7 @@
 -- A file that stands for a sheet gives no damage.
-use Rattle.std.proofs.Common.{◌≡◌, ℕ, ◌*◌, List, length, ◌∙◌, Result, Ok, Err}
+use Rattle.std.proofs.Common.{◌≡◌, ℕ, List, length, ◌∙◌, Result, Ok, Err}
 use Rattle.std.specs.List.{AllByRecursion}
 use Rattle.std.proofs.lemmas.Option.{IfSome_then}
-use Rattle.node_layout.specs.declared.damage.Damage.{Damage}
 use Rattle.pf_io.specs.Host.{Name, Files, Answer, HostState, contents, files_of}
 use Rattle.pf_io.specs.Answered.{IsAnswerOf}
 use Rattle.node_tree.specs.Sheet.{Sheet, Stands}

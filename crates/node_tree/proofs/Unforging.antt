@@ -1,11 +1,11 @@
 -- What opens from blocks that are given of a sheet is the sheet's.
-use Rattle.std.proofs.Common.{◌≡◌, ◌⊎◌, inl, inr, ℕ, zero, suc, ◌+◌, ◌-◌, ◌*◌, ◌<◌, ◌≤◌, List, [], ◌∷◌, length, take, drop, ◌≢◌, refl, ap, ap₂, ◌∙◌, sym, arith, subst, Option, Some, None, Result, Ok, Err, min}
+use Rattle.std.proofs.Common.{◌≡◌, ◌⊎◌, inl, inr, ℕ, zero, suc, ◌+◌, ◌-◌, ◌<◌, ◌≤◌, List, [], ◌∷◌, length, take, drop, ◌≢◌, refl, ap, ap₂, ◌∙◌, sym, arith, subst, Option, Some, None, Result, Ok, Err}
 use Rattle.std.specs.Prelude.{Contains, slice_get, slice_index}
 use Rattle.std.proofs.lemmas.Bool.{cases_eq}
 use Rattle.std.proofs.lemmas.Option.{same_Some, none-some}
 use Rattle.aes_gcm.specs.Gcm.{opens}
 use Rattle.pf_io.specs.Host.{Name, HostState}
-use Rattle.node_layout.specs.Places.{data_place, data_count, node_count, parent_of, slot_of}
+use Rattle.node_layout.specs.Places.{data_place, node_count, parent_of, slot_of}
 use Rattle.node_layout.specs.Entries.{entry_at}
 use Rattle.node_layout.proofs.Numbers.{parent_before, data_live}
 use Rattle.aes_gcm.proofs.Sealed.{opens_sealed}
@@ -14,8 +14,8 @@ use Rattle.node_tree.proofs.Blocks.{length-sealed_node}
 use Rattle.node_tree.proofs.Lively.{touched_low, touched_live}
 use Rattle.node_tree.specs.Content.{bytes_of}
 use Rattle.node_tree.specs.Touched.{Meets, IsTouched}
-use Rattle.node_tree.specs.Sheet.{Node, Sheet, HasNode, IsLinked, sealed, tag_of, plain_in, plain_or_none, root_of}
-use Rattle.node_tree.specs.Opened.{AtNodes, IsAt, Entry, OpensUnder, Opened, was_held, root_opens, child_opens, FailsUnder, Fails, is_short, root_fails, child_fails, Given}
+use Rattle.node_tree.specs.Sheet.{Node, Sheet, HasNode, sealed, tag_of, plain_in, root_of}
+use Rattle.node_tree.specs.Opened.{AtNodes, IsAt, Entry, Opened, was_held, root_opens, child_opens, FailsUnder, Fails, is_short, root_fails, child_fails, Given}
 use Rattle.node_tree.specs.State.{TreeState, held_at, Held, root_in, readable, plain_or}
 use Rattle.node_tree.specs.Unforged.{GivenOf}
 use Rattle.node_tree.specs.Fetching.{Fetched}

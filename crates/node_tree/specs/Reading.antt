@@ -1,6 +1,5 @@
 -- What a read of a tree comes to.
-use Rattle.std.specs.Prelude.{◌≡◌, ◌≢◌, ℕ, ◌+◌, ◌≤◌, List, length, take, drop, Result, Ok, Err}
-use Rattle.node_layout.specs.declared.damage.Damage.{Damage}
+use Rattle.std.specs.Prelude.{◌≡◌, ◌≢◌, ℕ, ◌+◌, List, length, take, drop, Result, Ok, Err}
 use Rattle.pf_io.specs.Host.{Name, Answer, HostState, OnHonest, contents}
 use Rattle.pf_io.specs.Answered.{Answered, Came}
 use Rattle.node_tree.specs.Touched.{IsTouched, AreTouched}

@@ -1,11 +1,11 @@
 -- What a file gives that stands for a sheet.
-use Rattle.std.specs.Prelude.{◌≡◌, ◌↔◌, ℕ, ◌+◌, ◌≤◌, List, [], length, take, drop, replicate, Some, None, Ok}
+use Rattle.std.specs.Prelude.{◌≡◌, ◌↔◌, ℕ, ◌+◌, ◌≤◌, List, [], length, take, drop, replicate, None, Ok}
 use Rattle.std.specs.List.{concat}
 use Rattle.node_layout.specs.Metadata.{IsPath, IsPlain, flag_at, meta_text, meta_block}
 use Rattle.node_layout.specs.declared.metadata.MetaSecret.{MetaSecret}
 use Rattle.node_layout.specs.Opening.{OpensTo}
 use Rattle.node_tree.specs.Content.{first_text}
-use Rattle.node_tree.specs.Sheet.{Sheet, IsLinked, meta_of, image_of, Stands}
+use Rattle.node_tree.specs.Sheet.{Sheet, IsLinked, image_of, Stands}
 use Rattle.node_tree.specs.Opened.{block_of}
 use Rattle.node_tree.specs.Parts.{IsFilePart, ArePieces}
 use Rattle.node_tree.specs.Backing.{IsMetaOf}

@@ -156,30 +156,33 @@ fn expect_read(
     }
 }
 
-// Reads a file of this size in pieces, from the first byte to the end and past it.
-fn expect_content(rt: &impl Abort, alloc: Global, size: u64) -> Result<(), AllocError>
-    requires { size ≤ 2 ^ 20 }
+// Reads a content of this size in pieces, from the first byte to the end and past it.
+fn expect_pieces(rt: &impl Abort, tree: &mut Tree, host: &mut MemHost, size: u64, to: &mut [u8])
+    requires { length to.old ≤ 32768 }
 {
-    let file = file_of(rt, alloc, size)?;
-    let mut host = host_of(rt, alloc, &file);
-    let mut tree = tree_of(rt, alloc, &file);
-    assert_eq!(rt; tree.size(), size);
-    let mut to = vec![in alloc; 0; 32768]?;
     for piece in 0..32u64 {
         let at = 32768 * piece;
         let wanted = size.saturating_sub(at).min(32768);
-        expect_read(rt, &mut tree, &mut host, at, &mut to, wanted as usize);
+        expect_read(rt, tree, host, at, to, wanted as usize);
     }
-    Ok(())
+}
+
+fn expect_content(rt: &impl Abort, alloc: Global, file: &[u8], size: u64)
+    requires { size ≤ 2 ^ 20 }
+{
+    let mut host = host_of(rt, alloc, file);
+    let mut tree = tree_of(rt, alloc, file);
+    assert_eq!(rt; tree.size(), size);
+    expect_pieces(rt, &mut tree, &mut host, size, &mut [0; 32768]);
 }
 
 #[test]
 fn contents_of_several_sizes_are_read(rt: HostRuntime) {
     for size in [0, 3072, 3073, 7168, 396_288, 396_289] {
-        assert!(rt;
-            expect_content(&rt, rt.alloc(), size).is_ok(),
-            "size {size}"
-        );
+        let Ok(file) = file_of(&rt, rt.alloc(), size) else {
+            panic!(rt; "no memory");
+        };
+        expect_content(&rt, rt.alloc(), &file, size);
     }
 }
 

@@ -3,7 +3,7 @@ use Rattle.node_layout.specs.Places.{data_place}
 use Rattle.node_tree.specs.Opened.{IsAt}
 use Rattle.node_tree.specs.Nodes.{Keeps, kept_plain}
 use Rattle.node_tree.specs.State.{plain_or}
-use Rattle.node_tree.proofs.Filled.{filled_first, filled_more, filled_all, meets_byte}
+use Rattle.node_tree.proofs.Filled.{filled_more, filled_all, meets_byte}
 use Rattle.node_tree.proofs.copying.copy_out.Goals as goal
 
 pub kept-plain-requires : goal.kept-plain-requires

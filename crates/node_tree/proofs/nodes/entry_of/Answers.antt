@@ -1,8 +1,7 @@
-use Rattle.std.proofs.Common.{◌≡◌, ◌≤◌, ℕ, List, Option, Some, refl, ap, ◌∙◌, sym, arith, subst, rules}
+use Rattle.std.proofs.Common.{◌≡◌, Option, Some, ap, ◌∙◌, sym, rules}
 use Rattle.std.specs.Option.{option_map}
-use Rattle.node_layout.specs.Places.{parent_of, slot_of}
 use Rattle.node_layout.specs.Entries.{entry_at}
-use Rattle.node_tree.specs.Nodes.{Keeps, plain_at}
+use Rattle.node_tree.specs.Nodes.{plain_at}
 use Rattle.node_tree.specs.Fetching.{of_parent}
 use Rattle.node_tree.specs.declared.nodes.HeldNode.{HeldNode}
 use Rattle.node_tree.proofs.nodes.entry_of.Goals as goal

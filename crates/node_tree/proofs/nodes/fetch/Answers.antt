@@ -1,10 +1,10 @@
-use Rattle.std.proofs.Common.{◌≡◌, ℕ, List, [], ◌∷◌, refl, ap, ◌∙◌, sym, arith, subst, rules, Some, Option, Err}
+use Rattle.std.proofs.Common.{ℕ, List, ◌∙◌, sym, subst, Err}
 use Rattle.std.specs.BTreeMap.{get}
 use Rattle.std.specs.Ordering.{nat_cmp}
 use Rattle.std.proofs.lemmas.Result.{err_from_is_err_and}
 use Rattle.node_tree.specs.Opened.{IsAt}
 use Rattle.node_tree.specs.Nodes.{plain_at, Keeps}
-use Rattle.node_tree.specs.Fetching.{Asking, HasEntry, NodeEnds}
+use Rattle.node_tree.specs.Fetching.{Asking, NodeEnds}
 use Rattle.node_tree.specs.declared.fault.TreeFault.{TreeFault}
 use Rattle.node_tree.specs.declared.nodes.HeldNode.{HeldNode}
 use Rattle.node_tree.proofs.One.{fetched_already, fetch_failed, fetch_opened, not_there, is_there, asks_missing, asks_kept}

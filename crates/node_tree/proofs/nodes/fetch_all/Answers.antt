@@ -1,4 +1,4 @@
-use Rattle.std.proofs.Common.{◌≡◌, ℕ, List, [], ◌∷◌, length, slice_index, sym, arith, subst, Err}
+use Rattle.std.proofs.Common.{[], ◌∷◌, length, slice_index, sym, arith, subst, Err}
 use Rattle.std.proofs.lemmas.Result.{err_from_is_err_and}
 use Rattle.node_tree.specs.Nodes.{plain_at, Keeps}
 use Rattle.node_tree.specs.Fetching.{Asking, Fetches, missing_of}

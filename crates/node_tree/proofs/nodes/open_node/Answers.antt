@@ -1,4 +1,4 @@
-use Rattle.std.proofs.Common.{◌≡◌, ◌⊎◌, inl, inr, ℕ, ◌<◌, ◌≤◌, ◌*◌, List, [], ◌∷◌, Some, None, Option, Err, take, length, refl, ap, ◌∙◌, sym, arith, subst, rules}
+use Rattle.std.proofs.Common.{◌≡◌, inl, inr, ℕ, ◌*◌, List, [], None, Err, take, length, refl, ap, ◌∙◌, sym, arith, subst}
 use Rattle.std.proofs.lemmas.Bool.{false≢true}
 use Rattle.std.proofs.lemmas.List.{length-take-le, take_all}
 use Rattle.aes_gcm.specs.Gcm.{opens}

@@ -1,7 +1,6 @@
-use Rattle.std.proofs.Common.{◌≡◌, List, ℕ, sym, subst}
-use Rattle.node_tree.specs.Sheet.{Sheet, IsLinked}
+use Rattle.std.proofs.Common.{◌≡◌, sym, subst}
 use Rattle.node_tree.specs.State.{TreeState}
-use Rattle.node_tree.specs.Backing.{Backs, IsMetaOf, now}
+use Rattle.node_tree.specs.Backing.{Backs, now}
 use Rattle.node_tree.specs.Reading.{IsOfFile}
 use Rattle.node_tree.proofs.Fresh.{fresh_is, fresh_backs, fresh_now, fresh_of_file}
 use Rattle.node_tree.proofs.tree.Tree.from_meta.Goals as goal

@@ -1,4 +1,4 @@
-use Rattle.std.proofs.Common.{◌≡◌, ◌++◌, ◌+◌, ◌<◌, ◌≤◌, ◌^◌, ℕ, List, Ok, Err, length, take, drop, All, arith, ap, sym, ◌∙◌, subst, refl, rules}
+use Rattle.std.proofs.Common.{◌≡◌, ◌++◌, ◌+◌, ◌<◌, ◌≤◌, ◌^◌, ℕ, List, Ok, Err, length, take, drop, All, arith, ap, sym, ◌∙◌, subst, refl}
 use Rattle.std.proofs.lemmas.List.{length-take-le}
 use Rattle.std.proofs.lemmas.Result.{err_from_is_err_and}
 use Rattle.node_tree.specs.Content.{bytes_of}
@@ -6,7 +6,6 @@ use Rattle.node_tree.specs.Touched.{AreTouched}
 use Rattle.node_tree.specs.Nodes.{Keeps, plain_at, kept_plain}
 use Rattle.node_tree.specs.State.{TreeState, readable}
 use Rattle.node_tree.specs.Fetching.{Fetches}
-use Rattle.node_tree.specs.Reading.{Reads}
 use Rattle.node_tree.specs.Inside.{state_of}
 use Rattle.node_tree.specs.declared.fault.TreeFault.{TreeFault}
 use Rattle.node_tree.proofs.Rooted.{rooted, all_small}
