@@ -4,7 +4,7 @@ use Rattle.pf_io.specs.Counts.{Rose, HasCause}
 use Rattle.pf_io.specs.Moments.{Does}
 use Rattle.pf_io.specs.Steps.{Stays}
 use Rattle.pf_io.specs.Host.{HostState, Both, CountsRead}
-use Rattle.pf_io.proofs.OnlyReading.{read_once, read_then, read_none}
+use Rattle.pf_io.proofs.Unchanged.{kept_none, kept_once, kept_then}
 use Rattle.node_tree.specs.Fetching.{host_part, CountsReads, Asking}
 use Rattle.node_tree.specs.declared.fault.TreeFault.{TreeFault}
 use Rattle.node_tree.specs.declared.fault.TreeFault.TheVariants as faults
@@ -17,7 +17,7 @@ pub asking_none : {T : Type 0} (value : T) (n : ℕ) (state : HostState) → Ask
 asking_none value n state = record {
   cause = still_cause state.faults state.faults (Ok tt) refl refl;
   counts = record { reads = omega arith; writes = refl; widest = omega arith };
-  disk = read_none state.honest;
+  disk = kept_none state;
 }
 
 counts_once : (old new : HostState) → CountsRead 4096 old new → CountsReads 1 old new
@@ -25,11 +25,11 @@ counts_once old new counts = record { reads = let e = counts.reads in omega (ari
 
 -- a read of a node that was answered
 pub asking_once : {T : Type 0} (r : Result T TreeFault) (old new : HostState) → host_part r ≡ Ok tt → new.faults ≡ old.faults → CountsRead 4096 old new → Both old.honest new.honest (Does Stays) → Asking r 1 old new
-asking_once r old new is same counts does = record { cause = still_cause old.faults new.faults (host_part r) is same; counts = counts_once old new counts; disk = read_once old.honest new.honest does }
+asking_once r old new is same counts does = record { cause = still_cause old.faults new.faults (host_part r) is same; counts = counts_once old new counts; disk = kept_once old new does }
 
 -- one that failed
 pub asking_failed : {T : Type 0} (old new : HostState) → old.faults ≤ new.faults → Rose old.faults new.faults → CountsRead 4096 old new → Both old.honest new.honest (Does Stays) → Asking {T = T} (Err faults.Host) 1 old new
-asking_failed old new later rose counts does = record { cause = record { later = later; still = tt; rose = rose }; counts = counts_once old new counts; disk = read_once old.honest new.honest does }
+asking_failed old new later rose counts does = record { cause = record { later = later; still = tt; rose = rose }; counts = counts_once old new counts; disk = kept_once old new does }
 
 -- calls after others that were answered
 pub asking_then : {T U : Type 0} (value : T) (r : Result U TreeFault) (m n most : ℕ) (old mid new : HostState) → Asking (Ok value) m old mid → Asking r n mid new → m + n ≤ most → Asking r most old new
@@ -40,7 +40,7 @@ asking_then value r m n most old mid new first second le = record {
     writes = second.counts.writes ∙ first.counts.writes;
     widest = let a = first.counts.widest in let b = second.counts.widest in omega arith;
   };
-  disk = read_then old.honest mid.honest new.honest first.disk second.disk;
+  disk = kept_then old mid new first.disk second.disk;
 }
 
 -- another result of the same calls, that is no fault of the host either

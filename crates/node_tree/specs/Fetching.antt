@@ -8,7 +8,8 @@ use Rattle.node_layout.specs.Places.{parent_of, slot_of}
 use Rattle.node_layout.specs.Entries.{entry_at}
 use Rattle.pf_io.specs.Counts.{HasCause}
 use Rattle.pf_io.specs.Host.{Name, Answer, Gave, HostState}
-use Rattle.pf_io.specs.Answered.{Answered, OnlyReads}
+use Rattle.pf_io.specs.Answered.{Answered}
+use Rattle.pf_io.specs.Unchanged.{KeepsDisk}
 use Rattle.node_tree.specs.Opened.{AtNodes, At, IsAt, Entry, Given, OpensUnder, FailsUnder, Opened, Fails}
 use Rattle.node_tree.specs.declared.fault.TreeFault.{TreeFault}
 use Rattle.node_tree.specs.declared.fault.TreeFault.TheVariants as faults
@@ -30,7 +31,7 @@ pub record CountsReads (n : ℕ) (old new : HostState) : Type 0 where
 pub record Asking {T : Type 0} (result : Result T TreeFault) (n : ℕ) (old new : HostState) : Type 0 where
   pub cause : HasCause old.faults new.faults (host_part result)
   pub counts : CountsReads n old new
-  pub disk : OnlyReads old new
+  pub disk : KeepsDisk old new
 
 -- the entry of node k: the root's, or that in the plain text of its parent
 pub data HasEntry (held : AtNodes) (root : Entry) (k : ℕ) (entry : Entry) : Type 0 where

@@ -2,7 +2,7 @@
 ghost use Rattle.std.specs.Prelude.{◌≡◌, ◌+◌, ◌^◌, ◌-◌, min, ◌≤◌, ℕ, List, [], length, IfOk, OnErr, is_some};
 ghost use Rattle.pf_io.specs.Counts.{HasCause};
 ghost use Rattle.pf_io.specs.Host.{KeepsRest};
-ghost use Rattle.pf_io.specs.Answered.{OnlyReads};
+ghost use Rattle.pf_io.specs.Unchanged.{KeepsDisk};
 ghost use Rattle.node_layout.specs.Places.{node_count};
 ghost use Rattle.node_tree.specs.Sheet.{Sheet, IsLinked};
 ghost use Rattle.node_tree.specs.State.{held_at};
@@ -96,7 +96,7 @@ impl Tree {
         ensures unchanged { OnErr result (to.new ≡ to.old) }
         ensures cause { HasCause (H.state host.old).faults (H.state host.new).faults (host_part result) }
         ensures few { ReadsFew at (length to.old) self.old (H.state host.old) (H.state host.new) }
-        ensures disk { OnlyReads (H.state host.old) (H.state host.new) }
+        ensures disk { KeepsDisk (H.state host.old) (H.state host.new) }
         ensures damage { DamageComes result name.now at (length to.old) self.old (H.state host.old) (H.state host.new) }
         ensures backed { BackedRead result name.now at to.new self.old self.new (H.state host.old) (H.state host.new) }
         ensures standing { ReadsStanding result name.now at to.new self.old self.new (H.state host.old) }

@@ -1,6 +1,5 @@
 pub mod Telling
 pub mod Answering
-pub mod OnlyReading
 pub mod Loans
 pub mod Runs
 pub mod Images
