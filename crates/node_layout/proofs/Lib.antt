@@ -4,3 +4,5 @@ pub mod Lengths
 pub mod Blocks
 pub mod Rows
 pub mod Secrets
+pub mod InNode
+pub mod Numbers

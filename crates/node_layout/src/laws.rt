@@ -1,7 +1,8 @@
-//! What is written is read again, and what is sealed is opened again.
-ghost use Rattle.std.specs.Prelude.{◌≡◌, ◌≤◌, ℕ, List, Some, length};
+//! What is written is read again, what is sealed is opened again, and the places number the nodes.
+ghost use Rattle.std.specs.Prelude.{◌≡◌, ◌≤◌, ◌^◌, ℕ, List, Some, length};
 ghost use Rattle.node_layout.specs.declared.metadata.MetaSecret.{MetaSecret};
 ghost use Rattle.node_layout.specs.Opening.{OpensTo};
+ghost use Rattle.node_layout.specs.Places.{data_place, mht_place, node_count, NumberTheNodes, HaveParents, EntriesAreApart, AreLive};
 ghost use Rattle.node_layout.specs.Metadata.{IsPath, IsPlain, IsMetaText, MOST_SIZE, flag_at, nonce_at, tag_at, meta_text, meta_opens, meta_block};
 
 /// The text of some fields is a text of these fields, and a text is one of no other fields: what
@@ -22,4 +23,22 @@ pub fn sealed_meta_opens()
     ensures flag { (user nonce text : List ℕ) → length user ≡ 16 → length nonce ≡ 32 → flag_at (meta_block user nonce text) ≡ 0 }
     ensures length { (user nonce text : List ℕ) → length user ≡ 16 → length nonce ≡ 32 → length text ≡ 3880 → length (meta_block user nonce text) ≡ 4096 }
     ensures one_secret { (user node : List ℕ) (secret other : MetaSecret) → OpensTo user node secret → OpensTo user node other → secret ≡ other }
+{}
+
+/// The numbers from 1 on are those of the data nodes and of the hash-tree nodes, each of exactly one. What is said of a
+/// number's parent and place is what is said of its node, no two nodes share an entry, and the nodes of a content are the
+/// numbers below its count.
+pub fn places_number_the_nodes()
+    ensures number { NumberTheNodes }
+    ensures parents { HaveParents }
+    ensures apart { EntriesAreApart }
+    ensures live { AreLive }
+{}
+
+/// The places and counts that docs/FORMAT.md lists, and the count of the longest content.
+pub fn listed_places()
+    ensures data { (data_place 0 ≡ 2) × (data_place 95 ≡ 97) × (data_place 96 ≡ 99) × (data_place 192 ≡ 196) }
+    ensures mht { (mht_place 0 ≡ 1) × (mht_place 1 ≡ 98) × (mht_place 2 ≡ 195) × (mht_place 33 ≡ 3202) }
+    ensures counts { (node_count 0 ≡ 1) × (node_count 3072 ≡ 1) × (node_count 3073 ≡ 3) × (node_count 396288 ≡ 98) × (node_count 396289 ≡ 100) }
+    ensures longest { node_count (2 ^ 32) ≡ 1059500 }
 {}

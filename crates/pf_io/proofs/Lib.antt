@@ -1,4 +1,5 @@
 pub mod Telling
+pub mod Answering
 pub mod Loans
 pub mod Runs
 pub mod Images

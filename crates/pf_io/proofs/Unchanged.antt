@@ -47,6 +47,22 @@ at_image None (Some b) image alike is = absurd alike
 pub image_as_before : (d e : Disk) (image : Image) → AllReadAsBefore d e → IsImage e image → IsImage d image
 image_as_before d e image alike is name = at_image (d name) (e name) (image name) (alike name) (is name)
 
+-- no call
+pub kept_none : (state : HostState) → KeepsDisk state state
+kept_none state = started IsImage state.honest (λ d image is. is)
+
+-- a `len` or a `read_at`
+pub kept_once : (old new : HostState) → OnDisk old new (Does Stays) → KeepsDisk old new
+kept_once old new does =
+    goes_on IsImage Stays Stays Stays old.honest old.honest new.honest (kept_none old) does
+    (λ d e f same stays. (stays ∙ same, λ image is. subst (λ (x : Disk). IsImage x image) (stays ∙ same) is))
+
+-- more of them
+pub kept_then : (old mid new : HostState) → KeepsDisk old mid → KeepsDisk mid new → KeepsDisk old new
+kept_then old mid new first second =
+    goes_on_ran IsImage IsImage Stays Stays Stays old.honest mid.honest new.honest first second
+    (λ d e same image is. subst (λ (x : Disk). IsImage x image) same is) (λ d e f same stays. stays ∙ same)
+
 -- before the first call
 pub only_started : (state : HostState) → OnlyReads state state
 only_started state =

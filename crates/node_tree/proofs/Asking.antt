@@ -1,0 +1,58 @@
+-- Calls of a host that only read.
+use Rattle.std.proofs.Common.{◌≡◌, ℕ, ◌+◌, ◌≤◌, refl, ap, ◌∙◌, sym, arith, subst, Result, Ok, Err, IfErr}
+use Rattle.pf_io.specs.Counts.{Rose, HasCause}
+use Rattle.pf_io.specs.Moments.{Does}
+use Rattle.pf_io.specs.Steps.{Stays}
+use Rattle.pf_io.specs.Host.{HostState, Both, CountsRead}
+use Rattle.pf_io.proofs.Unchanged.{kept_none, kept_once, kept_then}
+use Rattle.node_tree.specs.Fetching.{host_part, CountsReads, Asking}
+use Rattle.node_tree.specs.declared.fault.TreeFault.{TreeFault}
+use Rattle.node_tree.specs.declared.fault.TreeFault.TheVariants as faults
+
+still_cause : (a b : ℕ) (r : Result (Unit {0}) (Unit {0})) → r ≡ Ok tt → b ≡ a → HasCause a b r
+still_cause a b r is same = subst (λ (x : Result (Unit {0}) (Unit {0})). HasCause a b x) (sym is) (record { later = omega (arith, same); still = same; rose = tt })
+
+-- no call
+pub asking_none : {T : Type 0} (value : T) (n : ℕ) (state : HostState) → Asking (Ok value) n state state
+asking_none value n state = record {
+  cause = still_cause state.faults state.faults (Ok tt) refl refl;
+  counts = record { reads = omega arith; writes = refl; widest = omega arith };
+  disk = kept_none state;
+}
+
+counts_once : (old new : HostState) → CountsRead 4096 old new → CountsReads 1 old new
+counts_once old new counts = record { reads = let e = counts.reads in omega (arith, e); writes = counts.writes; widest = let e = counts.widest in omega (arith, e) }
+
+-- a read of a node that was answered
+pub asking_once : {T : Type 0} (r : Result T TreeFault) (old new : HostState) → host_part r ≡ Ok tt → new.faults ≡ old.faults → CountsRead 4096 old new → Both old.honest new.honest (Does Stays) → Asking r 1 old new
+asking_once r old new is same counts does = record { cause = still_cause old.faults new.faults (host_part r) is same; counts = counts_once old new counts; disk = kept_once old new does }
+
+-- one that failed
+pub asking_failed : {T : Type 0} (old new : HostState) → old.faults ≤ new.faults → Rose old.faults new.faults → CountsRead 4096 old new → Both old.honest new.honest (Does Stays) → Asking {T = T} (Err faults.Host) 1 old new
+asking_failed old new later rose counts does = record { cause = record { later = later; still = tt; rose = rose }; counts = counts_once old new counts; disk = kept_once old new does }
+
+-- calls after others that were answered
+pub asking_then : {T U : Type 0} (value : T) (r : Result U TreeFault) (m n most : ℕ) (old mid new : HostState) → Asking (Ok value) m old mid → Asking r n mid new → m + n ≤ most → Asking r most old new
+asking_then value r m n most old mid new first second le = record {
+  cause = subst (λ (a : ℕ). HasCause a new.faults (host_part r)) first.cause.still second.cause;
+  counts = record {
+    reads = let a = first.counts.reads in let b = second.counts.reads in omega arith;
+    writes = second.counts.writes ∙ first.counts.writes;
+    widest = let a = first.counts.widest in let b = second.counts.widest in omega arith;
+  };
+  disk = kept_then old mid new first.disk second.disk;
+}
+
+-- another result of the same calls, that is no fault of the host either
+pub asking_as : {T U : Type 0} (value : T) (r : Result U TreeFault) (n : ℕ) (old new : HostState) → Asking (Ok value) n old new → host_part r ≡ Ok tt → Asking r n old new
+asking_as value r n old new asking is = record { cause = still_cause old.faults new.faults (host_part r) is asking.cause.still; counts = asking.counts; disk = asking.disk }
+
+pub asking_err : {T U : Type 0} (fault : TreeFault) (n : ℕ) (old new : HostState) → Asking {T = T} (Err fault) n old new → Asking {T = U} (Err fault) n old new
+asking_err (faults.Damaged damage) n old new a = record { cause = a.cause; counts = a.counts; disk = a.disk }
+asking_err faults.Host n old new a = record { cause = a.cause; counts = a.counts; disk = a.disk }
+asking_err faults.Memory n old new a = record { cause = a.cause; counts = a.counts; disk = a.disk }
+
+-- want of memory is no fault of the host
+pub memory_part : {T : Type 0} (r : Result T TreeFault) → IfErr r (λ fault. fault ≡ faults.Memory) → host_part r ≡ Ok tt
+memory_part (Ok value) is = refl
+memory_part {T} (Err fault) is = ap (λ (x : TreeFault). host_part {T = T} (Err x)) is

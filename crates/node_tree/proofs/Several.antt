@@ -1,0 +1,205 @@
+-- The fetching of several nodes, one after the other.
+use Rattle.std.proofs.Common.{◌≡◌, ◌⊎◌, inl, inr, ℕ, zero, suc, ◌+◌, ◌*◌, ◌<◌, ◌≤◌, List, [], ◌∷◌, ◌++◌, length, take, drop, refl, ap, ◌∙◌, sym, arith, subst, Option, Some, None, Ok, Err, cond, append_assoc}
+use Rattle.std.specs.Prelude.{Contains, slice_index, is_none}
+use Rattle.std.specs.List.Sorted.{IsStrictlyIncreasing}
+use Rattle.std.proofs.lemmas.Option.{none-some}
+use Rattle.std.proofs.lemmas.Bool.{cases_eq, cases_lt}
+use Rattle.std.proofs.lemmas.List.{length-append, take_more, take_all, take-append-drop}
+use Rattle.std.proofs.lemmas.List.Elements.{filter-append, Contains-get_or, Contains-append_left, Contains-append_right}
+use Rattle.pf_io.specs.Host.{Name, Answer, Gave, HostState}
+use Rattle.node_layout.specs.Places.{parent_of}
+use Rattle.node_tree.specs.Opened.{AtNodes, At, IsAt, Entry, Given}
+use Rattle.node_tree.specs.Fetching.{Asking, Fetched, FetchEnds, AsksInTurn, AsksFront, Fetches, missing_of, AreRooted}
+use Rattle.pf_io.specs.Answered.{Answered}
+use Rattle.node_tree.specs.declared.fault.TreeFault.{TreeFault}
+use Rattle.node_tree.specs.declared.fault.TreeFault.TheVariants as faults
+use Rattle.pf_io.proofs.Answering.{answered_none, answered_then}
+use Rattle.node_tree.proofs.Asking.{asking_none, asking_then, asking_as, asking_err}
+use Rattle.node_tree.proofs.Coming.{fetched_none, fetched_then, fails_then}
+use Rattle.node_tree.proofs.Order.{in_order}
+
+-- so far the first i of some numbers were fetched
+pub record FetchedTo (name : Name) (numbers : List ℕ) (i : ℕ) (f f' : ℕ → Option (List ℕ)) (root : Entry) (old new : HostState) : Type 0 where
+  pub these : List Answer
+  pub answered : Answered these old new
+  pub fetched : Fetched (At f) (At f') (Given name these) root
+  pub all : (j : ℕ) → j < i → IsAt (At f') (slice_index numbers j)
+  pub only : (k : ℕ) → IsAt (At f') k → IsAt (At f) k ⊎ ((j : ℕ) × (j < i) × (slice_index numbers j ≡ k))
+  pub asked : AsksInTurn name (missing_of f (take i numbers)) these
+  pub asking : Asking {T = Unit {0}} (Ok tt) (length (missing_of f (take i numbers))) old new
+
+module _ (name : Name) (numbers : List ℕ) (f : ℕ → Option (List ℕ)) (root : Entry) (old : HostState) where
+  pub fetched_to_none : FetchedTo name numbers 0 f f root old old
+  fetched_to_none = record {
+    these = [];
+    answered = answered_none old;
+    fetched = fetched_none (At f) (Given name []) root;
+    all = λ j lt. absurd (omega arith);
+    only = λ k there. inl there;
+    asked = tt;
+    asking = asking_none tt 0 old;
+  }
+
+one_of : (n k : ℕ) → Contains (n ∷ []) k → n ≡ k
+one_of n k (zero, within, is) = is
+one_of n k (suc i, within, is) = absurd (omega arith)
+
+alike : (k : ℕ) (o p : Option (List ℕ)) → ((plain : List ℕ) → o ≡ Some plain → p ≡ Some plain) → ((plain : List ℕ) → p ≡ Some plain → o ≡ None → ⊥) → cond (is_none p) (k ∷ []) [] ≡ cond (is_none o) (k ∷ []) []
+alike k None None kept fresh = refl
+alike k None (Some y) kept fresh = absurd (fresh y refl refl)
+alike k (Some x) p kept fresh = ap (λ (q : Option (List ℕ)). cond (is_none q) (k ∷ []) []) (kept x refl)
+
+asks_then : (name : Name) (ks ls : List ℕ) (xs ys : List Answer) → AsksInTurn name ks xs → AsksInTurn name ls ys → AsksInTurn name (ks ++ ls) (xs ++ ys)
+asks_then name [] ls [] ys first second = second
+asks_then name [] ls (x ∷ xs) ys first second = absurd first
+asks_then name (k ∷ ks) ls [] ys first second = absurd first
+asks_then name (k ∷ ks) ls (x ∷ xs) ys first second = (first.0, asks_then name ks ls xs ys first.1 second)
+
+asks_front_then : (name : Name) (ks ls more all : List ℕ) (xs ys : List Answer) → all ≡ (ks ++ ls) ++ more → AsksInTurn name ks xs → AsksFront name ls ys → AsksFront name all (xs ++ ys)
+asks_front_then name ks ls more all xs ys is first second = record {
+  done = ks ++ second.done;
+  left = second.left ++ more;
+  split = is ∙ ap (λ (l : List ℕ). (ks ++ l) ++ more) second.split ∙ simp append_assoc;
+  asks = asks_then name ks second.done xs ys first second.asks;
+}
+
+-- what is missing later was missing before
+fewer_missing : (f g : ℕ → Option (List ℕ)) (k : ℕ) → ((plain : List ℕ) → f k ≡ Some plain → g k ≡ Some plain) → length (missing_of g (k ∷ [])) ≤ length (missing_of f (k ∷ []))
+fewer_missing f g k kept = by_cases (f k) (g k) kept where
+  by_cases : (o p : Option (List ℕ)) → ((plain : List ℕ) → o ≡ Some plain → p ≡ Some plain) → length (cond (is_none p) (k ∷ []) []) ≤ length (cond (is_none o) (k ∷ []) [])
+  by_cases None None kept = omega arith
+  by_cases None (Some y) kept = omega arith
+  by_cases (Some x) p kept = let e = kept x refl in subst (λ (q : Option (List ℕ)). length (cond (is_none q) (k ∷ []) []) ≤ length (cond (is_none (Some x)) (k ∷ []) [])) (sym e) (omega arith)
+
+missing_more : (f : ℕ → Option (List ℕ)) (numbers : List ℕ) (i : ℕ) → i < length numbers
+    → length (missing_of f (take (i + 1) numbers)) ≡ length (missing_of f (take i numbers)) + length (missing_of f (slice_index numbers i ∷ []))
+missing_more f numbers i lt =
+    ap (λ (l : List ℕ). length (missing_of f l)) (take_more numbers i 0 lt) ∙ ap length (filter-append (λ k. is_none (f k)) (take i numbers) (slice_index numbers i ∷ []))
+    ∙ length-append (missing_of f (take i numbers)) (missing_of f (slice_index numbers i ∷ []))
+
+-- a front lacks no more than the whole
+fewer_of_front : (f : ℕ → Option (List ℕ)) (i : ℕ) (numbers : List ℕ) → length (missing_of f (take i numbers)) ≤ length (missing_of f numbers)
+fewer_of_front f i numbers =
+    let split = ap (λ (l : List ℕ). length (missing_of f l)) (sym (take-append-drop i numbers)) ∙ ap length (filter-append (λ k. is_none (f k)) (take i numbers) (drop i numbers)) in
+    omega (arith, split, length-append (missing_of f (take i numbers)) (missing_of f (drop i numbers)))
+
+-- the numbers whose parent stands before them find it held
+pub parent_held : (numbers : List ℕ) (i : ℕ) (held : AtNodes) → AreRooted numbers → i < length numbers → ((j : ℕ) → j < i → IsAt held (slice_index numbers j))
+    → (slice_index numbers i ≡ 1) ⊎ ((2 ≤ slice_index numbers i) × IsAt held (parent_of (slice_index numbers i)))
+parent_held numbers i held rooted lt all =
+    elim (rooted i lt) [
+      | inl one ↦ inl one
+      | inr up ↦ inr (up.0, subst (λ (k : ℕ). IsAt held k) up.1.2 (all up.1.0 up.1.1))
+    ]
+
+module _ (name : Name) (numbers : List ℕ) (i : ℕ) (f g h : ℕ → Option (List ℕ)) (root : Entry) (old mid new : HostState) (rising : IsStrictlyIncreasing numbers) (lt : i < length numbers) (to : FetchedTo name numbers i f g root old mid) where
+  few_more : length (missing_of f (take i numbers)) + length (missing_of g (slice_index numbers i ∷ [])) ≤ length (missing_of f (take (i + 1) numbers))
+  few_more = omega (arith, missing_more f numbers i lt, fewer_missing f g (slice_index numbers i) (to.fetched.kept (slice_index numbers i)))
+
+  -- what is missing now was missing at first
+  same_missing : missing_of g (slice_index numbers i ∷ []) ≡ missing_of f (slice_index numbers i ∷ [])
+  same_missing = alike (slice_index numbers i) (f (slice_index numbers i)) (g (slice_index numbers i)) (to.fetched.kept (slice_index numbers i))
+      (λ plain there lacks. elim (to.only (slice_index numbers i) (plain, there)) [
+        | inl held ↦ none-some held.0 (sym lacks ∙ held.1)
+        | inr (j, sooner, same) ↦ omega (arith, in_order numbers j i rising sooner lt, same)
+      ])
+
+  missing_split : missing_of f (take (i + 1) numbers) ≡ missing_of f (take i numbers) ++ missing_of g (slice_index numbers i ∷ [])
+  missing_split =
+      ap (λ (l : List ℕ). missing_of f l) (take_more numbers i 0 lt) ∙ filter-append (λ k. is_none (f k)) (take i numbers) (slice_index numbers i ∷ [])
+      ∙ ap (λ (l : List ℕ). missing_of f (take i numbers) ++ l) (sym same_missing)
+
+  asked_on : {T : Type 0} (value : T) → (fetches : Fetches (Ok value) name (slice_index numbers i ∷ []) g h root mid new) → AsksInTurn name (missing_of f (take (i + 1) numbers)) (to.these ++ fetches.these)
+  asked_on value fetches =
+      subst (λ (l : List ℕ). AsksInTurn name l (to.these ++ fetches.these)) (sym missing_split)
+      (asks_then name (missing_of f (take i numbers)) (missing_of g (slice_index numbers i ∷ [])) to.these fetches.these to.asked fetches.asked)
+
+  only_on : {T : Type 0} (value : T) → (fetches : Fetches (Ok value) name (slice_index numbers i ∷ []) g h root mid new) → (k : ℕ) → IsAt (At h) k → IsAt (At f) k ⊎ ((j : ℕ) × (j < i + 1) × (slice_index numbers j ≡ k))
+  only_on value fetches k there =
+      elim (fetches.only k there) [
+        | inl before ↦ elim (to.only k before) [ inl first ↦ inl first | inr (j, sooner, same) ↦ inr (j, omega arith, same) ]
+        | inr here ↦ inr (i, omega arith, one_of (slice_index numbers i) k here)
+      ]
+
+  -- one more number
+  pub fetched_to_more : {T : Type 0} (value : T) → Asking (Ok value) (length (missing_of g (slice_index numbers i ∷ []))) mid new → Fetches (Ok value) name (slice_index numbers i ∷ []) g h root mid new
+      → FetchedTo name numbers (i + 1) f h root old new
+  fetched_to_more value asking fetches = record {
+    these = to.these ++ fetches.these;
+    answered = answered_then to.these fetches.these old mid new to.answered fetches.answered;
+    fetched = fetched_then (At f) (At g) (At h) root name to.these fetches.these to.fetched fetches.fetched;
+    all = λ j below. elim (cases_eq j i) [
+      | inl is ↦ subst (λ (k : ℕ). IsAt (At h) (slice_index numbers k)) (sym is) (fetches.ends 0 (omega arith))
+      | inr ne ↦ let there = to.all j (omega arith) in (there.0, fetches.fetched.kept (slice_index numbers j) there.0 there.1)
+    ];
+    only = only_on value fetches;
+    asked = asked_on value fetches;
+    asking = asking_then tt (Ok tt) (length (missing_of f (take i numbers))) (length (missing_of g (slice_index numbers i ∷ []))) (length (missing_of f (take (i + 1) numbers))) old mid new to.asking
+        (asking_as value (Ok tt) (length (missing_of g (slice_index numbers i ∷ []))) mid new asking refl) few_more;
+  }
+
+  missing_all : missing_of f numbers ≡ (missing_of f (take i numbers) ++ missing_of g (slice_index numbers i ∷ [])) ++ missing_of f (drop (i + 1) numbers)
+  missing_all =
+      ap (λ (l : List ℕ). missing_of f l) (sym (take-append-drop (i + 1) numbers)) ∙ filter-append (λ k. is_none (f k)) (take (i + 1) numbers) (drop (i + 1) numbers)
+      ∙ ap (λ (l : List ℕ). l ++ missing_of f (drop (i + 1) numbers)) missing_split
+
+  ends_on : {T : Type 0} (U : Type 0) (fault : TreeFault) → (fetches : Fetches {T = T} (Err fault) name (slice_index numbers i ∷ []) g h root mid new)
+      → FetchEnds {T = U} (Err fault) numbers (At f) (At h) (Given name (to.these ++ fetches.these)) root
+  ends_on U (faults.Damaged damage) fetches =
+      let at = fetches.ends in
+      let first : damage.node ≡ slice_index numbers i = at.node_is ∙ only at.i at.within in
+      record {
+        i = i;
+        within = lt;
+        node_is = first;
+        before = λ j below. let there = to.all j below in (there.0, fetches.fetched.kept (slice_index numbers j) there.0 there.1);
+        fails = fails_then (At f) (At g) (Given name to.these) (Given name fetches.these) (Given name (to.these ++ fetches.these)) root to.fetched.kept to.fetched.came
+            (λ k block. Contains-append_left to.these fetches.these (Gave name (4096 * k) 4096 block)) (λ k block. Contains-append_right to.these fetches.these (Gave name (4096 * k) 4096 block)) damage.node damage.kind at.fails;
+      } where
+        only : (j : ℕ) → j < 1 → slice_index (slice_index numbers i ∷ []) j ≡ slice_index numbers i
+        only zero below = refl
+        only (suc j) below = absurd (omega arith)
+  ends_on U faults.Host fetches = tt
+  ends_on U faults.Memory fetches = tt
+
+  -- it failed at this number
+  pub fetches_failed : {T U : Type 0} (fault : TreeFault) → Fetches {T = T} (Err fault) name (slice_index numbers i ∷ []) g h root mid new → Fetches {T = U} (Err fault) name numbers f h root old new
+  fetches_failed {T} {U} fault fetches = record {
+    these = to.these ++ fetches.these;
+    answered = answered_then to.these fetches.these old mid new to.answered fetches.answered;
+    fetched = fetched_then (At f) (At g) (At h) root name to.these fetches.these to.fetched fetches.fetched;
+    only = λ k there. elim (fetches.only k there) [
+      | inl before ↦ elim (to.only k before) [ inl first ↦ inl first | inr (j, sooner, same) ↦ inr (subst (λ (m : ℕ). Contains numbers m) same (Contains-get_or numbers j 0 (omega arith))) ]
+      | inr here ↦ inr (subst (λ (m : ℕ). Contains numbers m) (one_of (slice_index numbers i) k here) (Contains-get_or numbers i 0 lt))
+    ];
+    asked = asks_front_then name (missing_of f (take i numbers)) (missing_of g (slice_index numbers i ∷ [])) (missing_of f (drop (i + 1) numbers)) (missing_of f numbers) to.these fetches.these missing_all to.asked fetches.asked;
+    ends = ends_on {T = T} U fault fetches;
+  }
+
+  -- the calls until then
+  pub asking_until : {T U : Type 0} (fault : TreeFault) → Asking {T = T} (Err fault) (length (missing_of g (slice_index numbers i ∷ []))) mid new → Asking {T = U} (Err fault) (length (missing_of f numbers)) old new
+  asking_until {T} {U} fault asking =
+      asking_then {T = Unit {0}} {U = U} tt (Err fault) (length (missing_of f (take i numbers))) (length (missing_of g (slice_index numbers i ∷ []))) (length (missing_of f numbers)) old mid new to.asking
+      (asking_err fault (length (missing_of g (slice_index numbers i ∷ []))) mid new asking) (omega (arith, few_more, fewer_of_front f (i + 1) numbers))
+
+-- all of them
+pub fetches_done : {T : Type 0} (value : T) (name : Name) (numbers : List ℕ) (i : ℕ) (f g : ℕ → Option (List ℕ)) (root : Entry) (old new : HostState) → length numbers ≤ i → i ≤ length numbers → FetchedTo name numbers i f g root old new
+    → Fetches (Ok value) name numbers f g root old new
+fetches_done value name numbers i f g root old new le at_most to = record {
+  these = to.these;
+  answered = to.answered;
+  fetched = to.fetched;
+  only = λ k there. elim (to.only k there) [
+    | inl first ↦ inl first
+    | inr (j, sooner, same) ↦ elim (cases_lt j (length numbers)) [
+      | inl within ↦ inr (subst (λ (m : ℕ). Contains numbers m) same (Contains-get_or numbers j 0 within))
+      | inr past ↦ absurd (omega (arith, at_most))
+    ]
+  ];
+  asked = subst (λ (l : List ℕ). AsksInTurn name (missing_of f l) to.these) (take_all i numbers le) to.asked;
+  ends = λ j lt. to.all j (omega arith);
+}
+
+pub asking_done : (name : Name) (numbers : List ℕ) (i : ℕ) (f g : ℕ → Option (List ℕ)) (root : Entry) (old new : HostState) → length numbers ≤ i → FetchedTo name numbers i f g root old new
+    → Asking {T = Unit {0}} (Ok tt) (length (missing_of f numbers)) old new
+asking_done name numbers i f g root old new le to = subst (λ (l : List ℕ). Asking {T = Unit {0}} (Ok tt) (length (missing_of f l)) old new) (take_all i numbers le) to.asking

@@ -1,0 +1,47 @@
+use Rattle.std.proofs.Common.{ℕ, List, ◌∙◌, sym, subst, Err}
+use Rattle.std.specs.BTreeMap.{get}
+use Rattle.std.specs.Ordering.{nat_cmp}
+use Rattle.std.proofs.lemmas.Result.{err_from_is_err_and}
+use Rattle.node_tree.specs.Opened.{IsAt}
+use Rattle.node_tree.specs.Nodes.{plain_at, Keeps}
+use Rattle.node_tree.specs.Fetching.{Asking, NodeEnds}
+use Rattle.node_tree.specs.declared.fault.TreeFault.{TreeFault}
+use Rattle.node_tree.specs.declared.nodes.HeldNode.{HeldNode}
+use Rattle.node_tree.proofs.One.{fetched_already, fetch_failed, fetch_opened, not_there, is_there, asks_missing, asks_kept}
+use Rattle.node_tree.proofs.Asking.{asking_none}
+use Rattle.node_tree.proofs.nodes.fetch.Goals as goal
+
+pub returns-then-contains_key-clause-asking : goal.returns-then-contains_key-clause-asking
+returns-then-contains_key-clause-asking g c = asking_none tt _ (g.H.Host.state c.args.host.now)
+
+pub returns-then-contains_key-clause-fetches : goal.returns-then-contains_key-clause-fetches
+returns-then-contains_key-clause-fetches g c =
+    fetched_already c.args.name.now c.args.number c.args.root.now tt (plain_at c.args.nodes.now) (g.H.Host.state c.args.host.now)
+    (is_there (λ (n : HeldNode). n.plain) (get nat_cmp c.args.nodes.now c.args.number) (sym c.contains_key.ensures ∙ c.if-contains_key.true))
+
+pub returns-in_err-plain-clause-asking : goal.returns-in_err-plain-clause-asking
+returns-in_err-plain-clause-asking g c =
+    let p = err_from_is_err_and c.from_residual.result c.from_residual.ensures.1 in
+    let missing = λ (there : IsAt (Keeps c.args.nodes.now) c.args.number). not_there (λ (n : HeldNode). n.plain) (get nat_cmp c.args.nodes.now c.args.number) (sym c.contains_key.ensures ∙ c.if-contains_key.false) there.0 there.1 in
+    rw p.1 (asks_missing (plain_at c.args.nodes.now) c.args.number missing p.0 (g.H.Host.state c.args.host.now) (g.H.Host.state c.open_node.new.host)
+    (subst (λ (x : TreeFault). Asking {T = List ℕ} (Err x) 1 (g.H.Host.state c.args.host.now) (g.H.Host.state c.open_node.new.host)) (sym p.2) c.in_err-plain.ensures.asking))
+
+pub returns-in_err-plain-clause-fetches : goal.returns-in_err-plain-clause-fetches
+returns-in_err-plain-clause-fetches g c =
+    let p = err_from_is_err_and c.from_residual.result c.from_residual.ensures.1 in
+    let old = g.H.Host.state c.args.host.now in
+    let new = g.H.Host.state c.open_node.new.host in
+    let missing = λ (there : IsAt (Keeps c.args.nodes.now) c.args.number). not_there (λ (n : HeldNode). n.plain) (get nat_cmp c.args.nodes.now c.args.number) (sym c.contains_key.ensures ∙ c.if-contains_key.false) there.0 there.1 in
+    rw p.1 (fetch_failed c.args.name.now c.args.number c.args.root.now p.0 (plain_at c.args.nodes.now) c.entry_of.result old new c.entry_of.ensures missing
+    (subst (λ (x : TreeFault). NodeEnds (Err x) c.args.name.now c.args.number c.entry_of.result old new) (sym p.2) c.in_err-plain.ensures.ends))
+
+pub returns-clause-asking : goal.returns-clause-asking
+returns-clause-asking g c =
+    let missing = λ (there : IsAt (Keeps c.args.nodes.now) c.args.number). not_there (λ (n : HeldNode). n.plain) (get nat_cmp c.args.nodes.now c.args.number) (sym c.contains_key.ensures ∙ c.if-contains_key.false) there.0 there.1 in
+    asks_kept (plain_at c.args.nodes.now) c.args.number missing c.in_ok-plain.plain c.keep.result (g.H.Host.state c.args.host.now) (g.H.Host.state c.open_node.new.host) c.in_ok-plain.ensures.asking c.keep.ensures.memory
+
+pub returns-clause-fetches : goal.returns-clause-fetches
+returns-clause-fetches g c =
+    let missing = λ (there : IsAt (Keeps c.args.nodes.now) c.args.number). not_there (λ (n : HeldNode). n.plain) (get nat_cmp c.args.nodes.now c.args.number) (sym c.contains_key.ensures ∙ c.if-contains_key.false) there.0 there.1 in
+    fetch_opened c.args.name.now c.args.number c.args.root.now (plain_at c.args.nodes.now) (plain_at c.keep.new.nodes) c.entry_of.result c.in_ok-plain.plain
+    (g.H.Host.state c.args.host.now) (g.H.Host.state c.open_node.new.host) c.entry_of.ensures missing c.in_ok-plain.ensures.ends c.keep.result c.keep.ensures.ok c.keep.ensures.err c.keep.ensures.memory

@@ -1,0 +1,16 @@
+pub mod Content
+pub mod Touched
+pub mod Sheet
+pub mod Existing
+pub mod Opened
+pub mod Parts
+pub mod Listing
+pub mod Nodes
+pub mod State
+pub mod Unforged
+pub mod Fetching
+pub mod Backing
+pub mod Standing
+pub mod Reading
+pub mod Inside
+pub mod Copying

@@ -1,0 +1,18 @@
+//! The keyed tree of a protected file's nodes, read over any host.
+#![tactic(auto)]
+
+mod copying;
+mod fault;
+mod laws;
+mod nodes;
+mod numbers;
+#[cfg(test)]
+mod tests;
+mod tree;
+
+pub use fault::TreeFault;
+pub use laws::{
+    file_is_given, file_stands_for_one, linked_sheets_exist, parts_are_one, reads_are_decided,
+    small_sheets_have_one_node, standing_file_is_read, unforged_is_given,
+};
+pub use tree::Tree;
