@@ -1,0 +1,58 @@
+-- A name cut at its points.
+use Rattle.std.proofs.Common.{◌≡◌, ◌≢◌, ◌∙◌, ℕ, Bool, true, false, ◌&&◌, cond, eqb, List, [], ◌∷◌, ◌++◌, refl, sym, ap, subst}
+use Rattle.std.proofs.lemmas.Bool.{false≢true, and_parts, or_left, ne_eqb}
+use Rattle.std.proofs.lemmas.List.Splits.{join_with_byte-slice_split}
+use Rattle.std.proofs.lemmas.List.{append-nil}
+use Rattle.std.specs.List.{list_all, join_with_byte, slice_split, onto_first}
+use Rattle.template_text.specs.Names.{is_first, is_further, is_name_part, IsJoined, POINT}
+
+abbrev pub parts_of : List ℕ → List (List ℕ)
+parts_of = slice_split (λ byte. eqb byte 46)
+
+onto-some : (byte : ℕ) (parts : List (List ℕ)) → onto_first byte parts ≢ []
+onto-some byte [] = λ e. cc
+onto-some byte (part ∷ parts) = λ e. cc
+
+cond-some : (b : Bool) (xs ys : List (List ℕ)) → xs ≢ [] → ys ≢ [] → cond b xs ys ≢ []
+cond-some true xs ys some others = some
+cond-some false xs ys some others = others
+
+parts-some : (name : List ℕ) → parts_of name ≢ []
+parts-some [] = λ e. cc
+parts-some (byte ∷ name) = cond-some (eqb byte 46) ([] ∷ parts_of name) (onto_first byte (parts_of name)) (λ e. cc) (onto-some byte (parts_of name))
+
+pub joined_of_parts : (name : List ℕ) → list_all is_name_part (parts_of name) ≡ true → IsJoined name
+joined_of_parts name each = record { parts = parts_of name; some = parts-some name; each = each; joined = sym (join_with_byte-slice_split 46 name) }
+
+no_point : (byte : ℕ) → is_further byte ≡ true → eqb byte 46 ≡ false
+no_point byte further = ne_eqb byte 46 (λ e. let point : is_further 46 ≡ true = subst (λ b. is_further b ≡ true) e further in false≢true point)
+
+-- a part ends at the point behind it
+cut_behind : (part rest : List ℕ) → list_all is_further part ≡ true → parts_of (part ++ 46 ∷ rest) ≡ part ∷ parts_of rest
+cut_behind [] rest each = refl
+cut_behind (byte ∷ part) rest each =
+    let both = and_parts (is_further byte) (list_all is_further part) each in
+    rw (no_point byte both.0) (ap (onto_first byte) (cut_behind part rest both.1))
+
+-- and the last one at the end
+cut_none : (part : List ℕ) → list_all is_further part ≡ true → parts_of part ≡ part ∷ []
+cut_none [] each = refl
+cut_none (byte ∷ part) each =
+    let both = and_parts (is_further byte) (list_all is_further part) each in
+    rw (no_point byte both.0) (ap (onto_first byte) (cut_none part both.1))
+
+all_further : (part : List ℕ) → is_name_part part ≡ true → list_all is_further part ≡ true
+all_further [] is = refl
+all_further (first ∷ others) is =
+    let both = and_parts (is_first first) (list_all is_further others) is in
+    rw (or_left (is_first first) _ both.0) both.1
+
+parts_of_joined : (parts : List (List ℕ)) → parts ≢ [] → list_all is_name_part parts ≡ true → parts_of (join_with_byte 46 parts) ≡ parts
+parts_of_joined [] some each = absurd (some refl)
+parts_of_joined (part ∷ []) some each = cut_none part (all_further part (and_parts (is_name_part part) true each).0)
+parts_of_joined (part ∷ next ∷ parts) some each =
+    let both = and_parts (is_name_part part) (list_all is_name_part (next ∷ parts)) each in
+    cut_behind part (join_with_byte 46 (next ∷ parts)) (all_further part both.0) ∙ ap (λ ps. part ∷ ps) (parts_of_joined (next ∷ parts) (λ e. cc) both.1)
+
+pub parts_of_name : (name : List ℕ) → IsJoined name → list_all is_name_part (parts_of name) ≡ true
+parts_of_name name is = rw (is.joined, parts_of_joined is.parts is.some is.each) is.each

@@ -1,0 +1,74 @@
+-- Rendering, part by part.
+use Rattle.std.proofs.Common.{◌≡◌, ◌≢◌, ◌∙◌, ℕ, ◌<◌, ◌≤◌, ◌+◌, ◌-◌, List, [], ◌∷◌, ◌++◌, length, Option, Some, None, Result, Ok, Err, refl, sym, ap, subst, arith}
+use Rattle.std.proofs.lemmas.List.{append-nil, append_assoc, length-append}
+use Rattle.template_text.specs.Parts.{Part, Copied, Value, Comment, Raw, Statement, Unclosed, spelled, statement, text_of, IsPart, ArePlaced, ArePartsOf}
+use Rattle.template_text.specs.Rendering.{LONGEST, Writes, Refuses, Write, place_after, Renders, Whole, Refused, Overlong}
+
+-- the parts so far: they stand before the rest, and wrote the text
+pub record HasWritten (value : List ℕ → Option (List ℕ)) (text rest written : List ℕ) : Type 0 where
+  pub parts : List Part
+  pub spells : text ≡ text_of parts rest
+  pub placed : ArePlaced parts rest
+  pub writes : Write value parts written
+  pub within : length written ≤ LONGEST
+
+pub none_written : (value : List ℕ → Option (List ℕ)) (text : List ℕ) → HasWritten value text text []
+none_written value text = record { parts = []; spells = refl; placed = tt; writes = refl; within = omega arith }
+
+spelled-append : (part : Part) (xs ys : List ℕ) → spelled part (xs ++ ys) ≡ spelled part xs ++ ys
+spelled-append (Copied bytes) xs ys = sym (append_assoc bytes xs ys)
+spelled-append (Value inside) xs ys = ap (λ t. 123 ∷ 123 ∷ t) (sym (append_assoc inside (125 ∷ 125 ∷ xs) ys))
+spelled-append (Comment inside) xs ys = ap (λ t. 123 ∷ 35 ∷ t) (sym (append_assoc inside (35 ∷ 125 ∷ xs) ys))
+spelled-append (Raw opening content closing) xs ys =
+    ap (statement opening) (ap (λ t. content ++ t) (statement-append closing xs ys) ∙ sym (append_assoc content (statement closing xs) ys)) ∙ statement-append opening (content ++ statement closing xs) ys
+  where
+    statement-append : (inside xs ys : List ℕ) → statement inside (xs ++ ys) ≡ statement inside xs ++ ys
+    statement-append inside xs ys = ap (λ t. 123 ∷ 37 ∷ t) (sym (append_assoc inside (37 ∷ 125 ∷ xs) ys))
+spelled-append (Statement inside) xs ys = ap (λ t. 123 ∷ 37 ∷ t) (sym (append_assoc inside (37 ∷ 125 ∷ xs) ys))
+spelled-append (Unclosed bytes) xs ys = sym (append_assoc bytes xs ys)
+
+text_of-rest : (parts : List Part) (rest : List ℕ) → text_of parts rest ≡ text_of parts [] ++ rest
+text_of-rest [] rest = refl
+text_of-rest (part ∷ parts) rest = ap (spelled part) (text_of-rest parts rest) ∙ spelled-append part (text_of parts []) rest
+
+pub text_of-append : (xs ys : List Part) (rest : List ℕ) → text_of (xs ++ ys) rest ≡ text_of xs (text_of ys rest)
+text_of-append [] ys rest = refl
+text_of-append (x ∷ xs) ys rest = ap (spelled x) (text_of-append xs ys rest)
+
+placed-append : (xs ys : List Part) (rest : List ℕ) → ArePlaced xs (text_of ys rest) → ArePlaced ys rest → ArePlaced (xs ++ ys) rest
+placed-append [] ys rest none placed = placed
+placed-append (x ∷ xs) ys rest first placed = (subst (IsPart x) (sym (text_of-append xs ys rest)) first.0, placed-append xs ys rest first.1 placed)
+
+write-append : (value : List ℕ → Option (List ℕ)) (xs : List Part) (part : Part) (text added : List ℕ) → Write value xs text → Writes value part added → Write value (xs ++ part ∷ []) (text ++ added)
+write-append value [] part text added none writes = (added, [], writes, refl, rw none (sym (append-nil added)))
+write-append value (x ∷ xs) part text added (first, others, here, more, whole) writes =
+    (first, others ++ added, here, write-append value xs part others added more writes, rw whole (append_assoc first others added))
+
+-- the place of the rest of a text
+pub place_is : (value : List ℕ → Option (List ℕ)) (text rest written : List ℕ) (so_far : HasWritten value text rest written) → place_after so_far.parts ≡ length text - length rest
+place_is value text rest written so_far =
+    let whole : length text ≡ place_after so_far.parts + length rest = ap length (so_far.spells ∙ text_of-rest so_far.parts rest) ∙ length-append (text_of so_far.parts []) rest in
+    omega arith
+
+-- one part more
+pub one_more : (value : List ℕ → Option (List ℕ)) (text rest written added behind : List ℕ) (part : Part) → HasWritten value text rest written → rest ≡ spelled part behind → IsPart part behind → Writes value part added → length (written ++ added) ≤ LONGEST → HasWritten value text behind (written ++ added)
+one_more value text rest written added behind part so_far spells placed writes within = record {
+  parts = so_far.parts ++ part ∷ [];
+  spells = so_far.spells ∙ ap (text_of so_far.parts) spells ∙ sym (text_of-append so_far.parts (part ∷ []) behind);
+  placed = placed-append so_far.parts (part ∷ []) behind (subst (ArePlaced so_far.parts) spells so_far.placed) (placed, tt);
+  writes = write-append value so_far.parts part written added so_far.writes writes;
+  within = within;
+}
+
+-- the whole text
+pub all_parts : (value : List ℕ → Option (List ℕ)) (text written : List ℕ) (so_far : HasWritten value text [] written) → ArePartsOf text so_far.parts
+all_parts value text written so_far = record { cover = so_far.spells; placed = so_far.placed }
+
+-- the parts so far, one that ends the rendering, and those behind it
+pub and_others : (value : List ℕ → Option (List ℕ)) (text rest written behind : List ℕ) (part : Part) (others : List Part) (so_far : HasWritten value text rest written) → rest ≡ spelled part behind → IsPart part behind → ArePartsOf behind others → ArePartsOf text (so_far.parts ++ part ∷ others)
+and_others value text rest written behind part others so_far spells placed are = record {
+  cover = so_far.spells ∙ ap (text_of so_far.parts) (spells ∙ ap (spelled part) are.cover) ∙ sym (text_of-append so_far.parts (part ∷ others) []);
+  placed = placed-append so_far.parts (part ∷ others) []
+    (subst (ArePlaced so_far.parts) (spells ∙ ap (spelled part) are.cover) so_far.placed)
+    (subst (IsPart part) are.cover placed, are.placed);
+}

@@ -1,0 +1,2 @@
+-- Templates small enough to compute, by their parts.
+use Rattle.std.specs.Prelude.{◌≡◌, ℕ}
