@@ -1,10 +1,10 @@
 -- A name cut at its points.
-use Rattle.std.proofs.Common.{◌≡◌, ◌≢◌, ◌∙◌, ℕ, Bool, true, false, ◌&&◌, cond, eqb, List, [], ◌∷◌, ◌++◌, refl, sym, ap, subst}
+use Rattle.std.proofs.Common.{◌≡◌, ◌≢◌, ◌∙◌, ℕ, Bool, true, false, ◌&&◌, cond, eqb, List, [], ◌∷◌, ◌++◌, refl, sym, ap, subst, ◌↔◌, inl, inr, codes}
 use Rattle.std.proofs.lemmas.Bool.{false≢true, and_parts, or_left, ne_eqb}
 use Rattle.std.proofs.lemmas.List.Splits.{join_with_byte-slice_split}
-use Rattle.std.proofs.lemmas.List.{append-nil}
+use Rattle.std.proofs.lemmas.List.{append_cancel_right}
 use Rattle.std.specs.List.{list_all, join_with_byte, slice_split, onto_first}
-use Rattle.template_text.specs.Names.{is_first, is_further, is_name_part, IsJoined, POINT}
+use Rattle.template_text.specs.Names.{is_first, is_further, is_name_part, IsJoined, IsValueName}
 
 abbrev pub parts_of : List ℕ → List (List ℕ)
 parts_of = slice_split (λ byte. eqb byte 46)
@@ -56,3 +56,12 @@ parts_of_joined (part ∷ next ∷ parts) some each =
 
 pub parts_of_name : (name : List ℕ) → IsJoined name → list_all is_name_part (parts_of name) ≡ true
 parts_of_name name is = rw (is.joined, parts_of_joined is.parts is.some is.each) is.each
+
+-- a name that ends in `()`, and is not joined of parts as a whole
+pub named : (name front : List ℕ) → name ≡ front ++ codes "()" → (IsJoined name → ⊥) → (r : Bool) → ((r ≡ true) ↔ IsJoined front) → (r ≡ true) ↔ IsValueName name
+named name front whole plain r is =
+    (λ so. inr (front, is.0 so, whole),
+     λ n. elim n [
+       inl joined ↦ absurd (plain joined)
+     | inr call ↦ is.1 (subst IsJoined (append_cancel_right call.0 front (codes "()") (sym call.2 ∙ whole)) call.1)
+     ])

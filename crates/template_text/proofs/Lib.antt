@@ -4,3 +4,6 @@ pub mod Finding
 pub mod Placing
 pub mod Indexing
 pub mod Rendered
+pub mod Lexing
+pub mod Existing
+pub mod Deciding

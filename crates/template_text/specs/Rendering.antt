@@ -66,7 +66,3 @@ pub record RendersTo (text : List ℕ) (values : Values) (outcome : Result (List
   pub parts : List Part
   pub of_text : ArePartsOf text parts
   pub outcome_of : Renders (value_of values) parts outcome
-
--- what a call answers: the outcome, or want of memory
-abbrev pub Answers : Result (List ℕ) RenderFault → Result (List ℕ) RenderFault → Type 0
-Answers result outcome = (result ≡ Err faults.Memory) ⊎ (result ≡ outcome)

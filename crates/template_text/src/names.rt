@@ -33,7 +33,7 @@ fn is_name_part(part: &[u8]) -> bool
 fn all_parts(name: &[u8]) -> bool
     ensures { result ≡ list_all is_name_part (slice_split (λ byte. byte == POINT) name.now) }
 {
-    name.split(|byte| *byte == b'.').all(|part| is_name_part(part))
+    name.split(|byte| *byte == b'.').all(is_name_part)
 }
 
 fn is_joined(name: &[u8]) -> bool

@@ -2,7 +2,7 @@
 ghost use Rattle.std.specs.Prelude.{◌≡◌, ◌⊎◌, ◌≤◌, ℕ, List, Result, MatchResult, length, string_bytes};
 ghost use Rattle.template_text.specs.declared.fault.RenderFault.{RenderFault as Fault};
 ghost use Rattle.template_text.specs.declared.fault.RenderFault.TheVariants.{Memory as NoMemory};
-ghost use Rattle.template_text.specs.Rendering.{Writes, Refuses, RefusesValue, RendersTo, Answers};
+ghost use Rattle.template_text.specs.Rendering.{Writes, Refuses, RefusesValue, RendersTo};
 ghost use Rattle.template_text.specs.Pieces.{part_of, Added, Stops};
 ghost use Rattle.template_text.specs.Indexes.{value_in};
 ghost use Rattle.template_text.specs.Names.{IsValueName};
@@ -80,8 +80,8 @@ fn write_part<'a>(
 /// The text that a template is rendered to. Copied and raw text is written as it is, a value as the last pair with its
 /// name has it, and nothing for a comment. The first part that is refused decides.
 pub fn render(alloc: Global, text: &str, values: &[(Text, Text)]) -> Result<Text, RenderFault>
-    ensures outcome { (outcome : Result (List ℕ) Fault) × RendersTo text.now values.now outcome × Answers result outcome }
-    ensures no_other { (outcome : Result (List ℕ) Fault) → RendersTo text.now values.now outcome → Answers result outcome }
+    ensures outcome { (result ≡ Err RenderFault.Memory) ⊎ RendersTo text.now values.now result }
+    ensures no_other { (outcome : Result (List ℕ) Fault) → RendersTo text.now values.now outcome → (result ≡ Err RenderFault.Memory) ⊎ (result ≡ outcome) }
 {
     let index = index_of(alloc, values)?;
     let mut rendered = String::new(alloc);
