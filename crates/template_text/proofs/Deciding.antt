@@ -1,12 +1,16 @@
 -- The outcome of rendering is one.
-use Rattle.std.proofs.Common.{◌≡◌, ◌∙◌, ◌⊎◌, inl, inr, ℕ, ◌<◌, ◌≤◌, ◌+◌, List, [], ◌∷◌, ◌++◌, length, Option, Some, None, Result, Ok, Err, refl, sym, ap, subst, arith}
-use Rattle.std.proofs.lemmas.List.{append_assoc, length-append}
+use Rattle.std.proofs.Common.{◌≡◌, ◌∙◌, ◌⊎◌, inl, inr, ℕ, ◌<◌, ◌≤◌, Bool, true, false, List, [], ◌∷◌, ◌++◌, length, Option, Some, None, Result, Ok, Err, refl, sym, ap, subst, arith}
+use Rattle.std.proofs.lemmas.Bool.{both_ways, cases_lt}
+use Rattle.std.proofs.lemmas.List.{append-nil, append_assoc, length-append}
 use Rattle.template_text.specs.declared.fault.RenderFault.{RenderFault}
 use Rattle.template_text.specs.declared.fault.RenderFault.TheVariants as faults
 use Rattle.template_text.specs.Names.{IsValueName}
 use Rattle.template_text.specs.Parts.{Part, Copied, Value, Comment, Raw, Statement, Unclosed, without_blanks}
 use Rattle.template_text.specs.Rendering.{LONGEST, Writes, Refuses, RefusesValue, Write, place_after, Renders, Whole, Refused, Overlong, RendersTo, value_of, Values}
 use Rattle.template_text.proofs.Lexing.{one_list}
+use Rattle.template_text.proofs.Existing.{has_parts}
+use Rattle.template_text.proofs.Joining.{name_test, name_of_test, test_of_name}
+use Rattle.template_text.proofs.Rendered.{write-append}
 
 module _ (value : List ℕ → Option (List ℕ)) where
   writes_once : (part : Part) (x y : List ℕ) → Writes value part x → Writes value part y → x ≡ y
@@ -145,6 +149,38 @@ module _ (value : List ℕ → Option (List ℕ)) where
 
   renders_once : (parts : List Part) (first second : Result (List ℕ) RenderFault) → Renders value parts first → Renders value parts second → first ≡ second
   renders_once parts first second x y = ends_once parts first second (ends_of parts first x) (ends_of parts second y)
+
+  -- a part writes, or is refused
+  decided_by : (at : ℕ) (inside : List ℕ) (b : Bool) (o : Option (List ℕ)) → name_test (without_blanks inside) ≡ b → value (without_blanks inside) ≡ o → ((added : List ℕ) × Writes value (Value inside) added) ⊎ ((fault : RenderFault) × Refuses value at (Value inside) fault)
+  decided_by at inside true (Some added) is has = inl (added, (name_of_test _ is, has))
+  decided_by at inside true None is none = inr (faults.Unknown at (without_blanks inside), inr (name_of_test _ is, none, refl))
+  decided_by at inside false o other o_is = inr (faults.BadName at, inl (λ name. both_ways _ other (test_of_name _ name), refl))
+
+  decided : (at : ℕ) (part : Part) → ((added : List ℕ) × Writes value part added) ⊎ ((fault : RenderFault) × Refuses value at part fault)
+  decided at (Copied bytes) = inl (bytes, refl)
+  decided at (Value inside) = decided_by at inside (name_test (without_blanks inside)) (value (without_blanks inside)) refl refl
+  decided at (Comment inside) = inl ([], refl)
+  decided at (Raw opening content closing) = inl (content, refl)
+  decided at (Statement inside) = inr (faults.Statement at, refl)
+  decided at (Unclosed bytes) = inr (faults.Unclosed at, refl)
+
+  -- parts that were written, and others
+  renders_from : (front others : List Part) (text : List ℕ) → Write value front text → length text ≤ LONGEST → (outcome : Result (List ℕ) RenderFault) × Renders value (front ++ others) outcome
+  renders_from front [] text write within = (Ok text, Whole text (subst (λ ps. Write value ps text) (sym (append-nil front)) write) within refl)
+  renders_from front (part ∷ others) text write within = elim (decided (place_after front) part) [
+      inl writes ↦ elim (cases_lt LONGEST (length (text ++ writes.0))) [
+        inl passes ↦ (Err (faults.TooLong (place_after front)), Overlong front part others text writes.0 refl write within writes.1 passes refl)
+      | inr fits ↦ subst (λ ps. (outcome : Result (List ℕ) RenderFault) × Renders value ps outcome) (append_assoc front (part ∷ []) others)
+          (renders_from (front ++ part ∷ []) others (text ++ writes.0) (write-append value front part text writes.0 write writes.1) fits)
+      ]
+    | inr refused ↦ (Err refused.0, Refused front part others text refused.0 refl write within refused.1 refl)
+    ]
+
+pub an_outcome : (text : List ℕ) (values : Values) → (outcome : Result (List ℕ) RenderFault) × RendersTo text values outcome
+an_outcome text values =
+    let has = has_parts text in
+    let renders = renders_from (value_of values) [] has.parts [] refl (omega arith) in
+    (renders.0, record { parts = has.parts; of_text = has.are; outcome_of = renders.1 })
 
 pub one_outcome : (text : List ℕ) (values : Values) (first second : Result (List ℕ) RenderFault) → RendersTo text values first → RendersTo text values second → first ≡ second
 one_outcome text values first second x y =

@@ -1,8 +1,11 @@
 -- A name cut at its points.
-use Rattle.std.proofs.Common.{◌≡◌, ◌≢◌, ◌∙◌, ℕ, Bool, true, false, ◌&&◌, cond, eqb, List, [], ◌∷◌, ◌++◌, refl, sym, ap, subst, ◌↔◌, inl, inr, codes}
-use Rattle.std.proofs.lemmas.Bool.{false≢true, and_parts, or_left, ne_eqb}
+use Rattle.std.proofs.Common.{◌≡◌, ◌≢◌, ◌∙◌, ℕ, Bool, true, false, ◌&&◌, ◌||◌, ◌-◌, length, take, drop, arith, cond, eqb, List, [], ◌∷◌, ◌++◌, refl, sym, ap, subst, ◌↔◌, inl, inr, codes}
+use Rattle.std.proofs.lemmas.Bool.{false≢true, and_parts, and_from, or_cases, or_left, or_right, ne_eqb}
+use Rattle.std.proofs.lemmas.Bool.Decides.{Decides-eqb}
+use Rattle.std.proofs.lemmas.Slice.Eq.{ends_is}
+use Rattle.std.specs.Cmp.Lexicographic.{pointwise}
 use Rattle.std.proofs.lemmas.List.Splits.{join_with_byte-slice_split}
-use Rattle.std.proofs.lemmas.List.{append_cancel_right}
+use Rattle.std.proofs.lemmas.List.{append_cancel_right, length-append, take_at}
 use Rattle.std.specs.List.{list_all, join_with_byte, slice_split, onto_first}
 use Rattle.template_text.specs.Names.{is_first, is_further, is_name_part, IsJoined, IsValueName}
 
@@ -65,3 +68,25 @@ named name front whole plain r is =
        inl joined ↦ absurd (plain joined)
      | inr call ↦ is.1 (subst IsJoined (append_cancel_right call.0 front (codes "()") (sym call.2 ∙ whole)) call.1)
      ])
+
+-- a test for names
+unfoldable pub name_test : List ℕ → Bool
+name_test name = list_all is_name_part (parts_of name) || (pointwise eqb (codes "()") (drop (length name - 2) name) && list_all is_name_part (parts_of (take (length name - 2) name)))
+
+ends_in_call : (name : List ℕ) → (pointwise eqb (codes "()") (drop (length name - 2) name) ≡ true → name ≡ take (length name - 2) name ++ codes "()") × ((front : List ℕ) → name ≡ front ++ codes "()" → pointwise eqb (codes "()") (drop (length name - 2) name) ≡ true)
+ends_in_call name = ends_is Decides-eqb name (codes "()") _ refl
+
+pub name_of_test : (name : List ℕ) → name_test name ≡ true → IsValueName name
+unfolding name_test
+name_of_test name is = elim (or_cases _ _ is) [
+    inl joined ↦ inl (joined_of_parts name joined)
+  | inr call ↦ let both = and_parts _ _ call in inr (take (length name - 2) name, joined_of_parts _ both.1, (ends_in_call name).0 both.0)
+  ]
+
+pub test_of_name : (name : List ℕ) → IsValueName name → name_test name ≡ true
+unfolding name_test
+test_of_name name (inl joined) = or_left _ _ (parts_of_name name joined)
+test_of_name name (inr call) =
+    let count : length call.0 ≡ length name - 2 = omega (arith, ap length call.2, length-append call.0 (codes "()")) in
+    let front : take (length name - 2) name ≡ call.0 = ap (take (length name - 2)) call.2 ∙ take_at call.0 (codes "()") (length name - 2) count in
+    or_right _ _ (and_from _ _ ((ends_in_call name).1 call.0 call.2) (rw front (parts_of_name call.0 call.1)))

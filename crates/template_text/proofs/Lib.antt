@@ -7,3 +7,4 @@ pub mod Rendered
 pub mod Lexing
 pub mod Existing
 pub mod Deciding
+pub mod Checking

@@ -43,7 +43,7 @@ placed-append : (xs ys : List Part) (rest : List ℕ) → ArePlaced xs (text_of 
 placed-append [] ys rest none placed = placed
 placed-append (x ∷ xs) ys rest first placed = (subst (IsPart x) (sym (text_of-append xs ys rest)) first.0, placed-append xs ys rest first.1 placed)
 
-write-append : (value : List ℕ → Option (List ℕ)) (xs : List Part) (part : Part) (text added : List ℕ) → Write value xs text → Writes value part added → Write value (xs ++ part ∷ []) (text ++ added)
+pub write-append : (value : List ℕ → Option (List ℕ)) (xs : List Part) (part : Part) (text added : List ℕ) → Write value xs text → Writes value part added → Write value (xs ++ part ∷ []) (text ++ added)
 write-append value [] part text added none writes = (added, [], writes, refl, rw none (sym (append-nil added)))
 write-append value (x ∷ xs) part text added (first, others, here, more, whole) writes =
     (first, others ++ added, here, write-append value xs part others added more writes, rw whole (append_assoc first others added))

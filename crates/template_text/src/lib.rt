@@ -2,15 +2,18 @@
 #![tactic(auto)]
 
 mod blanks;
+pub mod examples;
 mod fault;
+mod laws;
 mod marks;
 mod names;
 mod pieces;
 mod rendering;
-mod values;
 #[cfg(test)]
 mod tests;
+mod values;
 
 pub use fault::RenderFault;
+pub use laws::{text_has_its_outcome, text_has_its_parts};
 pub use names::is_value_name;
 pub use rendering::render;
