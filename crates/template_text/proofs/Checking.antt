@@ -41,12 +41,12 @@ is_unclosed bytes =
 unclosed_by : (bytes : List ℕ) → is_unclosed bytes ≡ true → IsUnclosed bytes
 unfolding is_unclosed
 unclosed_by bytes is = elim (or_cases _ _ is) [
-    inl first ↦ elim (or_cases _ _ first) [
-      inl value ↦ let both = and_parts _ _ value in NoValueEnd (drop 2 bytes) (begins_is (codes "{{") bytes both.0) (none_by closes_value (drop 2 bytes) [] both.1)
+  | inl first ↦ elim (or_cases _ _ first) [
+    | inl value ↦ let both = and_parts _ _ value in NoValueEnd (drop 2 bytes) (begins_is (codes "{{") bytes both.0) (none_by closes_value (drop 2 bytes) [] both.1)
     | inr comment ↦ let both = and_parts _ _ comment in NoCommentEnd (drop 2 bytes) (begins_is (codes "{#") bytes both.0) (none_by closes_comment (drop 2 bytes) [] both.1)
-    ]
-  | inr last ↦ let both = and_parts _ _ last in NoStatementEnd (drop 2 bytes) (begins_is (codes "{%") bytes both.0) (none_by closes_statement (drop 2 bytes) [] both.1)
   ]
+  | inr last ↦ let both = and_parts _ _ last in NoStatementEnd (drop 2 bytes) (begins_is (codes "{%") bytes both.0) (none_by closes_statement (drop 2 bytes) [] both.1)
+]
 
 unfoldable pub is_part : Part → List ℕ → Bool
 is_part (Copied bytes) rest = not (is_nil bytes) && none_in opens bytes rest && (is_nil rest || opens rest)

@@ -70,8 +70,14 @@ module _ (value : List ℕ → Option (List ℕ)) where
   up_to [] part others text (a, rest, own, more, whole) = record { before = []; added = a; behind = rest; fronts = refl; own = own; whole = whole }
   up_to (x ∷ front) part others text (a, bs, own, more, whole) =
       let rest = up_to front part others bs more in
-      record { before = a ++ rest.before; added = rest.added; behind = rest.behind; fronts = (a, rest.before, own, rest.fronts, refl); own = rest.own;
-        whole = whole ∙ ap (λ t. a ++ t) rest.whole ∙ sym (append_assoc a (rest.before ++ rest.added) rest.behind) ∙ ap (λ t. t ++ rest.behind) (sym (append_assoc a rest.before rest.added)) }
+      record {
+        before = a ++ rest.before;
+        added = rest.added;
+        behind = rest.behind;
+        fronts = (a, rest.before, own, rest.fronts, refl);
+        own = rest.own;
+        whole = whole ∙ ap (λ t. a ++ t) rest.whole ∙ sym (append_assoc a (rest.before ++ rest.added) rest.behind) ∙ ap (λ t. t ++ rest.behind) (sym (append_assoc a rest.before rest.added));
+      }
 
   no_stop : (front : List Part) (part : Part) (others : List Part) (text : List ℕ) (outcome : Result (List ℕ) RenderFault) → Write value (front ++ part ∷ others) text → length text ≤ LONGEST → Stops front part outcome → ⊥
   no_stop front part others text outcome write within (IsRefused before fault fronts refused is) = writes_refused (place_after front) part _ fault (up_to front part others text write).own refused
@@ -125,7 +131,7 @@ module _ (value : List ℕ → Option (List ℕ)) where
   stops_once : (parts : List Part) (first second : Result (List ℕ) RenderFault) → StopsFirst parts first → StopsFirst parts second → first ≡ second
   stops_once parts first second x y =
       stops_by parts x.front y.front x.part y.part first second x.text y.text x.write x.within y.write y.within x.stops y.stops
-        (fronts_of x.front x.part x.others y.front y.part y.others (sym x.whole ∙ y.whole))
+      (fronts_of x.front x.part x.others y.front y.part y.others (sym x.whole ∙ y.whole))
 
   whole_never : (parts : List Part) (text : List ℕ) (outcome : Result (List ℕ) RenderFault) → Write value parts text → length text ≤ LONGEST → StopsFirst parts outcome → ⊥
   whole_never parts text outcome write within s = no_stop s.front s.part s.others text outcome (subst (λ ps. Write value ps text) s.whole write) within s.stops
@@ -168,13 +174,13 @@ module _ (value : List ℕ → Option (List ℕ)) where
   renders_from : (front others : List Part) (text : List ℕ) → Write value front text → length text ≤ LONGEST → (outcome : Result (List ℕ) RenderFault) × Renders value (front ++ others) outcome
   renders_from front [] text write within = (Ok text, Whole text (subst (λ ps. Write value ps text) (sym (append-nil front)) write) within refl)
   renders_from front (part ∷ others) text write within = elim (decided (place_after front) part) [
-      inl writes ↦ elim (cases_lt LONGEST (length (text ++ writes.0))) [
-        inl passes ↦ (Err (faults.TooLong (place_after front)), Overlong front part others text writes.0 refl write within writes.1 passes refl)
+    | inl writes ↦ elim (cases_lt LONGEST (length (text ++ writes.0))) [
+      | inl passes ↦ (Err (faults.TooLong (place_after front)), Overlong front part others text writes.0 refl write within writes.1 passes refl)
       | inr fits ↦ subst (λ ps. (outcome : Result (List ℕ) RenderFault) × Renders value ps outcome) (append_assoc front (part ∷ []) others)
           (renders_from (front ++ part ∷ []) others (text ++ writes.0) (write-append value front part text writes.0 write writes.1) fits)
-      ]
-    | inr refused ↦ (Err refused.0, Refused front part others text refused.0 refl write within refused.1 refl)
     ]
+    | inr refused ↦ (Err refused.0, Refused front part others text refused.0 refl write within refused.1 refl)
+  ]
 
 pub an_outcome : (text : List ℕ) (values : Values) → (outcome : Result (List ℕ) RenderFault) × RendersTo text values outcome
 an_outcome text values =

@@ -62,12 +62,13 @@ parts_of_name name is = rw (is.joined, parts_of_joined is.parts is.some is.each)
 
 -- a name that ends in `()`, and is not joined of parts as a whole
 pub named : (name front : List ℕ) → name ≡ front ++ codes "()" → (IsJoined name → ⊥) → (r : Bool) → ((r ≡ true) ↔ IsJoined front) → (r ≡ true) ↔ IsValueName name
-named name front whole plain r is =
-    (λ so. inr (front, is.0 so, whole),
-     λ n. elim n [
-       inl joined ↦ absurd (plain joined)
-     | inr call ↦ is.1 (subst IsJoined (append_cancel_right call.0 front (codes "()") (sym call.2 ∙ whole)) call.1)
-     ])
+named name front whole plain r is = (
+  λ so. inr (front, is.0 so, whole),
+  λ n. elim n [
+    | inl joined ↦ absurd (plain joined)
+    | inr call ↦ is.1 (subst IsJoined (append_cancel_right call.0 front (codes "()") (sym call.2 ∙ whole)) call.1)
+  ],
+)
 
 -- a test for names
 unfoldable pub name_test : List ℕ → Bool
@@ -79,9 +80,9 @@ ends_in_call name = ends_is Decides-eqb name (codes "()") _ refl
 pub name_of_test : (name : List ℕ) → name_test name ≡ true → IsValueName name
 unfolding name_test
 name_of_test name is = elim (or_cases _ _ is) [
-    inl joined ↦ inl (joined_of_parts name joined)
+  | inl joined ↦ inl (joined_of_parts name joined)
   | inr call ↦ let both = and_parts _ _ call in inr (take (length name - 2) name, joined_of_parts _ both.1, (ends_in_call name).0 both.0)
-  ]
+]
 
 pub test_of_name : (name : List ℕ) → IsValueName name → name_test name ≡ true
 unfolding name_test

@@ -46,11 +46,11 @@ opens_small : (text : List ℕ) → opens text ≡ true → IsSmallAt text
 unfolding opens
 opens_small text is =
     elim (or_cases (begins (codes "{{") text || begins (codes "{#") text) (begins (codes "{%") text) is) [
-      inl first ↦ elim (or_cases (begins (codes "{{") text) (begins (codes "{#") text) first) [
-        inl value ↦ small_at 123 text (123 ∷ drop 2 text) (begins_is (codes "{{") text value) (omega arith)
-      | inr comment ↦ small_at 123 text (35 ∷ drop 2 text) (begins_is (codes "{#") text comment) (omega arith)
+      | inl first ↦ elim (or_cases (begins (codes "{{") text) (begins (codes "{#") text) first) [
+        | inl value ↦ small_at 123 text (123 ∷ drop 2 text) (begins_is (codes "{{") text value) (omega arith)
+        | inr comment ↦ small_at 123 text (35 ∷ drop 2 text) (begins_is (codes "{#") text comment) (omega arith)
       ]
-    | inr second ↦ small_at 123 text (37 ∷ drop 2 text) (begins_is (codes "{%") text second) (omega arith)
+      | inr second ↦ small_at 123 text (37 ∷ drop 2 text) (begins_is (codes "{%") text second) (omega arith)
     ]
 
 pub mark_small : (mark : Mark) (text : List ℕ) → test_of mark text ≡ true → IsSmallAt text
@@ -149,8 +149,8 @@ raw_never ending past is is_past none =
     let end = after_blanks (drop 6 word) in
     let here = closes_of_ends ending is in
     never_at (drop 2 ending) end
-      (end_of_end (drop 2 ending) word end (past_blanks (drop 2 ending)) (end_of_end word (drop 6 word) end (past_some 6 word) (past_blanks (drop 6 word))))
-      (subst (λ p. NoneIn closes_statement p []) is_past none) (statement_closed end here) here
+    (end_of_end (drop 2 ending) word end (past_blanks (drop 2 ending)) (end_of_end word (drop 6 word) end (past_some 6 word) (past_blanks (drop 6 word))))
+    (subst (λ p. NoneIn closes_statement p []) is_past none) (statement_closed end here) here
 
 -- what nothing closes
 pub value_open : (text behind : List ℕ) → begins (codes "{{") text ≡ true → behind ≡ drop 2 text → NoneIn closes_value behind [] → IsUnclosed text

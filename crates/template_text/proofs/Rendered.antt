@@ -70,7 +70,7 @@ rest_within value text rest written so_far = omega (arith, ap length (so_far.spe
 pub added_more : (value : List ℕ → Option (List ℕ)) (text rest written new behind : List ℕ) (part : Part) → HasWritten value text rest written → rest ≡ spelled part behind → IsPart part behind → Added value part written new → HasWritten value text behind new
 added_more value text rest written new behind part so_far spells placed more =
     subst (λ t. HasWritten value text behind t) (sym more.after)
-      (one_more value text rest written more.added behind part so_far spells placed more.writes (subst (λ t. length t ≤ LONGEST) more.after more.within))
+    (one_more value text rest written more.added behind part so_far spells placed more.writes (subst (λ t. length t ≤ LONGEST) more.after more.within))
 
 -- the whole text
 all_parts : (value : List ℕ → Option (List ℕ)) (text written : List ℕ) (so_far : HasWritten value text [] written) → ArePartsOf text so_far.parts
@@ -88,8 +88,8 @@ and_others : (value : List ℕ → Option (List ℕ)) (text rest written behind 
 and_others value text rest written behind part others so_far spells placed are = record {
   cover = so_far.spells ∙ ap (text_of so_far.parts) (spells ∙ ap (spelled part) are.cover) ∙ sym (text_of-append so_far.parts (part ∷ others) []);
   placed = placed-append so_far.parts (part ∷ others) []
-    (subst (ArePlaced so_far.parts) (spells ∙ ap (spelled part) are.cover) so_far.placed)
-    (subst (IsPart part) are.cover placed, are.placed);
+      (subst (ArePlaced so_far.parts) (spells ∙ ap (spelled part) are.cover) so_far.placed)
+      (subst (IsPart part) are.cover placed, are.placed);
 }
 
 pub stopped : (value : List ℕ → Option (List ℕ)) (values : Values) (text rest written behind : List ℕ) (part : Part) (at : ℕ) (fault : RenderFault) → value ≡ value_of values → HasWritten value text rest written → rest ≡ spelled part behind → IsPart part behind → at ≡ length text - length rest
@@ -102,7 +102,7 @@ stopped value values text rest written behind part at fault same so_far spells p
       parts = so_far.parts ++ part ∷ others.parts;
       of_text = and_others value text rest written behind part others.parts so_far spells placed others.are;
       outcome_of = subst (λ v. Renders v (so_far.parts ++ part ∷ others.parts) (Err fault)) same
-        (Refused so_far.parts part others.parts written fault refl so_far.writes so_far.within (subst (λ a. Refuses value a part fault) place refused) refl);
+          (Refused so_far.parts part others.parts written fault refl so_far.writes so_far.within (subst (λ a. Refuses value a part fault) place refused) refl);
     })
 stopped value values text rest written behind part at fault same so_far spells placed here (PassesLimit added writes passes is) =
     let others = has_parts behind in
@@ -111,5 +111,5 @@ stopped value values text rest written behind part at fault same so_far spells p
       parts = so_far.parts ++ part ∷ others.parts;
       of_text = and_others value text rest written behind part others.parts so_far spells placed others.are;
       outcome_of = subst (λ v. Renders v (so_far.parts ++ part ∷ others.parts) (Err fault)) same
-        (Overlong so_far.parts part others.parts written added refl so_far.writes so_far.within writes passes (ap (λ f. Err f) (is ∙ ap (λ a. faults.TooLong a) place)));
+          (Overlong so_far.parts part others.parts written added refl so_far.writes so_far.within writes passes (ap (λ f. Err f) (is ∙ ap (λ a. faults.TooLong a) place)));
     })

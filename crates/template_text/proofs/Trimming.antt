@@ -8,14 +8,14 @@ use Rattle.template_text.specs.Parts.{is_blank, after_blanks, before_blanks}
 pub blank_small : (byte : ℕ) → is_blank byte ≡ true → byte < 128
 blank_small byte blank =
     elim (or_cases (byte == 32 || byte == 9 || byte == 10) (byte == 13) blank) [
-      inl first ↦ elim (or_cases (byte == 32 || byte == 9) (byte == 10) first) [
-        inl second ↦ elim (or_cases (byte == 32) (byte == 9) second) [
-          inl is ↦ omega (arith, eqb-true byte 32 is)
-        | inr is ↦ omega (arith, eqb-true byte 9 is)
+      | inl first ↦ elim (or_cases (byte == 32 || byte == 9) (byte == 10) first) [
+        | inl second ↦ elim (or_cases (byte == 32) (byte == 9) second) [
+          | inl is ↦ omega (arith, eqb-true byte 32 is)
+          | inr is ↦ omega (arith, eqb-true byte 9 is)
         ]
-      | inr is ↦ omega (arith, eqb-true byte 10 is)
+        | inr is ↦ omega (arith, eqb-true byte 10 is)
       ]
-    | inr is ↦ omega (arith, eqb-true byte 13 is)
+      | inr is ↦ omega (arith, eqb-true byte 13 is)
     ]
 
 at_first : (byte : ℕ) (bytes : List ℕ) → is_blank byte ≡ false → after_blanks (byte ∷ bytes) ≡ byte ∷ bytes

@@ -19,7 +19,7 @@ pub returns : goal.returns
 returns c =
     let bytes = c.as_bytes-bytes.result.now in
     let here : before_blanks (take c.loop-end.end bytes) ≡ take c.loop-end.end bytes = elim c.loop-end-test.branch [
-      then-loop-end-test+else-is_blank w ↦ before_last bytes c.loop-end.end w.loop-end-test.true c.loop-end.invariant.within (sym w.is_blank.ensures ∙ w.if-is_blank.false)
-    | else-loop-end-test w ↦ before_first bytes c.loop-end.end w.loop-end-test.false
+      | then-loop-end-test+else-is_blank w ↦ before_last bytes c.loop-end.end w.loop-end-test.true c.loop-end.invariant.within (sym w.is_blank.ensures ∙ w.if-is_blank.false)
+      | else-loop-end-test w ↦ before_first bytes c.loop-end.end w.loop-end-test.false
     ] in
     from_front c.args.text.now c.range.result.now c.loop-end.end c.range.ensures.value ∙ ap (take c.loop-end.end) (sym c.as_bytes-bytes.ensures.value) ∙ sym here ∙ c.loop-end.invariant.before ∙ ap before_blanks c.as_bytes-bytes.ensures.value

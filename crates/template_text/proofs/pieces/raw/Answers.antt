@@ -19,7 +19,7 @@ unreachable-requires c = raw_never c.in-Some.ending.now c.past_mark.result.now c
 cut : (c : After-past_mark-in-Some-cut_at_first) → IsCut c.args.text.now (Raw c.args.opening.now c.in-Some.content.now c.in-Some-cut_at_first.closing.now) c.past_mark-in-Some-cut_at_first.result.now
 cut c =
     raw_part c.args.text.now c.args.opening.now c.args.behind.now c.in-Some.content.now c.in-Some.ending.now c.past_mark.result.now c.in-Some-cut_at_first.closing.now c.in-Some-cut_at_first.rest.now c.past_mark-in-Some-cut_at_first.result.now
-      c.requires.text c.requires.opened c.requires.raw c.in-Some.ensures c.past_mark.ensures c.in-Some-cut_at_first.ensures c.past_mark-in-Some-cut_at_first.ensures
+    c.requires.text c.requires.opened c.requires.raw c.in-Some.ensures c.past_mark.ensures c.in-Some-cut_at_first.ensures c.past_mark-in-Some-cut_at_first.ensures
 
 pub returns-clause-spelled : goal.returns-clause-spelled
 returns-clause-spelled c = (cut (goal.at.returns-clause-spelled c).After-past_mark-in-Some-cut_at_first).spelled_so

@@ -29,7 +29,7 @@ loop-rest-preserved c = record {
 stop_of : (c : After-write_part) (fault : RenderFault) → Stops (value_in c.in_ok-index.index) (length c.args.text.now - length c.loop-rest.rest.now) (part_of c.first_piece.result.0) (string_bytes c.loop-rest.rendered) fault → (fault ≡ faults.Memory) ⊎ RendersTo c.args.text.now c.args.values.now (Err fault)
 stop_of c fault stops =
     stopped (value_in c.in_ok-index.index) c.args.values.now c.args.text.now c.loop-rest.rest.now (string_bytes c.loop-rest.rendered) c.first_piece.result.1.now (part_of c.first_piece.result.0) _ fault (fun_ext c.in_ok-index.ensures)
-      c.loop-rest.invariant.so_far c.first_piece.ensures.spelled c.first_piece.ensures.placed refl stops
+    c.loop-rest.invariant.so_far c.first_piece.ensures.spelled c.first_piece.ensures.placed refl stops
 
 -- want of memory, or the outcome
 settled : (text : List ℕ) (values : Values) (result : Result (List ℕ) RenderFault) (fault : RenderFault) → result ≡ Err fault → (fault ≡ faults.Memory) ⊎ RendersTo text values (Err fault) → (result ≡ Err faults.Memory) ⊎ RendersTo text values result
@@ -53,7 +53,7 @@ whole : (c : After-from) → RendersTo c.args.text.now c.args.values.now (Ok c.f
 whole c =
     let ended : c.loop-rest.rest.now ≡ [] = nil_from_length c.loop-rest.rest.now (eqb-true _ 0 (sym c.is_empty.ensures ∙ c.loop-rest-test.false)) in
     whole_rendered (value_in c.in_ok-index.index) c.args.values.now c.args.text.now (string_bytes c.loop-rest.rendered) c.from.result (fun_ext c.in_ok-index.ensures)
-      (subst (λ r. HasWritten (value_in c.in_ok-index.index) c.args.text.now r (string_bytes c.loop-rest.rendered)) ended c.loop-rest.invariant.so_far) c.from.ensures
+    (subst (λ r. HasWritten (value_in c.in_ok-index.index) c.args.text.now r (string_bytes c.loop-rest.rendered)) ended c.loop-rest.invariant.so_far) c.from.ensures
 
 pub returns-clause-outcome : goal.returns-clause-outcome
 returns-clause-outcome c = inr (whole (goal.at.returns-clause-outcome c).After-from)
