@@ -1,10 +1,10 @@
 -- Tests for parts and for what they write, to compute examples by.
-use Rattle.std.proofs.Common.{◌≡◌, ◌≢◌, ◌∙◌, ◌⊎◌, inl, inr, ℕ, ◌≤◌, Bool, true, false, cond, not, ◌&&◌, ◌||◌, List, [], ◌∷◌, ◌++◌, length, drop, Option, Some, None, Result, Ok, Err, refl, sym, ap, subst, codes, bytes_eq, leb}
+use Rattle.std.proofs.Common.{◌≡◌, ◌≢◌, ◌⊎◌, inl, inr, ℕ, Bool, true, false, cond, not, ◌&&◌, ◌||◌, List, [], ◌∷◌, ◌++◌, length, drop, Option, Some, None, Ok, Err, refl, codes, bytes_eq, leb}
 use Rattle.std.proofs.lemmas.Bool.{and_parts, or_cases, not-true, leb-true, both_ways}
 use Rattle.std.proofs.lemmas.Slice.Eq.{bytes_eq-Decides}
 use Rattle.template_text.specs.declared.fault.RenderFault.{RenderFault}
 use Rattle.template_text.specs.declared.fault.RenderFault.TheVariants as faults
-use Rattle.template_text.specs.Parts.{begins, opens, closes_value, closes_comment, closes_statement, ends_raw, without_blanks, NoneIn, Part, Copied, Value, Comment, Raw, Statement, Unclosed, statement, IsUnclosed, NoValueEnd, NoCommentEnd, NoStatementEnd, NoEndraw, IsPart, text_of, ArePlaced, ArePartsOf}
+use Rattle.template_text.specs.Parts.{begins, opens, closes_value, closes_comment, closes_statement, ends_raw, without_blanks, NoneIn, Part, Copied, Value, Comment, Raw, Statement, Unclosed, statement, IsUnclosed, NoValueEnd, NoCommentEnd, NoStatementEnd, NoEndraw, IsPart, text_of, ArePlaced}
 use Rattle.template_text.specs.Rendering.{LONGEST, Values, value_of, Writes, Refuses, Write, place_after, Whole, Refused, RendersTo}
 use Rattle.template_text.proofs.Joining.{name_test, name_of_test, test_of_name}
 use Rattle.template_text.proofs.Placing.{begins_is}

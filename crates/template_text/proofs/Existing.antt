@@ -1,9 +1,9 @@
 -- Each text has parts.
-use Rattle.std.proofs.Common.{◌≡◌, ◌∙◌, inl, ℕ, zero, suc, ◌<◌, ◌≤◌, Bool, true, false, List, [], ◌∷◌, ◌++◌, length, drop, refl, sym, ap, subst, arith, codes, bytes_eq}
+use Rattle.std.proofs.Common.{◌≡◌, ◌∙◌, inl, ℕ, zero, suc, ◌≤◌, Bool, true, false, List, [], ◌∷◌, length, drop, refl, sym, ap, subst, arith, codes, bytes_eq}
 use Rattle.std.proofs.lemmas.Bool.{both_ways}
 use Rattle.std.proofs.lemmas.List.{append-nil}
 use Rattle.std.proofs.lemmas.Slice.Eq.{bytes_eq-Decides}
-use Rattle.template_text.specs.Parts.{begins, opens, closes_value, closes_comment, closes_statement, ends_raw, without_blanks, NoneIn, Part, Copied, Value, Comment, Raw, Statement, Unclosed, spelled, IsUnclosed, NoEndraw, IsPart, text_of, ArePlaced, ArePartsOf}
+use Rattle.template_text.specs.Parts.{begins, opens, closes_value, closes_comment, closes_statement, ends_raw, without_blanks, NoneIn, Part, Copied, Value, Comment, Raw, Statement, Unclosed, spelled, IsUnclosed, NoEndraw, IsPart, ArePartsOf}
 use Rattle.template_text.specs.Pieces.{CutAtFirst}
 use Rattle.template_text.proofs.Placing.{IsCut, value_part, comment_part, statement_part, IsStatementCut, raw_part, raw_never, value_open, comment_open, statement_open, copied_part, plain_text}
 use Rattle.template_text.proofs.Lexing.{shorter_rest}

@@ -1,5 +1,5 @@
 -- A search for the first place that passes a test.
-use Rattle.std.proofs.Common.{◌≡◌, ◌∙◌, ℕ, suc, zero, ◌<◌, ◌≤◌, ◌+◌, Bool, true, false, List, [], ◌∷◌, ◌++◌, length, get_or, take, drop, refl, sym, ap, subst, arith, add-one}
+use Rattle.std.proofs.Common.{◌≡◌, ℕ, suc, zero, ◌<◌, ◌≤◌, ◌+◌, Bool, true, false, List, [], ◌∷◌, ◌++◌, length, take, drop, arith, add-one}
 use Rattle.std.proofs.lemmas.List.{take-append-drop, take_all, drop_all, append-nil}
 use Rattle.std.proofs.lemmas.Bool.{both_ways}
 use Rattle.template_text.specs.Parts.{NoneIn}

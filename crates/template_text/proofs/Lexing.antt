@@ -1,11 +1,9 @@
 -- The first part of a text, as a function: so it is one.
-use Rattle.std.proofs.Common.{◌≡◌, ◌≢◌, ◌∙◌, ◌⊎◌, inl, inr, ⊎_elim, ℕ, zero, suc, ◌<◌, ◌≤◌, ◌+◌, ◌-◌, Bool, true, false, cond, ◌||◌, List, [], ◌∷◌, ◌++◌, length, get_or, take, drop, Option, Some, None, option_map, refl, sym, ap, subst, arith, codes, bytes_eq}
+use Rattle.std.proofs.Common.{◌≡◌, ◌≢◌, ◌∙◌, inl, inr, ℕ, ◌<◌, ◌+◌, Bool, true, false, cond, ◌||◌, List, [], ◌∷◌, ◌++◌, length, drop, Option, Some, None, option_map, refl, sym, ap, subst, arith, codes, bytes_eq}
 use Rattle.std.proofs.lemmas.Bool.{or_parts, both_ways, false_from_ne_true}
 use Rattle.std.proofs.lemmas.List.{append-nil, length-append}
 use Rattle.std.proofs.lemmas.Slice.Eq.{bytes_eq-Decides}
 use Rattle.template_text.specs.Parts.{begins, opens, closes_value, closes_comment, closes_statement, ends_raw, without_blanks, NoneIn, Part, Copied, Value, Comment, Raw, Statement, Unclosed, statement, spelled, IsStatement, IsRaw, IsUnclosed, NoValueEnd, NoCommentEnd, NoStatementEnd, NoEndraw, IsPart, text_of, ArePlaced, ArePartsOf}
-use Rattle.template_text.specs.Pieces.{CutAtFirst}
-use Rattle.template_text.proofs.Placing.{IsCut, value_part, comment_part, statement_part, IsStatementCut, raw_part, raw_never, value_open, comment_open, statement_open, copied_part, begins_is}
 
 -- where a text first passes a test
 first_of : (List ℕ → Bool) → List ℕ → Option (List ℕ × List ℕ)

@@ -1,14 +1,14 @@
 -- Parts, cut from a text.
-use Rattle.std.proofs.Common.{◌≡◌, ◌≢◌, ◌∙◌, ◌⊎◌, inl, inr, ℕ, ◌<◌, ◌≤◌, ◌+◌, Bool, true, false, ◌||◌, List, [], ◌∷◌, ◌++◌, length, get_or, take, drop, refl, sym, ap, subst, arith, codes}
+use Rattle.std.proofs.Common.{◌≡◌, ◌∙◌, inl, inr, ℕ, ◌<◌, Bool, true, false, ◌||◌, List, [], ◌∷◌, ◌++◌, length, get_or, take, drop, refl, sym, ap, subst, arith, codes}
 use Rattle.std.proofs.lemmas.Bool.{both_ways, or_cases, or_from, and_parts}
 use Rattle.std.proofs.lemmas.Bool.Decides.{Decides-eqb}
 use Rattle.std.proofs.lemmas.List.{append_assoc, take-append-drop}
 use Rattle.std.proofs.lemmas.Slice.Eq.{starts_is}
 use Rattle.template_text.specs.declared.marks.Mark.{Mark}
 use Rattle.template_text.specs.declared.marks.Mark.TheVariants as marks
-use Rattle.template_text.specs.Parts.{after_blanks, begins, opens, closes_value, closes_comment, closes_statement, ends_raw, without_blanks, NoneIn, Part, Copied, Value, Comment, Raw, Statement, Unclosed, statement, spelled, IsStatement, IsRaw, IsUnclosed, NoValueEnd, NoCommentEnd, NoStatementEnd, NoEndraw, IsPart}
+use Rattle.template_text.specs.Parts.{after_blanks, begins, opens, closes_value, closes_comment, closes_statement, ends_raw, without_blanks, NoneIn, Part, Copied, Value, Comment, Raw, statement, spelled, IsStatement, IsUnclosed, NoValueEnd, NoCommentEnd, NoStatementEnd, IsPart}
 use Rattle.template_text.specs.Pieces.{test_of, CutAtFirst, HasMark}
-use Rattle.template_text.proofs.Trimming.{HasBlanks, has_blanks}
+use Rattle.template_text.proofs.Trimming.{has_blanks}
 use Rattle.template_text.proofs.Finding.{never}
 
 -- a mark at the front

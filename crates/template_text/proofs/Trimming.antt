@@ -1,5 +1,5 @@
 -- Blanks at the ends of a text.
-use Rattle.std.proofs.Common.{◌≡◌, ◌∙◌, ℕ, zero, suc, ◌<◌, ◌≤◌, ◌+◌, ◌-◌, Bool, true, false, cond, List, [], ◌∷◌, ◌++◌, length, get_or, take, drop, reverse, refl, sym, ap, subst, arith, inl, inr, IsCharBoundary, IsUtf8, ◌||◌, ◌==◌, slice_range}
+use Rattle.std.proofs.Common.{◌≡◌, ◌∙◌, ℕ, zero, suc, ◌<◌, ◌≤◌, ◌+◌, ◌-◌, Bool, true, false, List, [], ◌∷◌, ◌++◌, length, get_or, take, drop, reverse, refl, sym, ap, subst, arith, inl, inr, IsCharBoundary, IsUtf8, ◌||◌, ◌==◌, slice_range}
 use Rattle.std.proofs.lemmas.Bool.{or_cases, eqb-true}
 use Rattle.std.proofs.lemmas.List.{drop_more, drop_at, take_more, length-append, get_or_append_left, reverse-append, reverse-reverse}
 use Rattle.std.proofs.lemmas.Str.{IsCharBoundary-after_ascii}

@@ -1,6 +1,6 @@
-use Rattle.std.proofs.Common.{◌≡◌, ◌∙◌, true, false, length, take, get_or, sym, ap, arith}
+use Rattle.std.proofs.Common.{◌≡◌, ◌∙◌, take, sym, ap, arith}
 use Rattle.std.proofs.lemmas.Str.{IsCharBoundary-before_ascii}
-use Rattle.template_text.specs.Parts.{is_blank, before_blanks}
+use Rattle.template_text.specs.Parts.{before_blanks}
 use Rattle.template_text.proofs.Trimming.{blank_small, before_more, before_last, before_first, from_front}
 use Rattle.template_text.proofs.blanks.before_blanks.Goals as goal
 use Rattle.template_text.proofs.blanks.before_blanks.Goals.{then-loop-end-test+else-is_blank, else-loop-end-test}

@@ -1,4 +1,4 @@
-use Rattle.std.proofs.Common.{◌≡◌, ◌∙◌, ◌-◌, length, drop, ap, arith}
+use Rattle.std.proofs.Common.{◌≡◌, ◌∙◌, ◌-◌, length, drop, ap}
 use Rattle.template_text.specs.Parts.{after_blanks, before_blanks, without_blanks}
 use Rattle.template_text.proofs.Trimming.{after_shorter, drop_blanks, blanks_boundary}
 use Rattle.template_text.proofs.blanks.without_blanks.Goals as goal

@@ -1,7 +1,7 @@
-use Rattle.std.proofs.Common.{List, [], ◌∷◌, ◌++◌, refl, codes}
-use Rattle.template_text.specs.Parts.{Part, Copied, Value, Comment, Raw, Statement, Unclosed, opens, closes_value, closes_comment, closes_statement, ends_raw, without_blanks, before_blanks}
-use Rattle.template_text.proofs.Checking.{none_in, is_nil, is_unclosed, is_part, are_placed, added, both, written, gives, faults_at, faults_placed, raw_unclosed, bad_name, no_pair}
-use Rattle.template_text.proofs.Joining.{name_test, name_of_test, test_of_name}
+use Rattle.std.proofs.Common.{[], ◌∷◌, ◌++◌, refl, codes}
+use Rattle.template_text.specs.Parts.{Copied, Value, Comment, opens, closes_value, closes_comment, closes_statement, ends_raw, without_blanks, before_blanks}
+use Rattle.template_text.proofs.Checking.{none_in, is_nil, is_unclosed, is_part, are_placed, added, both, written, gives}
+use Rattle.template_text.proofs.Joining.{name_test}
 use Rattle.template_text.specs.Examples.{values}
 use Rattle.template_text.proofs.examples.values_and_comments.Goals as goal
 

@@ -1,4 +1,4 @@
-use Rattle.std.proofs.Common.{◌≡◌, ◌<◌, ◌≤◌, ◌+◌, ℕ, List, true, length, get_or, drop, subst, arith, IsCharBoundary}
+use Rattle.std.proofs.Common.{◌≡◌, ◌<◌, ◌+◌, ℕ, List, true, get_or, drop, subst, arith, IsCharBoundary}
 use Rattle.std.proofs.lemmas.List.{length-drop, get_or-drop}
 use Rattle.std.proofs.lemmas.Str.{IsCharBoundary-before_ascii}
 use Rattle.template_text.specs.Pieces.{test_of}

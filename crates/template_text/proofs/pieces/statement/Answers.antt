@@ -1,7 +1,6 @@
-use Rattle.std.proofs.Common.{◌≡◌, ◌∙◌, true, false, refl, sym, ap, arith, codes, bytes_eq}
+use Rattle.std.proofs.Common.{◌≡◌, ◌∙◌, false, refl, sym, arith, codes, bytes_eq}
 use Rattle.std.proofs.lemmas.Bool.{both_ways}
 use Rattle.std.proofs.lemmas.Slice.Eq.{bytes_eq-Decides}
-use Rattle.template_text.specs.Parts.{without_blanks}
 use Rattle.template_text.proofs.Placing.{IsStatementCut, statement_closed, mark_room, statement_part, statement_open}
 use Rattle.template_text.proofs.pieces.statement.Goals as goal
 use Rattle.template_text.proofs.pieces.statement.Goals.{After-past_mark-behind}

@@ -1,11 +1,11 @@
-use Rattle.std.proofs.Common.{◌≡◌, ◌∙◌, ◌⊎◌, ◌-◌, ℕ, inl, inr, Result, length, [], List, Err, Ok, rules, ap, sym, subst, string_bytes, refl, arith}
+use Rattle.std.proofs.Common.{◌≡◌, ◌∙◌, ◌⊎◌, ◌-◌, ℕ, inl, inr, Result, length, [], List, Err, Ok, rules, ap, sym, subst, string_bytes, refl}
 use mathlib.Core.Path.{fun_ext}
 use Rattle.std.proofs.lemmas.Bool.{eqb-true}
 use Rattle.std.proofs.lemmas.List.{nil_from_length}
 use Rattle.std.proofs.lemmas.Result.{err_from_is_err_and}
 use Rattle.template_text.specs.Indexes.{value_in}
 use Rattle.template_text.specs.Pieces.{part_of, Stops}
-use Rattle.template_text.specs.Rendering.{Values, value_of, RendersTo}
+use Rattle.template_text.specs.Rendering.{Values, RendersTo}
 use Rattle.template_text.specs.declared.fault.RenderFault.{RenderFault}
 use Rattle.template_text.specs.declared.fault.RenderFault.TheVariants as faults
 use Rattle.template_text.proofs.Lexing.{shorter_rest}

@@ -1,6 +1,5 @@
-use Rattle.std.proofs.Common.{◌≡◌, ◌≤◌, length, string_bytes}
+use Rattle.std.proofs.Common.{length, string_bytes}
 use Rattle.template_text.specs.Indexes.{value_in}
-use Rattle.template_text.specs.Rendering.{LONGEST}
 use Rattle.template_text.proofs.Rendered.{HasWritten}
 use denote.Text.{Utf8}
 use denote.Shadow.{shadow}

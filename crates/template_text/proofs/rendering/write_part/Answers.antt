@@ -1,4 +1,4 @@
-use Rattle.std.proofs.Common.{◌<◌, ◌+◌, length, string_bytes, refl, arith}
+use Rattle.std.proofs.Common.{string_bytes, refl, arith}
 use Rattle.std.proofs.lemmas.List.{length-append}
 use Rattle.template_text.specs.Pieces.{PassesLimit}
 use Rattle.template_text.proofs.rendering.write_part.Goals as goal

@@ -1,4 +1,4 @@
-use Rattle.std.proofs.Common.{◌≡◌, ◌∙◌, false, drop, sym, arith}
+use Rattle.std.proofs.Common.{◌≡◌, ◌∙◌, false, drop, sym}
 use Rattle.std.proofs.lemmas.List.{take_rest}
 use Rattle.template_text.specs.Pieces.{test_of}
 use Rattle.template_text.proofs.Finding.{none_more}
