@@ -1,0 +1,10 @@
+pub mod Joining
+pub mod Trimming
+pub mod Finding
+pub mod Placing
+pub mod Indexing
+pub mod Rendered
+pub mod Lexing
+pub mod Existing
+pub mod Deciding
+pub mod Checking
