@@ -1,5 +1,6 @@
 pub mod Words
 pub mod Commands
+pub mod Events
 pub mod Steps
 pub mod Faults
 pub mod Reports
