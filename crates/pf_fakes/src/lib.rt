@@ -1,0 +1,12 @@
+//! Hosts for tests, which answer as they are told and promise nothing of files.
+#![tactic(auto)]
+
+mod answer;
+mod counts;
+mod record;
+mod script;
+#[cfg(test)]
+mod tests;
+
+pub use answer::Answer;
+pub use script::ScriptHost;

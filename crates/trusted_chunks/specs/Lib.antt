@@ -1,0 +1,9 @@
+pub mod Chunks
+pub mod State
+pub mod Kept
+pub mod Slices
+pub mod Taking
+pub mod Opening
+pub mod Reading
+pub mod Fetching
+pub mod Inside

@@ -1,0 +1,137 @@
+use crate::{ChunkFault, TrustFault, TrustedFile};
+use lru::LruCache;
+use pf_fakes::{Answer, ScriptHost};
+use pf_io::{Bytes, MemHost, Text};
+use sha2::{Digest, Sha256};
+use std::alloc::Global;
+use std::test::Fail;
+
+// Bytes that show their chunk and their place.
+fn content(alloc: Global, len: usize) -> Result<Vec<u8>, Fail> {
+    let mut bytes = Vec::new(alloc);
+    for i in 0..len {
+        bytes.push(((i / 16384 * 7 + i) % 251) as u8)?;
+    }
+    Ok(bytes)
+}
+
+fn host_of(alloc: Global, bytes: &[u8]) -> Result<MemHost, Fail> {
+    let mut host = MemHost::new(alloc);
+    host.put("a", bytes)?;
+    Ok(host)
+}
+
+fn open(alloc: Global, host: &mut MemHost, bytes: &[u8]) -> Result<TrustedFile, TrustFault> {
+    TrustedFile::open(alloc, host, "a", &Sha256::digest(bytes))
+}
+
+// Reads, and says whether the bytes are those of the content.
+fn reads(
+    file: &mut TrustedFile,
+    host: &mut MemHost,
+    at: usize,
+    to: &mut [u8],
+    bytes: &[u8],
+) -> bool {
+    let want = bytes.len().saturating_sub(at).min(to.len());
+    match file.read(host, at as u64, to) {
+        Ok(n) => n == want && at <= bytes.len() && to[..n] == bytes[at..at + n],
+        Err(_) => false,
+    }
+}
+
+#[test]
+fn slices_of_the_file_are_read(rt: HostRuntime) -> Result<(), Fail> {
+    for len in [0, 16384, 40000] {
+        let bytes = content(rt.alloc(), len)?;
+        let mut host = host_of(rt.alloc(), &bytes)?;
+        let mut file = open(rt.alloc(), &mut host, &bytes)?;
+        assert_eq!(rt; file.len(), len as u64);
+        let mut to = vec![in rt.alloc(); 0; 32768]?;
+        for at in [0, 16383, 16384, 39999, 40000] {
+            if at <= len {
+                assert!(rt;
+                    reads(&mut file, &mut host, at, &mut to, &bytes),
+                    "{len} {at}"
+                );
+            }
+        }
+        assert_eq!(rt; file.read(&mut host, 50000, &mut to), Ok(0));
+    }
+    Ok(())
+}
+
+#[test]
+fn four_chunks_are_kept_and_a_fifth_pushes_the_first_out(rt: HostRuntime) -> Result<(), Fail> {
+    let bytes = content(rt.alloc(), 80000)?;
+    let mut host = host_of(rt.alloc(), &bytes)?;
+    let mut file = open(rt.alloc(), &mut host, &bytes)?;
+    let mut to = *b".";
+    for chunk in 0..5 {
+        assert!(rt; reads(&mut file, &mut host, 16384 * chunk, &mut to, &bytes));
+    }
+    host.stop_at(0);
+    for chunk in 1..5 {
+        assert!(rt; reads(&mut file, &mut host, 16384 * chunk, &mut to, &bytes));
+    }
+    assert_eq!(rt; file.read(&mut host, 0, &mut to), Err(ChunkFault::Host));
+    Ok(())
+}
+
+#[test]
+fn a_changed_chunk_is_named(rt: HostRuntime) -> Result<(), Fail> {
+    let alloc = rt.alloc();
+    let bytes = content(alloc, 40000)?;
+    let mut host = ScriptHost::new(alloc);
+    host.answer(Answer::Len(Some(40000)))?;
+    for chunk in [0, 1, 2, 0, 1] {
+        let end = (16384 * chunk + 16384).min(bytes.len());
+        let slice = Bytes::copy(alloc, &bytes[16384 * chunk..end])?;
+        host.answer(Answer::Given(slice))?;
+    }
+    let mut changed = bytes[32768..].to_vec(alloc)?;
+    changed.push(0)?;
+    host.answer(Answer::Given(changed.into()))?;
+    let mut file = TrustedFile::open(alloc, &mut host, "a", &Sha256::digest(&bytes))?;
+    let mut to = vec![in alloc; 0; 32768]?;
+    assert_eq!(rt; file.read(&mut host, 0, &mut to), Ok(32768));
+    assert!(rt; to[..] == bytes[..32768]);
+    let damaged = file.read(&mut host, 32768, &mut to);
+    assert_eq!(rt; damaged, Err(ChunkFault::Damaged { chunk: 2 }));
+    Ok(())
+}
+
+#[test]
+fn refusals_have_their_causes(rt: HostRuntime) -> Result<(), Fail> {
+    let mut host = host_of(rt.alloc(), b"abc")?;
+    let sum = Sha256::digest(b"abc");
+    let other = Sha256::digest(b"abd");
+    let absent = TrustedFile::open(rt.alloc(), &mut host, "b", &sum).err();
+    assert_eq!(rt; absent, Some(TrustFault::NotFound));
+    let wrong = TrustedFile::open(rt.alloc(), &mut host, "a", &other).err();
+    assert_eq!(rt; wrong, Some(TrustFault::WrongSum { found: sum }));
+    Ok(())
+}
+
+#[test]
+fn a_trusted_file_keeps_hashes_and_chunks_alone(rt: HostRuntime) -> Result<(), Fail> {
+    let mut host = host_of(rt.alloc(), b"abc")?;
+    let file = open(rt.alloc(), &mut host, b"abc")?;
+    let TrustedFile {
+        alloc,
+        name,
+        len,
+        hashes,
+        kept,
+    } = &file;
+    let _alloc: &Global = alloc;
+    let name: &Text = name;
+    let len: &u64 = len;
+    let hashes: &Vec<[u8; 32]> = hashes;
+    let kept: &LruCache<u32, Bytes> = kept;
+    assert_eq!(rt; name.as_str(), "a");
+    assert_eq!(rt; *len, 3);
+    assert_eq!(rt; hashes.len(), 1);
+    assert_eq!(rt; kept.len(), 0);
+    Ok(())
+}
