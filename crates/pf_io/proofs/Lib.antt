@@ -4,7 +4,8 @@ pub mod Loans
 pub mod Runs
 pub mod Images
 pub mod Unchanged
-mod Replacing
+mod SideFiles
+mod SideEnds
 mod Exemplified
 mod Stored
 mod Recorded

@@ -1,5 +1,5 @@
 // Crashes of a host in memory after each call of a script, tried with each tear.
-use crate::{Host, HostFault, MemHost, Tear, replace_by_side_file};
+use crate::{Host, HostFault, MemHost, Tear, write_by_side_file};
 use std::alloc::Global;
 use std::test::Fail;
 
@@ -141,7 +141,7 @@ fn a_crash_leaves_the_old_file_or_the_new_one(rt: HostRuntime) -> Result<(), Fai
             let mut host = MemHost::new(rt.alloc());
             host.put("a", b"old")?;
             host.stop_at(calls);
-            let outcome = replace_by_side_file(&mut host, "a", "a.new", b"newer");
+            let outcome = write_by_side_file(&mut host, "a", "a.new", b"newer");
             assert_eq!(rt; outcome.is_ok(), calls == 4);
             let want: &[u8] = if calls == 4 { b"newer" } else { b"old" };
             let host = host.after_crash(tear)?;
