@@ -11,6 +11,7 @@ mod Stored
 mod Recorded
 mod Stepping
 mod Reading
+mod Sources
 mod Filling
 mod Faulted
 mod Crashed

@@ -185,8 +185,10 @@ wrote_more T E x side bytes count old mid new within was faults told counts disk
   where
     start : ℕ
     start = count * PIECE
+
     piece : List ℕ
     piece = take PIECE (drop start bytes)
+
     grows : Option File → Option File → Type 0
     grows o p = (file : File) → o ≡ Some file → (new : File) × (p ≡ Some new) × Writes {T = T} {E = E} start piece (Ok x) file new
 
