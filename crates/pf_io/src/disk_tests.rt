@@ -129,13 +129,13 @@ fn real_files_are_written_and_read_in_pieces(rt: HostRuntime) -> Result<(), Fail
     assert_eq!(rt; outcome, Ok(()));
     let mut to = [b'-'; 40_000];
     assert_eq!(rt; host.read_at(name.as_str(), 32_768, &mut to), Ok(37_232));
-    assert_eq!(rt; to[..37_232], bytes[32_768..]);
-    assert_eq!(rt; to[37_232..], [b'-'; 2_768]);
+    assert_eq!(rt; &to[..37_232], &bytes[32_768..]);
+    assert_eq!(rt; &to[37_232..], [b'-'; 2_768].as_slice());
     assert_eq!(rt;
         host.read_at(name.as_str(), 1, &mut to[..32_767]),
         Ok(32_767)
     );
-    assert_eq!(rt; to[..32_767], bytes[1..32_768]);
+    assert_eq!(rt; &to[..32_767], &bytes[1..32_768]);
     fs::remove_file(&rt, name.as_str())?;
     Ok(())
 }
