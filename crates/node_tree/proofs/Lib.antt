@@ -18,6 +18,8 @@ pub mod One
 pub mod Several
 pub mod Filled
 pub mod Order
+pub mod Marking
+pub mod United
 pub mod Rooted
 pub mod Lively
 pub mod Ends

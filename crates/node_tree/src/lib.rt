@@ -4,6 +4,7 @@
 mod copying;
 mod fault;
 mod laws;
+mod marks;
 mod nodes;
 mod numbers;
 #[cfg(test)]
