@@ -8,7 +8,7 @@ use Rattle.std.proofs.lemmas.List.Folds.{Any-from_list_any, list_any-from_Any}
 use Rattle.std.proofs.lemmas.Map.Views.{exact_unsigned_eq}
 use Rattle.std.proofs.lemmas.List.{take_more, take_all, length-take, get_or-take}
 use Rattle.std.proofs.lemmas.List.Elements.{Contains-append_left, Contains-push, Contains-push_cases, Contains-get_or}
-use Rattle.node_tree.specs.Touched.{IsTouched, AreTouched}
+use Rattle.node_tree.specs.Touched.{AreTouched}
 use Rattle.node_tree.specs.State.{MOST_DIRTY}
 use Rattle.node_tree.specs.Marks.{AreUnited, AreChanged, IsChangedCount, MayChange}
 use Rattle.node_tree.proofs.Order.{same_rising, rising_tail, above_head, in_tail, to_tail, at_head, no_member, in_order, place_of}

@@ -1,5 +1,5 @@
 -- Bytes that are put into a content's first bytes and its data nodes.
-use Rattle.std.specs.Prelude.{◌≡◌, ℕ, ◌+◌, ◌-◌, ◌*◌, ◌<◌, ◌≤◌, max, List, ◌++◌, length, take, drop, slice_index, nat_lt, if◌then◌else◌, Option, Some}
+use Rattle.std.specs.Prelude.{◌≡◌, ℕ, ◌+◌, ◌-◌, ◌*◌, ◌<◌, ◌≤◌, List, ◌++◌, length, take, drop, slice_index, nat_lt, if◌then◌else◌, Option, Some}
 use Rattle.node_layout.specs.Places.{data_place, mht_place, data_count}
 use Rattle.node_tree.specs.Touched.{Meets}
 use Rattle.node_tree.specs.Applying.{Step, applied, size_after, from_of, to_of}
@@ -20,7 +20,6 @@ IsPutFirst at from old new = (i : ℕ) → i < 3072 → slice_index new i ≡ pu
 pub record IsPutNode (at : ℕ) (from : List ℕ) (d : ℕ) (old : List ℕ) (node : Option (List ℕ)) : Type 0 where
   pub plain : List ℕ
   pub there : node ≡ Some plain
-  pub same_length : length plain ≡ length old
   pub bytes : (r : ℕ) → r < 4096 → slice_index plain r ≡ put_byte at from (slice_index old r) (3072 + 4096 * d + r)
 
 -- the nodes that are held, once they were

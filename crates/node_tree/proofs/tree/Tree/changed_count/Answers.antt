@@ -1,7 +1,7 @@
 use Rattle.std.proofs.Common.{List, ℕ, ap, ◌∙◌, sym, subst}
 use Rattle.node_tree.specs.State.{TreeState}
 use Rattle.node_tree.specs.Touched.{AreTouched}
-use Rattle.node_tree.specs.Marks.{AreUnited, IsChangedCount}
+use Rattle.node_tree.specs.Marks.{IsChangedCount}
 use Rattle.node_tree.proofs.United.{changed_count, may_change}
 use Rattle.node_tree.proofs.tree.Tree.changed_count.Goals as goal
 
