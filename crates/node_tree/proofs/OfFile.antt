@@ -20,7 +20,7 @@ module _ (name : Name) (these : List Answer) (files : Files) (of_files : AllByRe
   file_opened k plain (root_opens _ block _ missing one gave opens) = root_opens k block plain (nothing_held k) one (file_block files name these of_files k block gave) opens
   file_opened k plain (child_opens _ parent block _ missing two up gave opens) = child_opens k parent block plain (nothing_held k) two (file_opened (parent_of k) parent up) (file_block files name these of_files k block gave) opens
 
-  file_fails : (k : ℕ) (kind : Kind) → Fails (Held s) (Given name these) (root_in s) k kind → Fails NothingHeld (BlockOf (contents (files name))) (root_in s) k kind
+  pub file_fails : (k : ℕ) (kind : Kind) → Fails (Held s) (Given name these) (root_in s) k kind → Fails NothingHeld (BlockOf (contents (files name))) (root_in s) k kind
   file_fails k kind (is_short block missing gave short is) = is_short block (nothing_held k) (file_block files name these of_files k block gave) short is
   file_fails k kind (root_fails block missing one gave fails is) = root_fails block (nothing_held k) one (file_block files name these of_files k block gave) fails is
   file_fails k kind (child_fails parent block missing two up gave fails is) = child_fails parent block (nothing_held k) two (file_opened (parent_of k) parent up) (file_block files name these of_files k block gave) fails is
