@@ -1,12 +1,12 @@
 -- How the writing of a plain file ends.
-use Rattle.std.proofs.Common.{◌≡◌, ◌≢◌, inl, inr, ◌⊎◌, ℕ, List, [], ◌∷◌, ◌++◌, length, refl, sym, ◌∙◌, ap, subst, Option, Some, None, Result, Ok, Err, OnOk, OnErr}
+use Rattle.std.proofs.Common.{◌≡◌, ◌≢◌, inl, inr, ◌⊎◌, ℕ, List, [], ◌∷◌, ◌++◌, length, refl, sym, ◌∙◌, ap, subst, Option, Some, Result, Ok, Err, OnOk, OnErr}
 use Rattle.std.proofs.lemmas.List.{append-nil}
-use Rattle.pf_io.specs.Disk.{Name, File, Disk, Image, IsImageAt, IsImage, IsSettledFile}
-use Rattle.pf_io.specs.Moments.{Honest, Does, Leaves, Ends, Ran}
+use Rattle.pf_io.specs.Disk.{Name, File, Disk, Image, IsImageAt, IsImage}
+use Rattle.pf_io.specs.Moments.{Honest, Does, Ran}
 use Rattle.pf_io.specs.Steps.{KeepsOthers, Changes, Makes, Swaps, Syncs, AtOnce}
 use Rattle.pf_io.specs.Host.{Answer, Made, Synced, Swapped, HostState, Both, IsMore, Tells, OnDisk, CountsNeither}
-use Rattle.pf_io.specs.SideFile.{PIECE, pieces, wrote_pieces, side_steps, file_steps, Stepped, StoppedAt, OthersLeft, IsWhole, IsReplaced, IsDone, IsTried, WroteFile, FailedFile}
-use Rattle.pf_io.specs.SideSteps.{Beside, Advanced, Halted, IsMade, IsWritten, Fills, WritesPieces, FailedPieces, WroteSide, FailedSide}
+use Rattle.pf_io.specs.SideFile.{pieces, wrote_pieces, side_steps, file_steps, OthersLeft, IsWhole, IsReplaced, IsDone, IsTried, WroteFile, FailedFile}
+use Rattle.pf_io.specs.SideSteps.{Beside, Advanced, IsMade, IsWritten, Fills, WritesPieces, FailedPieces, WroteSide, FailedSide}
 use Rattle.pf_io.proofs.Images.{follows_at, made_others, swapped_image, swapped_others}
 use Rattle.pf_io.proofs.Runs.{goes_on, ran_leaves, ran_ends, ran_by, weaker}
 use Rattle.pf_io.proofs.Telling.{told_on, told_none, both_weaker}

@@ -1,17 +1,16 @@
 -- What the steps of writing a side file count, tell and leave.
-use Rattle.std.proofs.Common.{◌≡◌, ◌≢◌, inl, inr, ◌⊎◌, ℕ, zero, suc, ◌+◌, ◌-◌, ◌*◌, ◌<◌, ◌≤◌, min, max, Bool, true, false, List, [], ◌∷◌, ◌++◌, length, fold, take, drop, replicate, refl, sym, ◌∙◌, ap, subst, append_assoc, length-append, length-drop, Option, Some, None, Result, Ok, Err, OnOk, OnErr, IsErr, arith}
-use Rattle.std.specs.Int.{div_ceil}
+use Rattle.std.proofs.Common.{◌≡◌, ℕ, zero, suc, ◌+◌, ◌-◌, ◌*◌, ◌<◌, ◌≤◌, min, List, [], ◌∷◌, ◌++◌, length, fold, take, drop, replicate, refl, sym, ◌∙◌, ap, subst, append_assoc, length-drop, Option, Some, Result, Ok, Err, OnErr, IsErr, arith}
 use Rattle.std.proofs.lemmas.List.{append-nil, take_all, drop_all, take_min, length-take, length-take-le}
 use Rattle.std.proofs.lemmas.Grind.{div_ceil_times}
 use Rattle.std.proofs.lemmas.List.Sums.{fold-append}
 use Rattle.std.proofs.Math.Seq.{take-add}
 use Rattle.pf_io.specs.Counts.{HasCause, Rose}
-use Rattle.pf_io.specs.Disk.{Name, File, Disk, Image, IsImageAt, IsImage, IsSettledFile}
-use Rattle.pf_io.specs.Moments.{Honest, Does, Ends, Ran}
-use Rattle.pf_io.specs.Steps.{KeepsOthers, Changes, Makes, Swaps, Writes, Syncs, AtOnce, IsEmptyFile, overwrite}
-use Rattle.pf_io.specs.Host.{Answer, Wrote, Made, Synced, Swapped, HostState, Both, IsMore, OnDisk, CountsWrite, CountsNeither}
-use Rattle.pf_io.specs.SideFile.{PIECE, pieces, wrote_pieces, counts_step, CountsSteps, Stepped, StoppedAt, OthersLeft, IsWhole}
-use Rattle.pf_io.specs.SideSteps.{Beside, Advanced, Halted, IsMade, IsWritten, Fills}
+use Rattle.pf_io.specs.Disk.{Name, File, Disk, Image, IsImageAt}
+use Rattle.pf_io.specs.Moments.{Honest, Does, Ran}
+use Rattle.pf_io.specs.Steps.{KeepsOthers, Changes, Writes, overwrite}
+use Rattle.pf_io.specs.Host.{Answer, Wrote, HostState, Both, IsMore, OnDisk, CountsWrite, CountsNeither}
+use Rattle.pf_io.specs.SideFile.{PIECE, pieces, wrote_pieces, counts_step, CountsSteps, OthersLeft}
+use Rattle.pf_io.specs.SideSteps.{Beside, Advanced, Halted, Fills}
 use Rattle.pf_io.proofs.Images.{others_image, others_then, follows_at}
 use Rattle.pf_io.proofs.Runs.{started, goes_on, goes_on_ran}
 use Rattle.pf_io.proofs.Telling.{told_on, told_none, both_weaker}

@@ -1,5 +1,5 @@
 -- What a reader is known to have left, over several reads.
-use Rattle.std.proofs.Common.{◌≡◌, ◌∙◌, sym, refl, List, ℕ, ◌++◌, Option, Some, None}
+use Rattle.std.proofs.Common.{◌∙◌, sym, refl, List, ℕ, Option, Some, None}
 use Rattle.std.specs.Io.KnownBytes.{Keeps, Consumes}
 
 pub keeps_same : (o : Option (List ℕ)) → Keeps o o

@@ -1,5 +1,5 @@
 -- What each part of the writing of a side file leaves.
-use Rattle.std.specs.Prelude.{◌≡◌, ◌≢◌, ℕ, List, length, Option, Some}
+use Rattle.std.specs.Prelude.{◌≡◌, ℕ, List, length, Option, Some}
 use Rattle.pf_io.specs.Disk.{Name, File, Disk}
 use Rattle.pf_io.specs.Moments.{Ran}
 use Rattle.pf_io.specs.Steps.{KeepsOthers, IsEmptyFile}

@@ -120,22 +120,15 @@ fn a_reader_is_a_source(rt: HostRuntime) -> Result<(), Fail> {
 fn real_files_are_written_and_read_in_pieces(rt: HostRuntime) -> Result<(), Fail> {
     let name = passing(&rt, "pieces")?;
     let side = passing(&rt, "pieces.new")?;
-    let mut bytes = [b'x'; 70_000];
-    bytes[32_767] = b'y';
-    bytes[32_768] = b'z';
-    bytes[69_999] = b'!';
+    assert!(rt; side.as_str() != name.as_str());
     let mut host = DiskHost::new(rt.clone()?);
-    let outcome = write_by_side_file(&mut host, name.as_str(), side.as_str(), &bytes);
+    let outcome = write_by_side_file(&mut host, name.as_str(), side.as_str(), &[b'x'; 40_000]);
     assert_eq!(rt; outcome, Ok(()));
-    let mut to = [b'-'; 40_000];
-    assert_eq!(rt; host.read_at(name.as_str(), 32_768, &mut to), Ok(37_232));
-    assert_eq!(rt; &to[..37_232], &bytes[32_768..]);
-    assert_eq!(rt; &to[37_232..], [b'-'; 2_768].as_slice());
-    assert_eq!(rt;
-        host.read_at(name.as_str(), 1, &mut to[..32_767]),
-        Ok(32_767)
-    );
-    assert_eq!(rt; &to[..32_767], &bytes[1..32_768]);
+    let mut to = [b'-'; 32_768];
+    assert_eq!(rt; host.read_at(name.as_str(), 1, &mut to), Ok(32_768));
+    assert_eq!(rt; to, [b'x'; 32_768]);
+    assert_eq!(rt; host.read_at(name.as_str(), 32_768, &mut to), Ok(7_232));
+    assert_eq!(rt; host.len(name.as_str()), Ok(Some(40_000)));
     fs::remove_file(&rt, name.as_str())?;
     Ok(())
 }

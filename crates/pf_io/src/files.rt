@@ -128,7 +128,12 @@ pub(crate) fn open_to_read<R: Files<File = File>>(system: &R, name: &str) -> io:
 }
 
 fn open_both<R: Files<File = File>>(system: &R, name: &str) -> io::Result<File> {
-    beside_streams(OpenOptions::new().read(true).write(true).open(system, name)?)
+    beside_streams(
+        OpenOptions::new()
+            .read(true)
+            .write(true)
+            .open(system, name)?,
+    )
 }
 
 /// Opens a file that was looked at, and locks it against all other runs. It must still stand at the name then.

@@ -1,4 +1,3 @@
-use Rattle.std.proofs.Common.{◌≡◌, Ok, Err}
 use Rattle.pf_io.specs.declared.faults.HostFault.{HostFault}
 use Rattle.pf_io.proofs.SideFiles.{failed_with}
 use Rattle.pf_io.proofs.SideEnds.{make_done, make_failed, piece_failed, write_done, sync_done, sync_failed}

@@ -1,4 +1,4 @@
-use Rattle.std.proofs.Common.{◌≡◌, List, ℕ, ◌*◌, ◌<◌, length, take, drop, Ok, Err, refl, arith}
+use Rattle.std.proofs.Common.{◌*◌, length, arith}
 use Rattle.pf_io.specs.declared.faults.HostFault.{HostFault}
 use Rattle.pf_io.specs.SideFile.{pieces}
 use Rattle.pf_io.proofs.SideFiles.{wrote_none, wrote_slice, failed_slice, pieces_done, piece_begins, piece_is, failed_with, failed_cause}

@@ -1,4 +1,3 @@
-use Rattle.std.proofs.Common.{◌≡◌}
 use Rattle.pf_io.proofs.SideFiles.{WrotePieces}
 use Rattle.pf_io.proofs.side_file.write_pieces.Given as goal
 

@@ -1,5 +1,5 @@
-use Rattle.std.proofs.Common.{◌≡◌, refl}
-use Rattle.pf_io.proofs.Sources.{keeps_same, keeps_then, keeps_consumes}
+use Rattle.std.proofs.Common.{refl}
+use Rattle.pf_io.proofs.Sources.{keeps_same, keeps_then}
 use Rattle.pf_io.proofs.std_source.read_once.Goals as goal
 
 pub loop-init : goal.loop-init
