@@ -1,0 +1,7 @@
+pub mod Lines
+pub mod Hexadecimal
+pub mod Words
+pub mod Pages
+pub mod Layouts
+pub mod Records
+pub mod Measuring
