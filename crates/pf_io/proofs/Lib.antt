@@ -13,3 +13,4 @@ mod Reading
 mod Filling
 mod Faulted
 mod Crashed
+mod Numbering

@@ -1,6 +1,7 @@
 pub mod Lending
 pub mod Counts
 pub mod Names
+pub mod Numbers
 pub mod Disk
 pub mod Moments
 pub mod Steps

@@ -1,6 +1,6 @@
 use crate::{
     Bytes, Host, HostFault, ListWords, MemHost, MemSink, MemSource, Sink, Source, StreamFault,
-    Text, Words, WordsFault, is_name, is_target,
+    Text, Words, WordsFault, is_name, is_target, read_number,
 };
 use std::test::Fail;
 
@@ -54,6 +54,30 @@ fn a_protected_file_may_not_have_each_name(rt: HostRuntime) {
     ] {
         assert_eq!(rt; is_target(name), want, "{name}");
     }
+}
+
+#[test]
+fn numbers_have_no_sign_and_no_leading_zero(rt: HostRuntime) {
+    for (text, want) in [
+        ("0", Some(0)),
+        ("7", Some(7)),
+        ("4096", Some(4096)),
+        ("18446744073709551615", Some(u64::MAX)),
+        ("18446744073709551616", None),
+        ("99999999999999999999", None),
+        ("", None),
+        ("00", None),
+        ("07", None),
+        ("+7", None),
+        ("-7", None),
+        ("7 ", None),
+        ("7_0", None),
+        ("0x7", None),
+        ("\u{0667}", None),
+    ] {
+        assert_eq!(rt; read_number(text.as_bytes()), want, "{text}");
+    }
+    assert_eq!(rt; read_number(&[0xff]), None);
 }
 
 #[test]
