@@ -1,10 +1,11 @@
 -- Hexadecimal numbers, digit by digit.
 use Rattle.std.proofs.Common.{◌≡◌, ◌∙◌, ℕ, suc, zero, ◌+◌, ◌*◌, ◌-◌, ◌^◌, ◌<◌, ◌≤◌, List, length, take, get_or, true, refl, sym, ap, arith, subst, add-one}
 use Rattle.std.proofs.lemmas.List.Sums.{fold_more}
+use native.Mathlib.Numerals.{unary_clauses}
 use Rattle.enclave_measure.specs.Hexadecimal.{digit_value, hex_value}
 
 pow_suc : (i : ℕ) → 16 ^ (i + 1) ≡ 16 * 16 ^ i
-pow_suc i = rw (add-one) refl
+pow_suc i = rw add-one (simp unary_clauses (omega arith))
 
 pow_grows : (i k : ℕ) → 16 ^ i ≤ 16 ^ (i + k)
 pow_grows i zero = omega (arith, ap (λ n. 16 ^ n) (let e : i + 0 ≡ i = omega arith in e))

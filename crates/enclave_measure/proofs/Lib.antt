@@ -1,2 +1,7 @@
 pub mod Digits
 pub mod Cutting
+pub mod Wording
+pub mod Forming
+pub mod Listing
+pub mod Unique
+pub mod OneOutcome

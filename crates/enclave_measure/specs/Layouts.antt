@@ -5,11 +5,7 @@ use Rattle.enclave_measure.specs.declared.page.Page.{Page}
 use Rattle.enclave_measure.specs.declared.fault.LayoutFault.{LayoutFault}
 use Rattle.enclave_measure.specs.declared.fault.LayoutFault.TheVariants as faults
 use Rattle.enclave_measure.specs.Lines.{Line, lines_of, read_lines}
-use Rattle.enclave_measure.specs.Pages.{PAGE, Listed, IsEnclaveLine, IsSize, IsPageLine}
-
--- the page lies in an enclave of this size
-abbrev pub IsInside : ℕ → Page → Type 0
-IsInside size page = page.offset + PAGE ≤ size
+use Rattle.enclave_measure.specs.Pages.{PAGE, Listed, IsInside, IsEnclaveLine, IsSize, IsPageLine}
 
 -- a page has this offset
 abbrev pub has_offset : ℕ → List Page → Bool
@@ -29,24 +25,29 @@ pub record ListPages (size : ℕ) (lines : List Line) (pages : List Page) : Type
   pub inside : AllByRecursion (IsInside size) pages
   pub apart : AreApart pages
 
--- why the line that is to be the first is refused
-abbrev pub RefusesEnclave : Line → LayoutFault → Type 0
-RefusesEnclave line (faults.BadLine number) = (number ≡ line.0) × ((size ssa : ℕ) → ¬ (IsEnclaveLine line.1 size ssa))
-RefusesEnclave line (faults.BadSize number) = (number ≡ line.0) × ((size ssa : ℕ) × IsEnclaveLine line.1 size ssa × ¬ (IsSize size))
-RefusesEnclave line (faults.OutOfRange number) = ⊥
-RefusesEnclave line (faults.Repeated number) = ⊥
-RefusesEnclave line faults.Memory = ⊥
+-- why the first line that is read is refused
+pub data RefusesEnclave (line : Line) (fault : LayoutFault) : Type 0 where
+  NoEnclaveLine : ((size ssa : ℕ) → ¬ (IsEnclaveLine line.1 size ssa)) → fault ≡ faults.BadLine line.0 → RefusesEnclave line fault
+  NoSize : (size ssa : ℕ) → IsEnclaveLine line.1 size ssa → ¬ (IsSize size) → fault ≡ faults.BadSize line.0 → RefusesEnclave line fault
 
 -- why a line after those of some pages is refused
-abbrev pub RefusesPage : ℕ → List Page → Line → LayoutFault → Type 0
-RefusesPage size earlier line (faults.BadLine number) = (number ≡ line.0) × ((page : Page) → ¬ (IsLineOf line page))
-RefusesPage size earlier line (faults.BadSize number) = ⊥
-RefusesPage size earlier line (faults.OutOfRange number) = (number ≡ line.0) × ((page : Page) × IsLineOf line page × (size < page.offset + PAGE))
-RefusesPage size earlier line (faults.Repeated number) = (number ≡ line.0) × ((page : Page) × IsLineOf line page × IsInside size page × (has_offset page.offset earlier ≡ true))
-RefusesPage size earlier line faults.Memory = ⊥
+pub data RefusesPage (size : ℕ) (earlier : List Page) (line : Line) (fault : LayoutFault) : Type 0 where
+  NoPageLine : ((page : Page) → ¬ (IsPageLine line.1 page)) → fault ≡ faults.BadLine line.0 → RefusesPage size earlier line fault
+  Outside : (page : Page) → IsPageLine line.1 page → size < page.offset + PAGE → fault ≡ faults.OutOfRange line.0 → RefusesPage size earlier line fault
+  Again : (page : Page) → IsPageLine line.1 page → IsInside size page → has_offset page.offset earlier ≡ true → fault ≡ faults.Repeated line.0 → RefusesPage size earlier line fault
 
--- The text lists a layout; or it has no lines that are read, and is refused after its last line; or its first line that
--- is read is refused, or the first of the others that is.
+-- the first of the lines that is refused, after those of some pages
+pub record FirstRefused (size : ℕ) (lines : List Line) (fault : LayoutFault) : Type 0 where
+  pub front : List Line
+  pub line : Line
+  pub others : List Line
+  pub pages : List Page
+  pub whole : lines ≡ front ++ line ∷ others
+  pub listed : ListPages size front pages
+  pub refused : RefusesPage size pages line fault
+
+-- The text lists a layout; or none of its lines is read, and it is refused after the last one; or the first line that is
+-- read is refused, or the first of the others that is.
 pub data ReadsTo (text : List ℕ) (outcome : Result Listed LayoutFault) : Type 0 where
   Whole : (first : Line) (lines : List Line) (size ssa : ℕ) (pages : List Page)
       → read_lines text ≡ first ∷ lines → IsEnclaveLine first.1 size ssa → IsSize size → ListPages size lines pages
@@ -54,6 +55,6 @@ pub data ReadsTo (text : List ℕ) (outcome : Result Listed LayoutFault) : Type 
   NoLines : read_lines text ≡ [] → outcome ≡ Err (faults.BadLine (length (lines_of text) + 1)) → ReadsTo text outcome
   NoEnclave : (first : Line) (lines : List Line) (fault : LayoutFault)
       → read_lines text ≡ first ∷ lines → RefusesEnclave first fault → outcome ≡ Err fault → ReadsTo text outcome
-  NoPage : (first : Line) (front : List Line) (line : Line) (others : List Line) (size ssa : ℕ) (pages : List Page) (fault : LayoutFault)
-      → read_lines text ≡ first ∷ (front ++ line ∷ others) → IsEnclaveLine first.1 size ssa → IsSize size → ListPages size front pages
-      → RefusesPage size pages line fault → outcome ≡ Err fault → ReadsTo text outcome
+  NoPage : (first : Line) (lines : List Line) (size ssa : ℕ) (fault : LayoutFault)
+      → read_lines text ≡ first ∷ lines → IsEnclaveLine first.1 size ssa → IsSize size → FirstRefused size lines fault
+      → outcome ≡ Err fault → ReadsTo text outcome

@@ -1,5 +1,5 @@
 -- What a measurement asks of a host, and what it comes to.
-use Rattle.std.specs.Prelude.{◌≡◌, ◌≢◌, ◌⊎◌, ℕ, ◌≤◌, Bool, true, if◌then◌else◌, List, [], ◌∷◌, ◌++◌, length, take, drop, map, Option, Some, None, slice_get, Result, Ok, Err, ⊤}
+use Rattle.std.specs.Prelude.{◌≡◌, ◌≢◌, ◌⊎◌, ℕ, ◌≤◌, Bool, true, false, if◌then◌else◌, List, [], ◌∷◌, ◌++◌, length, take, drop, map, Option, Some, None, slice_get, Result, Ok, Err, ⊤}
 use Rattle.std.specs.List.{AllByRecursion}
 use Rattle.pf_io.specs.Counts.{HasCause}
 use Rattle.pf_io.specs.Host.{Name, Files, Answer, LengthWas, Gave, contents}
@@ -27,9 +27,13 @@ abbrev pub SourceGives : Source → List Answer → List ℕ → Type 0
 SourceGives sources.Zero these bytes = (these ≡ []) × (bytes ≡ zeros PAGE)
 SourceGives (sources.File name at) these bytes = (size : ℕ) × (given : List ℕ) × (these ≡ LengthWas name (Some size) ∷ Gave name at PAGE given ∷ []) × (length given ≤ PAGE) × (bytes ≡ padded given)
 
--- a page that isn't measured is not asked for
+-- where a page is not measured, nothing is asked for it
+abbrev pub GivesWhere : Bool → Source → List Answer → List ℕ → Type 0
+GivesWhere true source these bytes = SourceGives source these bytes
+GivesWhere false source these bytes = (these ≡ []) × (bytes ≡ [])
+
 abbrev pub PageGives : Page → List Answer → List ℕ → Type 0
-PageGives page these bytes = if page.measured then SourceGives page.source these bytes else (these ≡ []) × (bytes ≡ [])
+PageGives page these bytes = GivesWhere page.measured page.source these bytes
 
 -- so for each page, in order
 abbrev pub Gives : List Page → List Answer → List (List ℕ) → Type 0

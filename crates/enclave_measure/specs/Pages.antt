@@ -1,5 +1,5 @@
 -- The lines of an enclave layout, and the fields that they spell.
-use Rattle.std.specs.Prelude.{◌≡◌, ℕ, ◌%◌, ◌^◌, ◌<◌, ◌≤◌, Bool, true, if◌then◌else◌, List, [], ◌∷◌, IsTrue, codes}
+use Rattle.std.specs.Prelude.{◌≡◌, ℕ, ◌+◌, ◌%◌, ◌^◌, ◌<◌, ◌≤◌, Bool, true, if◌then◌else◌, List, [], ◌∷◌, IsTrue, codes}
 use Rattle.std.specs.Int.{is_power_of_two}
 use Rattle.std.specs.Str.{IsUtf8}
 use Rattle.pf_io.specs.Names.{IsName}
@@ -23,14 +23,21 @@ pub record Listed : Type 0 where
   pub ssa : ℕ
   pub pages : List Page
 
+-- the page lies in an enclave of this size
+abbrev pub IsInside : ℕ → Page → Type 0
+IsInside size page = page.offset + PAGE ≤ size
+
 -- `enclave SIZE SSA`
-pub record IsEnclaveLine (line : List ℕ) (size ssa : ℕ) : Type 0 where
+pub record AreEnclaveWords (words : List (List ℕ)) (size ssa : ℕ) : Type 0 where
   pub size_word : List ℕ
   pub ssa_word : List ℕ
-  pub words : words_of line ≡ codes "enclave" ∷ size_word ∷ ssa_word ∷ []
+  pub form : words ≡ codes "enclave" ∷ size_word ∷ ssa_word ∷ []
   pub size_is : IsHex size_word size
   pub ssa_is : Spells ssa_word ssa
   pub ssa_fits : ssa < 2 ^ 32
+
+abbrev pub IsEnclaveLine : List ℕ → ℕ → ℕ → Type 0
+IsEnclaveLine line size ssa = AreEnclaveWords (words_of line) size ssa
 
 -- a power of two from 0x1000 to 2^40
 pub record IsSize (size : ℕ) : Type 0 where
@@ -73,12 +80,15 @@ pub record AreFields (offset_word access_word kind_word extent_word : List ℕ) 
   pub allowed : IsAllowed offset permissions page_type
 
 -- `page OFFSET PERMS TYPE MEASURED SOURCE`
-pub record IsPageLine (line : List ℕ) (page : Page) : Type 0 where
+pub record ArePageWords (words : List (List ℕ)) (page : Page) : Type 0 where
   pub offset_word : List ℕ
   pub access_word : List ℕ
   pub kind_word : List ℕ
   pub extent_word : List ℕ
   pub source_words : List (List ℕ)
-  pub words : words_of line ≡ codes "page" ∷ offset_word ∷ access_word ∷ kind_word ∷ extent_word ∷ source_words
+  pub form : words ≡ codes "page" ∷ offset_word ∷ access_word ∷ kind_word ∷ extent_word ∷ source_words
   pub fields : AreFields offset_word access_word kind_word extent_word page.offset page.permissions page.page_type page.measured
   pub source : IsSource source_words page.source
+
+abbrev pub IsPageLine : List ℕ → Page → Type 0
+IsPageLine line page = ArePageWords (words_of line) page

@@ -44,6 +44,14 @@ impl From<AllocError> for LayoutFault {
     }
 }
 
+impl<T: Drop> From<AllocFailed<T>> for LayoutFault {
+    ghost from_gives = { λ _ fault. fault ≡ NoMemory };
+
+    fn from(_: AllocFailed<T>) -> Self {
+        LayoutFault::Memory
+    }
+}
+
 /// Why a layout is not measured.
 #[derive(Debug, Drop, Error)]
 pub enum MeasureFault {

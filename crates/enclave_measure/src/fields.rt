@@ -84,6 +84,7 @@ fn is_allowed(offset: u64, permissions: Permissions, page_type: PageType) -> boo
 }
 
 /// What stands between `page` and the source.
+#[derive(Clone, Copy)]
 pub(crate) struct Fields {
     pub offset: u64,
     pub permissions: Permissions,

@@ -4,8 +4,11 @@
 mod fault;
 mod fields;
 mod hexadecimal;
+mod layout;
 mod lines;
 mod page;
+mod reading;
 mod words;
 
 pub use fault::{LayoutFault, MeasureFault};
+pub use layout::Layout;
