@@ -53,3 +53,16 @@ read_first before text line rest lines kept = rw (lines, add-one) (ap (λ b. con
 -- one that is skipped
 pub skip_first : (before : ℕ) (text line rest : List ℕ) → lines_of text ≡ line ∷ lines_of rest → is_skipped line ≡ true → read_after before text ≡ read_after (before + 1) rest
 skip_first before text line rest lines skipped = rw (lines, add-one) (ap (λ b. cond (not b) ((suc before, line) ∷ read_after (suc before) rest) (read_after (suc before) rest)) skipped)
+
+first_adds : (byte : ℕ) (lines : List (List ℕ)) → length (onto_first byte lines) ≤ length lines + 1
+first_adds byte [] = omega arith
+first_adds byte (line ∷ lines) = omega arith
+
+either_few : (b : Bool) (byte n : ℕ) (lines : List (List ℕ)) → length lines ≤ n → length (cond b ([] ∷ lines) (onto_first byte lines)) ≤ n + 1
+either_few true byte n lines few = omega (arith, few)
+either_few false byte n lines few = omega (arith, few, first_adds byte lines)
+
+-- there are no more lines than bytes
+pub lines_few : (text : List ℕ) → length (lines_of text) ≤ length text
+lines_few [] = omega arith
+lines_few (byte ∷ text) = omega (arith, either_few (byte == LINE_FEED) byte (length text) (lines_of text) (lines_few text))

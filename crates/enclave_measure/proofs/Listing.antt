@@ -1,5 +1,5 @@
 -- Lines and the pages that they list, one by one.
-use Rattle.std.proofs.Common.{rules, ◌≡◌, ◌≢◌, ◌∙◌, ◌⊎◌, ℕ, ◌+◌, ◌<◌, ◌≤◌, ◌==◌, ◌||◌, Bool, true, false, List, [], ◌∷◌, ◌++◌, length, refl, sym, ap, arith, subst}
+use Rattle.std.proofs.Common.{rules, ◌≡◌, ◌≢◌, ◌∙◌, ◌⊎◌, inl, inr, ℕ, ◌+◌, ◌<◌, ◌≤◌, ◌==◌, ◌||◌, Bool, true, false, List, [], ◌∷◌, ◌++◌, length, refl, sym, ap, arith, subst}
 use Rattle.std.specs.List.{AllByRecursion, AllZip, list_any}
 use Rattle.std.specs.BTreeSet.{BTreeSet}
 use Rattle.std.proofs.Math.Bool.{or-false}
@@ -7,9 +7,11 @@ use Rattle.std.proofs.lemmas.Bool.{eqb-false}
 use Rattle.std.proofs.lemmas.List.{append_assoc}
 use Rattle.std.proofs.lemmas.List.Folds.{list_any-append}
 use Rattle.enclave_measure.specs.declared.page.Page.{Page}
+use Rattle.enclave_measure.specs.declared.fault.LayoutFault.{LayoutFault}
+use Rattle.enclave_measure.specs.declared.fault.LayoutFault.TheVariants as faults
 use Rattle.enclave_measure.specs.Lines.{Line, read_after}
 use Rattle.enclave_measure.specs.Pages.{IsInside, IsPageLine}
-use Rattle.enclave_measure.specs.Layouts.{has_offset, AreApart, IsLineOf, ListPages}
+use Rattle.enclave_measure.specs.Layouts.{has_offset, AreApart, IsLineOf, ListPages, RefusesPage, Again, FirstRefused}
 use Rattle.enclave_measure.specs.Collecting.{Tracks}
 
 zip_push : (lines : List Line) (pages : List Page) (line : Line) (page : Page) → AllZip IsLineOf lines pages → IsLineOf line page → AllZip IsLineOf (lines ++ line ∷ []) (pages ++ page ∷ [])
@@ -74,3 +76,28 @@ collects_more size text before rest number pages new offsets offsets' line behin
   tracks = tracks;
   fits = omega (arith, fits, so_far.fits);
 }
+
+-- the line at which a reader stops is the first that is refused
+stopped : (size : ℕ) (text : List ℕ) (before : ℕ) (rest : List ℕ) (number : ℕ) (pages : List Page) (offsets : BTreeSet ℕ) (line : Line) (others : List Line) (fault : LayoutFault)
+    → Collects size text before rest number pages offsets → read_after number rest ≡ line ∷ others → RefusesPage size pages line fault → FirstRefused size (read_after before text) fault
+stopped size text before rest number pages offsets line others fault so_far first refused = record {
+  front = so_far.front;
+  line = line;
+  others = others;
+  pages = pages;
+  whole = so_far.whole ∙ ap (λ (ls : List Line). so_far.front ++ ls) first;
+  listed = so_far.listed;
+  refused = refused;
+}
+
+pub stopped_taking : (size : ℕ) (text : List ℕ) (before : ℕ) (rest : List ℕ) (number : ℕ) (pages : List Page) (offsets : BTreeSet ℕ) (line : Line) (others : List Line) (fault : LayoutFault)
+    → Collects size text before rest number pages offsets → read_after number rest ≡ line ∷ others → (fault ≡ faults.Memory) ⊎ ((earlier : List Page) → RefusesPage size earlier line fault)
+    → (fault ≡ faults.Memory) ⊎ FirstRefused size (read_after before text) fault
+stopped_taking size text before rest number pages offsets line others fault so_far first (inl want) = inl want
+stopped_taking size text before rest number pages offsets line others fault so_far first (inr refused) = inr (stopped size text before rest number pages offsets line others fault so_far first (refused pages))
+
+pub stopped_adding : (size : ℕ) (text : List ℕ) (before : ℕ) (rest : List ℕ) (number : ℕ) (pages : List Page) (offsets : BTreeSet ℕ) (line : Line) (others : List Line) (page : Page) (fault : LayoutFault)
+    → Collects size text before rest number pages offsets → read_after number rest ≡ line ∷ others → IsPageLine line.1 page → IsInside size page
+    → (fault ≡ faults.Memory) ⊎ ((fault ≡ faults.Repeated line.0) × (has_offset page.offset pages ≡ true)) → (fault ≡ faults.Memory) ⊎ FirstRefused size (read_after before text) fault
+stopped_adding size text before rest number pages offsets line others page fault so_far first is inside (inl want) = inl want
+stopped_adding size text before rest number pages offsets line others page fault so_far first is inside (inr again) = inr (stopped size text before rest number pages offsets line others fault so_far first (Again page is inside again.1 again.0))

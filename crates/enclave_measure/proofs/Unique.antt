@@ -37,12 +37,18 @@ letter_one letter other false false same = refl
 letter_one letter other true false same = absurd (other same)
 letter_one letter other false true same = absurd (other (sym same))
 
+abbrev made : Bool → Bool → Bool → Permissions
+made read write execute = record { read = read; write = write; execute = execute }
+
+made_same : (a a' b b' c c' : Bool) → a ≡ a' → b ≡ b' → c ≡ c' → made a b c ≡ made a' b' c'
+made_same a a' b b' c c' one two three = rw (one, two, three) refl
+
 permissions_one : (p q : Permissions) → permissions_word p ≡ permissions_word q → p ≡ q
 permissions_one p q same =
     let read = letter_one 114 (λ e. omega (arith, e)) p.read q.read (ap (λ (w : List ℕ). get_or w 0 0) same) in
     let write = letter_one 119 (λ e. omega (arith, e)) p.write q.write (ap (λ (w : List ℕ). get_or w 1 0) same) in
     let execute = letter_one 120 (λ e. omega (arith, e)) p.execute q.execute (ap (λ (w : List ℕ). get_or w 2 0) same) in
-    cc
+    made_same p.read q.read p.write q.write p.execute q.execute read write execute
 
 type_one : (a b : PageType) → type_word a ≡ type_word b → a ≡ b
 type_one types.Tcs types.Tcs same = refl
@@ -66,6 +72,12 @@ source_one words (sources.File name at) (sources.File name' at') one two =
 source_one words sources.Zero (sources.File name at) one two = absurd (omega (arith, ap (λ (ws : List (List ℕ)). length ws) (sym one ∙ two.1)))
 source_one words (sources.File name at) sources.Zero one two = absurd (omega (arith, ap (λ (ws : List (List ℕ)). length ws) (sym one.1 ∙ two)))
 
+abbrev page_of : ℕ → Permissions → PageType → Bool → Source → Page
+page_of offset permissions page_type measured source = record { offset = offset; permissions = permissions; page_type = page_type; measured = measured; source = source }
+
+page_same : (a a' : ℕ) (b b' : Permissions) (c c' : PageType) (d d' : Bool) (e e' : Source) → a ≡ a' → b ≡ b' → c ≡ c' → d ≡ d' → e ≡ e' → page_of a b c d e ≡ page_of a' b' c' d' e'
+page_same a a' b b' c c' d d' e e' one two three four five = rw (one, two, three, four, five) refl
+
 pub page_one : (words : List (List ℕ)) (p q : Page) → ArePageWords words p → ArePageWords words q → p ≡ q
 page_one words p q one two =
     let same = sym one.form ∙ two.form in
@@ -74,7 +86,7 @@ page_one words p q one two =
     let page_type = type_one p.page_type q.page_type (sym one.fields.type_is ∙ word_at 3 _ _ same ∙ two.fields.type_is) in
     let measured = measured_one p.measured q.measured (sym one.fields.measured_is ∙ word_at 4 _ _ same ∙ two.fields.measured_is) in
     let source = source_one two.source_words p.source q.source (subst (λ ws. IsSource ws p.source) (ap (λ (ws : List (List ℕ)). drop 5 ws) same) one.source) two.source in
-    cc
+    page_same p.offset q.offset p.permissions q.permissions p.page_type q.page_type p.measured q.measured p.source q.source offset permissions page_type measured source
 
 pub pages_one : (lines : List Line) (pages others : List Page) → AllZip IsLineOf lines pages → AllZip IsLineOf lines others → pages ≡ others
 pages_one [] [] [] one two = refl

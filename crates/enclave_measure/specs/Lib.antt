@@ -6,3 +6,4 @@ pub mod Layouts
 pub mod Collecting
 pub mod Records
 pub mod Measuring
+pub mod Hashing

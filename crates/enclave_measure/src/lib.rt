@@ -1,6 +1,7 @@
 //! Enclave layouts, listed as lines of text, and their measurement.
 #![tactic(auto)]
 
+mod enclave;
 mod fault;
 mod fields;
 mod hexadecimal;
@@ -8,7 +9,9 @@ mod layout;
 mod lines;
 mod page;
 mod reading;
+mod records;
 mod words;
 
 pub use fault::{LayoutFault, MeasureFault};
 pub use layout::Layout;
+pub use enclave::measure;

@@ -1,0 +1,87 @@
+// The measurement of a layout.
+ghost use Rattle.std.specs.Prelude.{◌≡◌, ◌+◌, ◌^◌, ◌≤◌, ◌++◌, true, List, ℕ, MatchResult, IfOk};
+ghost use Rattle.pf_io.specs.Counts.{HasCause};
+ghost use Rattle.pf_io.specs.Host.{KeepsFiles, OnHonest};
+ghost use Rattle.pf_io.specs.Answered.{Came};
+ghost use Rattle.pf_io.specs.Unchanged.{KeepsDisk};
+ghost use Rattle.sha2.specs.Hashers.{Holds256};
+ghost use Rattle.enclave_measure.specs.Records.{extensions, page_records};
+ghost use Rattle.enclave_measure.specs.Pages.{PAGE};
+ghost use Rattle.enclave_measure.specs.Measuring.{Measures, MeasuresFiles, host_part};
+ghost use Rattle.enclave_measure.specs.Hashing.{Asking, SourceEnds, PageEnds};
+
+use crate::page::{Page, Source};
+use crate::records::{addition, creation, extension_head};
+use crate::{Layout, MeasureFault};
+use pf_io::Host;
+use sha2::{Digest, Sha256};
+
+// The bytes of a source, for the page at a place.
+fn read_bytes<H: Host>(
+    host: &mut H,
+    place: usize,
+    source: &Source,
+) -> Result<[u8; 4096], MeasureFault>
+    ensures asking { Asking result (H.state host.old) (H.state host.new) }
+    ensures ends { SourceEnds result place source.now (H.state host.old) (H.state host.new) }
+{
+    let mut bytes = [0; 4096];
+    if let Source::File { name, at } = source {
+        let name = name.as_str();
+        if host.len(name)?.is_none() {
+            return Err(MeasureFault::NotFound { page: place });
+        }
+        host.read_at(name, *at as u64, &mut bytes)?;
+    }
+    Ok(bytes)
+}
+
+// Hashes the EEXTEND records of a page's bytes.
+fn extend(hasher: &mut Sha256, offset: u64, bytes: &[u8; 4096])
+    requires { offset + PAGE ≤ 2 ^ 40 }
+    ensures { (message : List ℕ) → Holds256 hasher.old message → Holds256 hasher.new (message ++ extensions 16 offset bytes.now) }
+{
+    for (i, chunk) in bytes.as_chunks::<256>().0.iter().enumerate() {
+        hasher.update(&extension_head(offset + 256 * i as u64));
+        hasher.update(chunk);
+    }
+}
+
+// Hashes the records of the page at a place.
+fn hash_page<H: Host>(
+    hasher: &mut Sha256,
+    host: &mut H,
+    place: usize,
+    page: &Page,
+) -> Result<(), MeasureFault>
+    requires { page.now.offset + PAGE ≤ 2 ^ 40 }
+    ensures asking { Asking result (H.state host.old) (H.state host.new) }
+    ensures ends { PageEnds result place page.now (Holds256 hasher.old) (Holds256 hasher.new) (H.state host.old) (H.state host.new) }
+{
+    hasher.update(&addition(page));
+    if page.measured {
+        let bytes = read_bytes(host, place, &page.source)?;
+        extend(hasher, page.offset, &bytes);
+    }
+    Ok(())
+}
+
+/// The measurement (MRENCLAVE) of a layout: SHA-256 of the bytes that ECREATE, EADD and EEXTEND measure.
+///
+/// The host is asked for measured pages of files alone, in order: for the length of the file, and then for 4096 bytes from
+/// its place on, with zeros past what it gave. `NotFound` names the page, counted from 0, at which the host had no length.
+/// `Host` comes where a call of the host failed. Nothing is asked after either. No memory is taken.
+pub fn measure<H: Host>(host: &mut H, layout: &Layout) -> Result<[u8; 32], MeasureFault>
+    ensures measures { Came (λ these. Measures layout.now these result) (H.state host.old) (H.state host.new) }
+    ensures honest { OnHonest (H.state host.old) (λ files. MeasuresFiles files layout.now result) }
+    ensures cause { HasCause (H.state host.old).faults (H.state host.new).faults (host_part result) }
+    ensures disk { KeepsDisk (H.state host.old) (H.state host.new) }
+    ensures files { KeepsFiles (H.state host.old) (H.state host.new) }
+{
+    let mut hasher = Sha256::new();
+    hasher.update(&creation(layout.size, layout.ssa));
+    for (place, page) in layout.pages.iter().enumerate() {
+        hash_page(&mut hasher, host, place, page)?;
+    }
+    Ok(hasher.finalize())
+}
