@@ -5,3 +5,4 @@ pub mod Forming
 pub mod Listing
 pub mod Unique
 pub mod OneOutcome
+pub mod Asked

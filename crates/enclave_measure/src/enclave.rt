@@ -5,6 +5,7 @@ ghost use Rattle.pf_io.specs.Host.{KeepsFiles, OnHonest};
 ghost use Rattle.pf_io.specs.Answered.{Came};
 ghost use Rattle.pf_io.specs.Unchanged.{KeepsDisk};
 ghost use Rattle.sha2.specs.Hashers.{Holds256};
+ghost use Rattle.enclave_measure.specs.declared.page.Source.TheVariants.{File as IsFile};
 ghost use Rattle.enclave_measure.specs.Records.{extensions, page_records};
 ghost use Rattle.enclave_measure.specs.Pages.{PAGE};
 ghost use Rattle.enclave_measure.specs.Measuring.{Measures, MeasuresFiles, host_part};
@@ -16,6 +17,28 @@ use crate::{Layout, MeasureFault};
 use pf_io::Host;
 use sha2::{Digest, Sha256};
 
+// A page has 16 chunks of 256 bytes.
+const CHUNK: usize = 256;
+const CHUNKS: usize = 16;
+
+// A page's bytes of a file, and zeros past its end, for the page at a place.
+fn read_file<H: Host>(
+    host: &mut H,
+    place: usize,
+    name: &str,
+    at: u32,
+) -> Result<[u8; 4096], MeasureFault>
+    ensures asking { Asking result (H.state host.old) (H.state host.new) }
+    ensures ends { SourceEnds result place (IsFile name.now at) (H.state host.old) (H.state host.new) }
+{
+    let Some(_) = host.len(name)? else {
+        return Err(MeasureFault::NotFound { page: place });
+    };
+    let mut bytes = [0; 4096];
+    host.read_at(name, at as u64, &mut bytes)?;
+    Ok(bytes)
+}
+
 // The bytes of a source, for the page at a place.
 fn read_bytes<H: Host>(
     host: &mut H,
@@ -25,15 +48,10 @@ fn read_bytes<H: Host>(
     ensures asking { Asking result (H.state host.old) (H.state host.new) }
     ensures ends { SourceEnds result place source.now (H.state host.old) (H.state host.new) }
 {
-    let mut bytes = [0; 4096];
-    if let Source::File { name, at } = source {
-        let name = name.as_str();
-        if host.len(name)?.is_none() {
-            return Err(MeasureFault::NotFound { page: place });
-        }
-        host.read_at(name, *at as u64, &mut bytes)?;
+    match source {
+        Source::Zero => Ok([0; 4096]),
+        Source::File { name, at } => read_file(host, place, name.as_str(), *at),
     }
-    Ok(bytes)
 }
 
 // Hashes the EEXTEND records of a page's bytes.
@@ -41,9 +59,10 @@ fn extend(hasher: &mut Sha256, offset: u64, bytes: &[u8; 4096])
     requires { offset + PAGE ≤ 2 ^ 40 }
     ensures { (message : List ℕ) → Holds256 hasher.old message → Holds256 hasher.new (message ++ extensions 16 offset bytes.now) }
 {
-    for (i, chunk) in bytes.as_chunks::<256>().0.iter().enumerate() {
-        hasher.update(&extension_head(offset + 256 * i as u64));
-        hasher.update(chunk);
+    for i in 0..CHUNKS {
+        let start = CHUNK * i;
+        hasher.update(&extension_head(offset + start as u64));
+        hasher.update(&bytes[start..start + CHUNK]);
     }
 }
 
@@ -59,10 +78,11 @@ fn hash_page<H: Host>(
     ensures ends { PageEnds result place page.now (Holds256 hasher.old) (Holds256 hasher.new) (H.state host.old) (H.state host.new) }
 {
     hasher.update(&addition(page));
-    if page.measured {
-        let bytes = read_bytes(host, place, &page.source)?;
-        extend(hasher, page.offset, &bytes);
+    if !page.measured {
+        return Ok(());
     }
+    let bytes = read_bytes(host, place, &page.source)?;
+    extend(hasher, page.offset, &bytes);
     Ok(())
 }
 
