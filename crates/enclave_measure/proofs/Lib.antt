@@ -6,3 +6,4 @@ pub mod Listing
 pub mod Unique
 pub mod OneOutcome
 pub mod Asked
+pub mod Measured

@@ -1,8 +1,8 @@
 -- What a measurement asks of a host, and what it comes to.
 use Rattle.std.specs.Prelude.{◌≡◌, ◌≢◌, ◌⊎◌, ℕ, ◌≤◌, Bool, true, false, if◌then◌else◌, List, [], ◌∷◌, ◌++◌, length, take, drop, map, Option, Some, None, slice_get, Result, Ok, Err, ⊤}
 use Rattle.std.specs.List.{AllByRecursion}
-use Rattle.pf_io.specs.Counts.{HasCause}
-use Rattle.pf_io.specs.Host.{Name, Files, Answer, LengthWas, Gave, contents}
+use Rattle.pf_io.specs.Host.{Name, Files, Answer, LengthWas, Gave, HostState, OnHonest, contents}
+use Rattle.pf_io.specs.Answered.{Came}
 use Rattle.enclave_measure.specs.declared.page.Source.{Source}
 use Rattle.enclave_measure.specs.declared.page.Source.TheVariants as sources
 use Rattle.enclave_measure.specs.declared.page.Page.{Page}
@@ -95,3 +95,11 @@ abbrev pub MeasuresFiles : Files → Listed → Result (List ℕ) MeasureFault �
 MeasuresFiles files layout (Ok measured) = AllByRecursion (IsThere files) layout.pages × (measured ≡ measurement layout (map (bytes_in files) layout.pages))
 MeasuresFiles files layout (Err (faults.NotFound page)) = IsFirstAbsent files layout.pages page
 MeasuresFiles files layout (Err faults.Host) = ⊤
+
+-- some answers came, which lead to the result
+abbrev pub IsMeasured : Result (List ℕ) MeasureFault → Listed → HostState → HostState → Type 0
+IsMeasured result layout old new = Came (λ these. Measures layout these result) old new
+
+-- over an honest host the result is that of its files
+abbrev pub IsOfFiles : Result (List ℕ) MeasureFault → Listed → HostState → Type 0
+IsOfFiles result layout old = OnHonest old (λ files. MeasuresFiles files layout result)

@@ -1,15 +1,15 @@
 // The measurement of a layout.
-ghost use Rattle.std.specs.Prelude.{◌≡◌, ◌+◌, ◌^◌, ◌≤◌, ◌++◌, true, List, ℕ, MatchResult, IfOk};
+ghost use Rattle.std.specs.Prelude.{◌+◌, ◌^◌, ◌≤◌, ◌++◌, List, ℕ};
+ghost use Rattle.std.specs.List.{AllByRecursion};
 ghost use Rattle.pf_io.specs.Counts.{HasCause};
-ghost use Rattle.pf_io.specs.Host.{KeepsFiles, OnHonest};
-ghost use Rattle.pf_io.specs.Answered.{Came};
+ghost use Rattle.pf_io.specs.Host.{KeepsFiles};
 ghost use Rattle.pf_io.specs.Unchanged.{KeepsDisk};
 ghost use Rattle.sha2.specs.Hashers.{Holds256};
 ghost use Rattle.enclave_measure.specs.declared.page.Source.TheVariants.{File as IsFile};
-ghost use Rattle.enclave_measure.specs.Records.{extensions, page_records};
-ghost use Rattle.enclave_measure.specs.Pages.{PAGE};
-ghost use Rattle.enclave_measure.specs.Measuring.{Measures, MeasuresFiles, host_part};
-ghost use Rattle.enclave_measure.specs.Hashing.{Asking, SourceEnds, PageEnds};
+ghost use Rattle.enclave_measure.specs.Records.{extensions};
+ghost use Rattle.enclave_measure.specs.Pages.{PAGE, IsInside};
+ghost use Rattle.enclave_measure.specs.Measuring.{IsMeasured, IsOfFiles, host_part};
+ghost use Rattle.enclave_measure.specs.Hashing.{Asking, SourceEnds, PageEnds, PagesEnd};
 
 use crate::page::{Page, Source};
 use crate::records::{addition, creation, extension_head};
@@ -73,7 +73,7 @@ fn hash_page<H: Host>(
     place: usize,
     page: &Page,
 ) -> Result<(), MeasureFault>
-    requires { page.now.offset + PAGE ≤ 2 ^ 40 }
+    requires { IsInside (2 ^ 40) page.now }
     ensures asking { Asking result (H.state host.old) (H.state host.new) }
     ensures ends { PageEnds result place page.now (Holds256 hasher.old) (Holds256 hasher.new) (H.state host.old) (H.state host.new) }
 {
@@ -86,22 +86,36 @@ fn hash_page<H: Host>(
     Ok(())
 }
 
+// Hashes the records of all pages.
+fn hash_pages<H: Host>(
+    hasher: &mut Sha256,
+    host: &mut H,
+    pages: &[Page],
+) -> Result<(), MeasureFault>
+    requires { AllByRecursion (IsInside (2 ^ 40)) pages.now }
+    ensures asking { Asking result (H.state host.old) (H.state host.new) }
+    ensures ends { PagesEnd result pages.now (Holds256 hasher.old) (Holds256 hasher.new) (H.state host.old) (H.state host.new) }
+{
+    for (place, page) in pages.iter().enumerate() {
+        hash_page(hasher, host, place, page)?;
+    }
+    Ok(())
+}
+
 /// The measurement (MRENCLAVE) of a layout: SHA-256 of the bytes that ECREATE, EADD and EEXTEND measure.
 ///
 /// The host is asked for measured pages of files alone, in order: for the length of the file, and then for 4096 bytes from
 /// its place on, with zeros past what it gave. `NotFound` names the page, counted from 0, at which the host had no length.
 /// `Host` comes where a call of the host failed. Nothing is asked after either. No memory is taken.
 pub fn measure<H: Host>(host: &mut H, layout: &Layout) -> Result<[u8; 32], MeasureFault>
-    ensures measures { Came (λ these. Measures layout.now these result) (H.state host.old) (H.state host.new) }
-    ensures honest { OnHonest (H.state host.old) (λ files. MeasuresFiles files layout.now result) }
+    ensures measured { IsMeasured result layout.now (H.state host.old) (H.state host.new) }
+    ensures honest { IsOfFiles result layout.now (H.state host.old) }
     ensures cause { HasCause (H.state host.old).faults (H.state host.new).faults (host_part result) }
     ensures disk { KeepsDisk (H.state host.old) (H.state host.new) }
     ensures files { KeepsFiles (H.state host.old) (H.state host.new) }
 {
     let mut hasher = Sha256::new();
     hasher.update(&creation(layout.size, layout.ssa));
-    for (place, page) in layout.pages.iter().enumerate() {
-        hash_page(&mut hasher, host, place, page)?;
-    }
+    hash_pages(&mut hasher, host, &layout.pages)?;
     Ok(hasher.finalize())
 }
