@@ -112,5 +112,5 @@ extended_more i offset bytes head chunk fed hashed added is of first second mess
     let so_far = message ++ extensions i offset bytes in
     let piece : head ++ chunk ≡ extension (offset + CHUNK * i) (take CHUNK (drop (CHUNK * i) bytes)) = is chunk ∙ ap (extension (offset + CHUNK * i)) of in
     let more : so_far ++ head ++ chunk ≡ message ++ extensions (i + 1) offset bytes =
-        append_assoc so_far head chunk ∙ ap (λ (ms : List ℕ). so_far ++ ms) piece ∙ append_assoc message (extensions i offset bytes) (extension (offset + CHUNK * i) (take CHUNK (drop (CHUNK * i) bytes))) ∙ ap (λ (n : ℕ). message ++ extensions n offset bytes) (let e : suc i ≡ i + 1 = omega arith in e) in
+    append_assoc so_far head chunk ∙ ap (λ (ms : List ℕ). so_far ++ ms) piece ∙ append_assoc message (extensions i offset bytes) (extension (offset + CHUNK * i) (take CHUNK (drop (CHUNK * i) bytes))) ∙ ap (λ (n : ℕ). message ++ extensions n offset bytes) (let e : suc i ≡ i + 1 = omega arith in e) in
     subst added more (second (so_far ++ head) (first so_far holds))

@@ -128,6 +128,7 @@ of_files files layout these outcome all (Ended front page others asked last give
   where
     parts : AllByRecursion (IsAnswerOf files) asked × AllByRecursion (IsAnswerOf files) last
     parts = all_split (IsAnswerOf files) asked last (subst (AllByRecursion (IsAnswerOf files)) said all)
+
     by_fault : (f : MeasureFault) → EndsAt (length front) name last f → MeasuresFiles files layout (Err f)
     by_fault (faults.NotFound place) ends = record {
       front = front;

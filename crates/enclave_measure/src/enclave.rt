@@ -19,6 +19,7 @@ use sha2::{Digest, Sha256};
 
 // A page has 16 chunks of 256 bytes.
 const CHUNK: usize = 256;
+
 const CHUNKS: usize = 16;
 
 // A page's bytes of a file, and zeros past its end, for the page at a place.

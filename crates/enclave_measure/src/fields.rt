@@ -99,11 +99,9 @@ pub(crate) fn read_fields(
     page_type: &[u8],
     measured: &[u8],
 ) -> Option<Fields>
-    ensures {
-        MatchOption result
-            ((number : ℕ) (access : Access) (kind : Kind) (extent : Bool) → ¬ (AreFields offset.now permissions.now page_type.now measured.now number access kind extent))
-            (λ fields. AreFields offset.now permissions.now page_type.now measured.now fields.offset fields.permissions fields.page_type fields.measured)
-    }
+    ensures { MatchOption result
+        ((number : ℕ) (access : Access) (kind : Kind) (extent : Bool) → ¬ (AreFields offset.now permissions.now page_type.now measured.now number access kind extent))
+        (λ fields. AreFields offset.now permissions.now page_type.now measured.now fields.offset fields.permissions fields.page_type fields.measured) }
 {
     let offset = read_hex(offset)?;
     let permissions = read_permissions(permissions)?;

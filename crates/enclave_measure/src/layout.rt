@@ -48,11 +48,9 @@ fn is_size(size: u64) -> bool
 
 // The size and the frame pages of the first line that is read.
 fn take_enclave(alloc: Global, line: &Line<'_>) -> Result<(u64, u32), LayoutFault>
-    ensures {
-        MatchResult result
-            (λ found. IsEnclaveLine line.now.bytes.now found.0 found.1 × IsSize found.0)
-            (λ fault. (fault ≡ NoMemory) ⊎ RefusesEnclave (line_of line.now) fault)
-    }
+    ensures { MatchResult result
+        (λ found. IsEnclaveLine line.now.bytes.now found.0 found.1 × IsSize found.0)
+        (λ fault. (fault ≡ NoMemory) ⊎ RefusesEnclave (line_of line.now) fault) }
 {
     let line_number = line.number;
     let Some((size, ssa)) = read_enclave(alloc, line.bytes)? else {
@@ -67,11 +65,9 @@ fn take_enclave(alloc: Global, line: &Line<'_>) -> Result<(u64, u32), LayoutFaul
 // The page of a line, in an enclave of a size.
 fn take_page(alloc: Global, size: u64, line: &Line<'_>) -> Result<Page, LayoutFault>
     requires { IsSize size }
-    ensures {
-        MatchResult result
-            (λ page. IsPageLine line.now.bytes.now page × IsInside size page)
-            (λ fault. (fault ≡ NoMemory) ⊎ ((earlier : List Listing) → RefusesPage size earlier (line_of line.now) fault))
-    }
+    ensures { MatchResult result
+        (λ page. IsPageLine line.now.bytes.now page × IsInside size page)
+        (λ fault. (fault ≡ NoMemory) ⊎ ((earlier : List Listing) → RefusesPage size earlier (line_of line.now) fault)) }
 {
     let Some(page) = read_page(alloc, line.bytes)? else {
         return Err(LayoutFault::BadLine { line: line.number });
@@ -90,11 +86,9 @@ fn add_page(
     page: Page,
 ) -> Result<(), LayoutFault>
     requires { Tracks offsets.old pages.old.items }
-    ensures {
-        MatchResult result
-            (λ _. (pages.new.items ≡ pages.old.items ++ page ∷ []) × (has_offset page.offset pages.old.items ≡ false) × Tracks offsets.new pages.new.items)
-            (λ fault. (fault ≡ NoMemory) ⊎ ((fault ≡ IsRepeated line) × (has_offset page.offset pages.old.items ≡ true)))
-    }
+    ensures { MatchResult result
+        (λ _. (pages.new.items ≡ pages.old.items ++ page ∷ []) × (has_offset page.offset pages.old.items ≡ false) × Tracks offsets.new pages.new.items)
+        (λ fault. (fault ≡ NoMemory) ⊎ ((fault ≡ IsRepeated line) × (has_offset page.offset pages.old.items ≡ true))) }
 {
     if !offsets.insert(page.offset)? {
         return Err(LayoutFault::Repeated { line });
@@ -104,19 +98,12 @@ fn add_page(
 }
 
 // The pages of a text that follows so many lines.
-fn read_pages(
-    alloc: Global,
-    size: u64,
-    text: &[u8],
-    before: u32,
-) -> Result<Vec<Page>, LayoutFault>
+fn read_pages(alloc: Global, size: u64, text: &[u8], before: u32) -> Result<Vec<Page>, LayoutFault>
     requires size { IsSize size }
     requires few { before + length text.now < 2 ^ 32 }
-    ensures {
-        MatchResult result
-            (λ pages. ListPages size (read_after before text.now) pages.items)
-            (λ fault. (fault ≡ NoMemory) ⊎ FirstRefused size (read_after before text.now) fault)
-    }
+    ensures { MatchResult result
+        (λ pages. ListPages size (read_after before text.now) pages.items)
+        (λ fault. (fault ≡ NoMemory) ⊎ FirstRefused size (read_after before text.now) fault) }
 {
     let mut pages = Vec::new(alloc);
     let mut offsets = BTreeSet::new(alloc);

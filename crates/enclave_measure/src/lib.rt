@@ -10,8 +10,10 @@ mod lines;
 mod page;
 mod reading;
 mod records;
+#[cfg(test)]
+mod tests;
 mod words;
 
+pub use enclave::measure;
 pub use fault::{LayoutFault, MeasureFault};
 pub use layout::Layout;
-pub use enclave::measure;

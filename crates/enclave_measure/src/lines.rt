@@ -36,11 +36,9 @@ fn is_skipped(line: &[u8]) -> bool
 /// The first line that is read of a text that follows so many lines. Where there is none, the number of all lines.
 pub(crate) fn next_line(text: &[u8], before: u32) -> Result<Line<'_>, u32>
     requires { before + length text.now < 2 ^ 32 }
-    ensures {
-        MatchResult result
-            (λ line. (read_after before text.now ≡ (line.number, line.bytes.now) ∷ read_after line.number line.rest.now) × (line.number + length line.rest.now ≤ before + length text.now) × (length line.rest.now < length text.now))
-            (λ count. (read_after before text.now ≡ []) × (count ≡ before + length (lines_of text.now)))
-    }
+    ensures { MatchResult result
+        (λ line. (read_after before text.now ≡ (line.number, line.bytes.now) ∷ read_after line.number line.rest.now) × (line.number + length line.rest.now ≤ before + length text.now) × (length line.rest.now < length text.now))
+        (λ count. (read_after before text.now ≡ []) × (count ≡ before + length (lines_of text.now))) }
 {
     let mut rest = text;
     let mut number = before;

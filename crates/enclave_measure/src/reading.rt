@@ -14,11 +14,9 @@ use std::alloc::Global;
 
 /// The size and the frame pages that a line `enclave SIZE SSA` spells.
 pub(crate) fn read_enclave(alloc: Global, line: &[u8]) -> Result<Option<(u64, u32)>, Memory>
-    ensures {
-        IfOk result (λ found. MatchOption found
-            ((size ssa : ℕ) → ¬ (IsEnclaveLine line.now size ssa))
-            (λ numbers. IsEnclaveLine line.now numbers.0 numbers.1))
-    }
+    ensures { IfOk result (λ found. MatchOption found
+        ((size ssa : ℕ) → ¬ (IsEnclaveLine line.now size ssa))
+        (λ numbers. IsEnclaveLine line.now numbers.0 numbers.1)) }
 {
     let words = words_of(alloc, line)?;
     Ok(enclave_of(words.as_slice()))
@@ -36,11 +34,9 @@ fn enclave_of(words: &[&[u8]]) -> Option<(u64, u32)>
 }
 
 fn read_file(alloc: Global, name: &[u8], at: &[u8]) -> Result<Option<Source>, Memory>
-    ensures {
-        IfOk result (λ found. MatchOption found
-            ((source : Origin) → ¬ (IsSource (codes "file" ∷ name.now ∷ at.now ∷ []) source))
-            (IsSource (codes "file" ∷ name.now ∷ at.now ∷ [])))
-    }
+    ensures { IfOk result (λ found. MatchOption found
+        ((source : Origin) → ¬ (IsSource (codes "file" ∷ name.now ∷ at.now ∷ []) source))
+        (IsSource (codes "file" ∷ name.now ∷ at.now ∷ []))) }
 {
     let Ok(name) = str::from_utf8(name) else {
         return Ok(None);
@@ -56,11 +52,9 @@ fn read_file(alloc: Global, name: &[u8], at: &[u8]) -> Result<Option<Source>, Me
 }
 
 fn read_source(alloc: Global, words: &[&[u8]]) -> Result<Option<Source>, Memory>
-    ensures {
-        IfOk result (λ found. MatchOption found
-            ((source : Origin) → ¬ (IsSource (shown words.now) source))
-            (IsSource (shown words.now)))
-    }
+    ensures { IfOk result (λ found. MatchOption found
+        ((source : Origin) → ¬ (IsSource (shown words.now) source))
+        (IsSource (shown words.now))) }
 {
     if let Some([]) = after_word(words, b"zero") {
         return Ok(Some(Source::Zero));
@@ -72,11 +66,9 @@ fn read_source(alloc: Global, words: &[&[u8]]) -> Result<Option<Source>, Memory>
 }
 
 fn page_of(alloc: Global, words: &[&[u8]]) -> Result<Option<Page>, Memory>
-    ensures {
-        IfOk result (λ found. MatchOption found
-            ((page : Listing) → ¬ (ArePageWords (shown words.now) page))
-            (ArePageWords (shown words.now)))
-    }
+    ensures { IfOk result (λ found. MatchOption found
+        ((page : Listing) → ¬ (ArePageWords (shown words.now) page))
+        (ArePageWords (shown words.now))) }
 {
     let Some([offset, permissions, page_type, measured, source @ ..]) = after_word(words, b"page")
     else {
@@ -99,11 +91,9 @@ fn page_of(alloc: Global, words: &[&[u8]]) -> Result<Option<Page>, Memory>
 
 /// The page that a line `page OFFSET PERMS TYPE MEASURED SOURCE` spells.
 pub(crate) fn read_page(alloc: Global, line: &[u8]) -> Result<Option<Page>, Memory>
-    ensures {
-        IfOk result (λ found. MatchOption found
-            ((page : Listing) → ¬ (IsPageLine line.now page))
-            (IsPageLine line.now))
-    }
+    ensures { IfOk result (λ found. MatchOption found
+        ((page : Listing) → ¬ (IsPageLine line.now page))
+        (IsPageLine line.now)) }
 {
     let words = words_of(alloc, line)?;
     page_of(alloc, words.as_slice())

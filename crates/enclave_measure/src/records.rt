@@ -38,10 +38,7 @@ pub(crate) fn addition(page: &Page) -> [u8; 64]
     let mut record = [0; 64];
     record[..4].copy_from_slice(b"EADD");
     LittleEndian::write_u64(&mut record[8..], page.offset);
-    LittleEndian::write_u64(
-        &mut record[16..],
-        flags(page.permissions, page.page_type),
-    );
+    LittleEndian::write_u64(&mut record[16..], flags(page.permissions, page.page_type));
     record
 }
 

@@ -20,7 +20,7 @@ returns-in_err-hash_page-clause-ends g c =
     let page = c.index-pages-place.result in
     let whole : pages ≡ take i pages ++ page ∷ drop (i + 1) pages = sym (take-append-drop i pages) ∙ ap (λ (ps : List Page). take i pages ++ ps) (drop_more pages i page c.loop-place-test.true) ∙ ap (λ (q : Page). take i pages ++ q ∷ drop (i + 1) pages) (sym c.index-pages-place.is) in
     rw (p.1, p.2) (ended_at pages (take i pages) page (drop (i + 1) pages) i _ (Holds256 c.args.hasher.now) (Holds256 c.loop-place.hasher) (g.H.Host.state c.args.host.now) (g.H.Host.state c.loop-place.host) (g.H.Host.state c.hash_page.new.host) whole
-        (length-take-le i pages (omega (arith, c.loop-place-test.true))) c.loop-place.invariant.hashed c.in_err-hash_page.ensures.ends)
+    (length-take-le i pages (omega (arith, c.loop-place-test.true))) c.loop-place.invariant.hashed c.in_err-hash_page.ensures.ends)
 
 pub loop-place-preserved : goal.loop-place-preserved
 loop-place-preserved g c =
