@@ -7,3 +7,5 @@ pub mod Unique
 pub mod OneOutcome
 pub mod Asked
 pub mod Measured
+pub mod Absent
+pub mod Exemplified

@@ -7,3 +7,4 @@ pub mod Collecting
 pub mod Records
 pub mod Measuring
 pub mod Hashing
+pub mod Examples

@@ -1,7 +1,7 @@
 -- What a measurement asks of a host, and what it comes to.
 use Rattle.std.specs.Prelude.{◌≡◌, ◌≢◌, ◌⊎◌, ℕ, ◌≤◌, Bool, true, false, if◌then◌else◌, List, [], ◌∷◌, ◌++◌, length, take, drop, map, Option, Some, None, slice_get, Result, Ok, Err, ⊤}
 use Rattle.std.specs.List.{AllByRecursion}
-use Rattle.pf_io.specs.Host.{Name, Files, Answer, LengthWas, Gave, HostState, OnHonest, contents}
+use Rattle.pf_io.specs.Host.{Name, Files, Answer, LengthWas, Gave, Wrote, WasCut, Synced, Made, Swapped, Removed, HostState, OnHonest, contents}
 use Rattle.pf_io.specs.Answered.{Came}
 use Rattle.enclave_measure.specs.declared.page.Source.{Source}
 use Rattle.enclave_measure.specs.declared.page.Source.TheVariants as sources
@@ -103,3 +103,15 @@ IsMeasured result layout old new = Came (λ these. Measures layout these result)
 -- over an honest host the result is that of its files
 abbrev pub IsOfFiles : Result (List ℕ) MeasureFault → Listed → HostState → Type 0
 IsOfFiles result layout old = OnHonest old (λ files. MeasuresFiles files layout result)
+
+-- the host had no length of a file
+abbrev pub is_absence : Answer → Bool
+is_absence (LengthWas name None) = true
+is_absence (LengthWas name (Some length)) = false
+is_absence (Gave name place room bytes) = false
+is_absence (Wrote name place bytes) = false
+is_absence (WasCut name length) = false
+is_absence (Synced name) = false
+is_absence (Made name) = false
+is_absence (Swapped from to) = false
+is_absence (Removed name) = false

@@ -2,10 +2,12 @@
 #![tactic(auto)]
 
 mod enclave;
+pub mod examples;
 mod fault;
 mod fields;
 mod hexadecimal;
 mod layout;
+mod laws;
 mod lines;
 mod page;
 mod reading;
@@ -16,4 +18,5 @@ mod words;
 
 pub use enclave::measure;
 pub use fault::{LayoutFault, MeasureFault};
+pub use laws::{absence_is_refused, text_has_one_outcome};
 pub use layout::Layout;
