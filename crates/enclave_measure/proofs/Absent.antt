@@ -1,16 +1,16 @@
 -- Which answers have that a file is absent.
-use Rattle.std.proofs.Common.{◌≡◌, ◌∙◌, ◌⊎◌, ◌↔◌, inl, inr, ℕ, Bool, true, false, ◌||◌, List, [], ◌∷◌, ◌++◌, length, refl, sym, ap, subst, Result, Ok, Err, Some, None}
+use Rattle.std.proofs.Common.{◌≡◌, ◌∙◌, ◌↔◌, inl, inr, ℕ, Bool, true, false, ◌||◌, List, [], ◌∷◌, ◌++◌, length, ap, Result, Ok, Err}
 use Rattle.std.specs.List.{list_any}
 use Rattle.std.proofs.lemmas.Bool.{both_ways}
 use Rattle.std.proofs.lemmas.List.Folds.{list_any-append}
-use Rattle.pf_io.specs.Host.{Name, Answer, LengthWas, Gave}
+use Rattle.pf_io.specs.Host.{Answer}
 use Rattle.enclave_measure.specs.declared.page.Page.{Page}
 use Rattle.enclave_measure.specs.declared.page.Source.{Source}
 use Rattle.enclave_measure.specs.declared.page.Source.TheVariants as sources
 use Rattle.enclave_measure.specs.declared.fault.MeasureFault.{MeasureFault}
 use Rattle.enclave_measure.specs.declared.fault.MeasureFault.TheVariants as faults
 use Rattle.enclave_measure.specs.Pages.{Listed}
-use Rattle.enclave_measure.specs.Measuring.{SourceGives, GivesWhere, PageGives, Gives, EndsAt, Measures, Whole, Ended, is_absence}
+use Rattle.enclave_measure.specs.Measuring.{SourceGives, GivesWhere, Gives, EndsAt, Measures, Whole, Ended, is_absence}
 use Rattle.enclave_measure.proofs.Listing.{either_none}
 
 both_none : (xs ys : List Answer) → list_any is_absence xs ≡ false → list_any is_absence ys ≡ false → list_any is_absence (xs ++ ys) ≡ false

@@ -1,12 +1,11 @@
 -- What the calls of a measurement ask.
-use Rattle.std.proofs.Common.{◌≡◌, ◌∙◌, ◌⊎◌, inl, inr, ℕ, suc, ◌+◌, ◌*◌, ◌-◌, ◌<◌, ◌≤◌, Bool, true, false, List, [], ◌∷◌, ◌++◌, length, take, drop, replicate, refl, sym, ap, arith, subst, Result, Ok, Err, Option, Some, None, length-drop}
+use Rattle.std.proofs.Common.{◌≡◌, ◌∙◌, ℕ, suc, ◌+◌, ◌*◌, ◌-◌, ◌≤◌, Bool, true, false, List, [], ◌++◌, length, take, drop, refl, sym, ap, arith, subst, Ok, Err}
 use Rattle.std.proofs.lemmas.List.{take-append-drop, length-take-le, length-replicate, drop-replicate, append_assoc, append-nil}
-use Rattle.pf_io.specs.Counts.{Rose, HasCause}
+use Rattle.pf_io.specs.Counts.{Rose}
 use Rattle.pf_io.specs.Moments.{Does}
 use Rattle.pf_io.specs.Steps.{Stays}
-use Rattle.pf_io.specs.Host.{Name, Answer, LengthWas, Gave, HostState, OnDisk, KeepsRest}
-use Rattle.pf_io.specs.Answered.{Answered}
-use Rattle.pf_io.proofs.Answering.{answered_none, answered_then}
+use Rattle.pf_io.specs.Host.{Answer, HostState, OnDisk, KeepsRest}
+use Rattle.pf_io.proofs.Answering.{answered_none}
 use Rattle.pf_io.proofs.Unchanged.{kept_none, kept_once, kept_then}
 use Rattle.enclave_measure.specs.declared.page.Page.{Page}
 use Rattle.enclave_measure.specs.declared.page.Source.{Source}
@@ -15,7 +14,7 @@ use Rattle.enclave_measure.specs.declared.fault.MeasureFault.{MeasureFault}
 use Rattle.enclave_measure.specs.declared.fault.MeasureFault.TheVariants as faults
 use Rattle.enclave_measure.specs.Pages.{PAGE}
 use Rattle.enclave_measure.specs.Records.{CHUNK, zeros, padded, addition, extension, extensions, page_records}
-use Rattle.enclave_measure.specs.Measuring.{SourceGives, GivesWhere, PageGives, host_part}
+use Rattle.enclave_measure.specs.Measuring.{SourceGives, GivesWhere}
 use Rattle.enclave_measure.specs.Hashing.{Asking, SourceCame, SourceEnded, PageHashed, PageEnded}
 
 -- no call

@@ -1,8 +1,8 @@
 -- A text's lines, cut one by one.
-use Rattle.std.proofs.Common.{rules, ◌≡◌, ◌≢◌, ◌∙◌, ℕ, suc, zero, ◌+◌, ◌<◌, ◌≤◌, ◌==◌, Bool, true, false, List, [], ◌∷◌, ◌++◌, length, take, drop, get_or, refl, sym, ap, arith, cond, filter, not, add-one}
+use Rattle.std.proofs.Common.{rules, ◌≡◌, ◌≢◌, ◌∙◌, ℕ, suc, ◌+◌, ◌<◌, ◌≤◌, ◌==◌, Bool, true, false, List, [], ◌∷◌, ◌++◌, length, take, drop, get_or, refl, sym, ap, arith, cond, not, add-one}
 use Rattle.std.proofs.lemmas.List.{take_more, drop_more, take_all, drop_all, append-nil}
 use Rattle.std.specs.List.{onto_first}
-use Rattle.enclave_measure.specs.Lines.{LINE_FEED, lines_of, Line, numbered, is_skipped, is_read, read_after}
+use Rattle.enclave_measure.specs.Lines.{LINE_FEED, lines_of, is_skipped, read_after}
 
 -- bytes in front of the first line
 abbrev pub prefixed : List ℕ → List (List ℕ) → List (List ℕ)

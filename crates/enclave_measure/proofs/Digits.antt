@@ -1,5 +1,5 @@
 -- Hexadecimal numbers, digit by digit.
-use Rattle.std.proofs.Common.{◌≡◌, ◌∙◌, ℕ, suc, zero, ◌+◌, ◌*◌, ◌-◌, ◌^◌, ◌<◌, ◌≤◌, List, length, take, get_or, true, refl, sym, ap, arith, subst, add-one}
+use Rattle.std.proofs.Common.{◌≡◌, ◌∙◌, ℕ, suc, zero, ◌+◌, ◌*◌, ◌-◌, ◌^◌, ◌<◌, ◌≤◌, List, length, take, get_or, sym, ap, arith, subst, add-one}
 use Rattle.std.proofs.lemmas.List.Sums.{fold_more}
 use native.Mathlib.Numerals.{unary_clauses}
 use Rattle.enclave_measure.specs.Hexadecimal.{digit_value, hex_value}

@@ -1,12 +1,12 @@
 -- A layout of two pages, read.
-use Rattle.std.proofs.Common.{◌≡◌, ℕ, ◌<◌, ◌%◌, List, [], ◌∷◌, ◌++◌, length, refl, sym, arith, Ok, Err, codes, true}
+use Rattle.std.proofs.Common.{◌≡◌, ℕ, ◌%◌, List, [], ◌∷◌, ◌++◌, refl, sym, arith, codes}
 use Rattle.std.proofs.lemmas.Fmt.{decimal_digit}
 use Rattle.pf_io.specs.Numbers.{Spells}
 use Rattle.enclave_measure.specs.declared.fault.LayoutFault.TheVariants as faults
-use Rattle.enclave_measure.specs.Hexadecimal.{IsHex, AreHexDigits, is_hex_digit, digit_value}
+use Rattle.enclave_measure.specs.Hexadecimal.{IsHex, is_hex_digit, digit_value}
 use Rattle.enclave_measure.specs.Pages.{AreEnclaveWords, ArePageWords, IsSize}
 use Rattle.enclave_measure.specs.Lines.{words_of}
-use Rattle.enclave_measure.specs.Layouts.{ReadsTo, Whole, NoPage, Outside, Again, ListPages, FirstRefused}
+use Rattle.enclave_measure.specs.Layouts.{Whole, NoPage, Outside, Again, ListPages}
 use Rattle.enclave_measure.specs.Examples.{TwoPagesRead, PagePastTheEnd, OffsetRepeated, code_page, thread_page}
 
 hex_0 : IsHex (codes "0x0") 0

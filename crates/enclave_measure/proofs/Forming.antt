@@ -1,5 +1,5 @@
 -- The forms of a layout's lines, word by word.
-use Rattle.std.proofs.Common.{◌≡◌, ◌∙◌, ℕ, suc, ◌+◌, ◌-◌, ◌<◌, ◌≤◌, List, [], ◌∷◌, length, take, drop, get_or, refl, sym, ap, arith, subst, Option, Some, None, MatchOption, Result, Ok, Err, IfOk, codes, min}
+use Rattle.std.proofs.Common.{◌≡◌, ◌∙◌, ℕ, suc, ◌-◌, ◌<◌, ◌≤◌, List, [], ◌∷◌, length, take, drop, get_or, sym, ap, arith, subst, Option, Some, None, MatchOption, Result, Ok, Err, IfOk, codes}
 use Rattle.std.proofs.lemmas.List.{take_all, length-take}
 use Rattle.enclave_measure.specs.declared.page.Page.{Page}
 use Rattle.enclave_measure.specs.declared.page.Source.{Source}

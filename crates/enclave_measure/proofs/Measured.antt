@@ -1,11 +1,11 @@
 -- Pages measured one after another, and what their answers say of an honest host's files.
-use Rattle.std.proofs.Common.{◌≡◌, ◌≢◌, ◌∙◌, ◌⊎◌, inl, inr, ℕ, zero, suc, ◌+◌, ◌<◌, ◌≤◌, ◌^◌, Bool, true, false, List, [], ◌∷◌, ◌++◌, length, take, drop, get_or, map, refl, sym, ap, arith, subst, Result, Ok, Err, Option, Some, None, IfSome}
+use Rattle.std.proofs.Common.{◌≡◌, ◌≢◌, ◌∙◌, ℕ, zero, suc, ◌<◌, ◌≤◌, ◌^◌, Bool, true, false, List, [], ◌∷◌, ◌++◌, length, get_or, map, refl, sym, ap, arith, subst, Result, Ok, Err, Option, Some, None}
 use Rattle.std.specs.List.{AllByRecursion}
-use Rattle.std.proofs.lemmas.List.{append_assoc, append-nil, take_more, drop_more, take-append-drop, length-take-le}
+use Rattle.std.proofs.lemmas.List.{append_assoc, append-nil}
 use Rattle.std.proofs.lemmas.Option.{IfSome_then}
 use Rattle.pf_io.specs.Counts.{HasCause}
-use Rattle.pf_io.specs.Host.{Name, Files, Answer, LengthWas, Gave, HostState, OnHonest, length_of, contents, files_of}
-use Rattle.pf_io.specs.Answered.{Answered, IsAnswerOf, Came}
+use Rattle.pf_io.specs.Host.{Name, Files, Answer, HostState, length_of, contents, files_of}
+use Rattle.pf_io.specs.Answered.{IsAnswerOf}
 use Rattle.pf_io.proofs.Answering.{answered_none, answered_then}
 use Rattle.pf_io.proofs.Unchanged.{kept_then}
 use Rattle.sha2.specs.Sha256.{sha256}
@@ -14,11 +14,10 @@ use Rattle.enclave_measure.specs.declared.page.Source.{Source}
 use Rattle.enclave_measure.specs.declared.page.Source.TheVariants as sources
 use Rattle.enclave_measure.specs.declared.fault.MeasureFault.{MeasureFault}
 use Rattle.enclave_measure.specs.declared.fault.MeasureFault.TheVariants as faults
-use Rattle.enclave_measure.specs.Pages.{PAGE, IsInside, Listed}
+use Rattle.enclave_measure.specs.Pages.{IsInside, Listed}
 use Rattle.enclave_measure.specs.Records.{creation, padded, page_records, records, measured_bytes, measurement}
-use Rattle.enclave_measure.specs.Measuring.{SourceGives, GivesWhere, PageGives, Gives, IsOfFile, EndsAt, Measures, Whole, Ended, host_part, source_in, bytes_in, IsThere, IsFirstAbsent, MeasuresFiles, IsMeasured, IsOfFiles}
+use Rattle.enclave_measure.specs.Measuring.{SourceGives, GivesWhere, PageGives, Gives, EndsAt, Measures, Whole, Ended, host_part, source_in, bytes_in, IsThere, MeasuresFiles, IsMeasured, IsOfFiles}
 use Rattle.enclave_measure.specs.Hashing.{Asking, PageHashed, PageEnded, PagesHashed, PagesEnded}
-use Rattle.enclave_measure.proofs.Asked.{asking_none}
 
 gives_push : (pages : List Page) (page : Page) (these last : List Answer) (contents : List (List ℕ)) (bytes : List ℕ) → Gives pages these contents → PageGives page last bytes → Gives (pages ++ page ∷ []) (these ++ last) (contents ++ bytes ∷ [])
 gives_push [] page these last contents bytes so_far gives =

@@ -1,5 +1,5 @@
 -- A text has one outcome.
-use Rattle.std.proofs.Common.{◌≡◌, ◌∙◌, ◌⊎◌, inl, inr, ℕ, ◌+◌, ◌<◌, ◌≤◌, ◌==◌, Bool, true, false, List, [], ◌∷◌, ◌++◌, length, refl, sym, ap, arith, subst, Result, Ok, Err}
+use Rattle.std.proofs.Common.{◌≡◌, ◌∙◌, ◌⊎◌, inl, inr, ℕ, ◌+◌, ◌==◌, false, List, [], ◌∷◌, ◌++◌, length, refl, sym, ap, arith, subst, Result, Ok, Err}
 use Rattle.std.specs.List.{AllByRecursion, AllZip}
 use Rattle.std.proofs.lemmas.Bool.{both_ways}
 use Rattle.std.proofs.lemmas.List.Folds.{list_any-append}
@@ -7,7 +7,7 @@ use Rattle.enclave_measure.specs.declared.page.Page.{Page}
 use Rattle.enclave_measure.specs.declared.fault.LayoutFault.{LayoutFault}
 use Rattle.enclave_measure.specs.declared.fault.LayoutFault.TheVariants as faults
 use Rattle.enclave_measure.specs.Lines.{Line, lines_of, read_lines}
-use Rattle.enclave_measure.specs.Pages.{PAGE, Listed, IsInside, IsSize, IsEnclaveLine, IsPageLine}
+use Rattle.enclave_measure.specs.Pages.{Listed, IsInside, IsSize, IsEnclaveLine, IsPageLine}
 use Rattle.enclave_measure.specs.Layouts.{has_offset, AreApart, IsLineOf, ListPages, RefusesEnclave, NoEnclaveLine, NoSize, RefusesPage, NoPageLine, Outside, Again, FirstRefused, ReadsTo, Whole, NoLines, NoEnclave, NoPage}
 use Rattle.enclave_measure.proofs.Listing.{neither, either_none, unlike}
 use Rattle.enclave_measure.proofs.Unique.{enclave_one, page_one, pages_one}

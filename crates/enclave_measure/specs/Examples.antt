@@ -1,6 +1,5 @@
 -- A layout of two pages, small enough to compute.
-use Rattle.std.specs.Prelude.{◌≡◌, ℕ, Bool, true, false, List, [], ◌∷◌, ◌++◌, length, take, drop, Ok, Err, codes}
-use Rattle.enclave_measure.specs.declared.page.Permissions.{Permissions}
+use Rattle.std.specs.Prelude.{◌≡◌, ℕ, true, false, List, [], ◌∷◌, ◌++◌, length, take, drop, Ok, Err, codes}
 use Rattle.enclave_measure.specs.declared.page.PageType.TheVariants as types
 use Rattle.enclave_measure.specs.declared.page.Source.TheVariants as sources
 use Rattle.enclave_measure.specs.declared.page.Page.{Page}

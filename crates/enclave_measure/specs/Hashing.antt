@@ -1,5 +1,5 @@
 -- What the parts of a measurement ask and hash.
-use Rattle.std.specs.Prelude.{◌≡◌, ℕ, true, List, [], ◌∷◌, ◌++◌, length, Result, Ok, Err}
+use Rattle.std.specs.Prelude.{◌≡◌, ℕ, List, ◌∷◌, ◌++◌, length, Result, Ok, Err}
 use Rattle.pf_io.specs.Counts.{HasCause}
 use Rattle.pf_io.specs.Host.{Name, Answer, HostState}
 use Rattle.pf_io.specs.Answered.{Answered}

@@ -1,5 +1,5 @@
 -- The lines of an enclave layout, and the fields that they spell.
-use Rattle.std.specs.Prelude.{◌≡◌, ℕ, ◌+◌, ◌%◌, ◌^◌, ◌<◌, ◌≤◌, Bool, true, if◌then◌else◌, List, [], ◌∷◌, IsTrue, codes}
+use Rattle.std.specs.Prelude.{◌≡◌, ℕ, ◌+◌, ◌%◌, ◌^◌, ◌<◌, ◌≤◌, Bool, true, if◌then◌else◌, List, [], ◌∷◌, codes}
 use Rattle.std.specs.Int.{is_power_of_two}
 use Rattle.std.specs.Str.{IsUtf8}
 use Rattle.pf_io.specs.Names.{IsName}

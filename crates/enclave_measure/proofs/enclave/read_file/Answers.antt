@@ -1,4 +1,4 @@
-use Rattle.std.proofs.Common.{◌≡◌, Option, Some, ℕ, [], ◌∷◌, take, refl, subst}
+use Rattle.std.proofs.Common.{Option, Some, ℕ, [], ◌∷◌, take, refl, subst}
 use Rattle.std.proofs.lemmas.Result.{err_from_is_err_and}
 use Rattle.pf_io.specs.Host.{LengthWas, Gave}
 use Rattle.pf_io.specs.Answered.{Answered}

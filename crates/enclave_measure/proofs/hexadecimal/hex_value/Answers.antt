@@ -1,4 +1,4 @@
-use Rattle.std.proofs.Common.{◌≡◌, ◌<◌, ◌+◌, ◌*◌, arith}
+use Rattle.std.proofs.Common.{◌+◌, ◌*◌, arith}
 use Rattle.enclave_measure.proofs.Digits.{hex_more, below_more, below_all}
 use Rattle.enclave_measure.proofs.hexadecimal.hex_value.Goals as goal
 

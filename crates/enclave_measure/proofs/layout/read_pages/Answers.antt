@@ -1,4 +1,3 @@
-use Rattle.std.proofs.Common.{◌∙◌, ap, Err}
 use Rattle.std.proofs.lemmas.Result.{err_from_is_err_and}
 use Rattle.enclave_measure.specs.Collecting.{line_of}
 use Rattle.enclave_measure.proofs.Listing.{collects_more, stopped_taking, stopped_adding}

@@ -1,6 +1,5 @@
-use Rattle.std.proofs.Common.{◌≡◌, ◌∙◌, ◌+◌, ◌-◌, length, take, drop, ap, arith, length-drop, ◌∷◌}
+use Rattle.std.proofs.Common.{◌≡◌, ◌+◌, ◌-◌, length, take, drop, arith, length-drop}
 use Rattle.std.proofs.lemmas.List.{take_all}
-use Rattle.enclave_measure.specs.Lines.{lines_of}
 use Rattle.enclave_measure.proofs.Cutting.{cut_at, cut_more, cut_none}
 use Rattle.enclave_measure.proofs.lines.first_line.Goals as goal
 

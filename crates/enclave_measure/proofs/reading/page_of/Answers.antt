@@ -1,4 +1,3 @@
-use Rattle.std.proofs.Common.{arith}
 use Rattle.std.proofs.lemmas.Option.{MatchOption-at_none}
 use Rattle.enclave_measure.proofs.Forming.{field_words, source_words}
 use Rattle.enclave_measure.proofs.reading.page_of.Goals as goal

@@ -1,6 +1,5 @@
-use Rattle.std.proofs.Common.{◌≡◌, ◌∙◌, ◌+◌, ◌-◌, length, take, drop, ap, arith, length-drop, ◌∷◌}
+use Rattle.std.proofs.Common.{◌≡◌, ◌+◌, ◌-◌, length, take, drop, arith, length-drop}
 use Rattle.std.proofs.lemmas.List.{take_all}
-use Rattle.enclave_measure.specs.Lines.{words_of}
 use Rattle.enclave_measure.proofs.Wording.{spaceless_more, word_at, word_alone}
 use Rattle.enclave_measure.proofs.words.first_word.Goals as goal
 

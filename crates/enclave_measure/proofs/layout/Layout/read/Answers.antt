@@ -1,4 +1,4 @@
-use Rattle.std.proofs.Common.{◌≡◌, ◌∙◌, ◌⊎◌, inl, inr, ap, sym, subst, refl, arith, Err, Ok, Result, List, ℕ}
+use Rattle.std.proofs.Common.{◌≡◌, ◌∙◌, ◌⊎◌, inl, inr, ap, sym, subst, refl, arith, Err, Result, List, ℕ}
 use Rattle.std.proofs.lemmas.Result.{err_from_is_err_and}
 use Rattle.enclave_measure.specs.declared.fault.LayoutFault.{LayoutFault}
 use Rattle.enclave_measure.specs.declared.fault.LayoutFault.TheVariants as faults
