@@ -9,3 +9,5 @@ pub mod Asked
 pub mod Measured
 pub mod Absent
 pub mod Exemplified
+pub mod Places
+pub mod OneMeasurement

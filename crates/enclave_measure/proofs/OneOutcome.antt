@@ -9,6 +9,7 @@ use Rattle.enclave_measure.specs.declared.fault.LayoutFault.TheVariants as fault
 use Rattle.enclave_measure.specs.Lines.{Line, lines_of, read_lines}
 use Rattle.enclave_measure.specs.Pages.{Listed, IsInside, IsSize, IsEnclaveLine, IsPageLine}
 use Rattle.enclave_measure.specs.Layouts.{has_offset, AreApart, IsLineOf, ListPages, RefusesEnclave, NoEnclaveLine, NoSize, RefusesPage, NoPageLine, Outside, Again, FirstRefused, ReadsTo, Whole, NoLines, NoEnclave, NoPage}
+use Rattle.enclave_measure.proofs.Places.{Places, Same, Before, After, places, head_same, tail_same}
 use Rattle.enclave_measure.proofs.Listing.{neither, either_none, unlike}
 use Rattle.enclave_measure.proofs.Unique.{enclave_one, page_one, pages_one}
 
@@ -64,30 +65,6 @@ page_refused_one size earlier line f g (Outside p is past e) (NoPageLine none e'
 page_refused_one size earlier line f g (Again p is inside again e) (NoPageLine none e') = absurd (none p is)
 page_refused_one size earlier line f g (Outside p is past e) (Again p' is' inside again e') = absurd (omega (arith, past, inside, ap (λ (q : Page). q.offset) (page_one _ p p' is is')))
 page_refused_one size earlier line f g (Again p' is' inside again e) (Outside p is past e') = absurd (omega (arith, past, inside, ap (λ (q : Page). q.offset) (page_one _ p p' is is')))
-
--- two places in one list
-data Places (f g : List Line) (l m : Line) : Type 0 where
-  Same : f ≡ g → l ≡ m → Places f g l m
-  Before : (more : List Line) → g ≡ f ++ l ∷ more → Places f g l m
-  After : (more : List Line) → f ≡ g ++ m ∷ more → Places f g l m
-
-places_on : (x : Line) (f g : List Line) (l m : Line) → Places f g l m → Places (x ∷ f) (x ∷ g) l m
-places_on x f g l m (Same e same) = Same (ap (λ ls. x ∷ ls) e) same
-places_on x f g l m (Before more e) = Before more (ap (λ ls. x ∷ ls) e)
-places_on x f g l m (After more e) = After more (ap (λ ls. x ∷ ls) e)
-
-head_same : (x y : Line) (xs ys : List Line) → x ∷ xs ≡ y ∷ ys → x ≡ y
-head_same x y xs ys same = cc
-
-tail_same : (x y : Line) (xs ys : List Line) → x ∷ xs ≡ y ∷ ys → xs ≡ ys
-tail_same x y xs ys same = cc
-
-places : (f g : List Line) (l m : Line) (xs ys : List Line) → f ++ l ∷ xs ≡ g ++ m ∷ ys → Places f g l m
-places [] [] l m xs ys same = Same refl (head_same l m xs ys same)
-places [] (y ∷ g) l m xs ys same = Before g (rw (head_same l y xs (g ++ m ∷ ys) same) refl)
-places (x ∷ f) [] l m xs ys same = After f (rw (sym (head_same x m (f ++ l ∷ xs) ys same)) refl)
-places (x ∷ f) (y ∷ g) l m xs ys same =
-    subst (λ z. Places (x ∷ f) (z ∷ g) l m) (head_same x y (f ++ l ∷ xs) (g ++ m ∷ ys) same) (places_on x f g l m (places f g l m xs ys (tail_same x y (f ++ l ∷ xs) (g ++ m ∷ ys) same)))
 
 refused_one : (size : ℕ) (lines : List Line) (f g : LayoutFault) → FirstRefused size lines f → FirstRefused size lines g → f ≡ g
 refused_one size lines f g one two = by_places (places one.front two.front one.line two.line one.others two.others (sym one.whole ∙ two.whole))

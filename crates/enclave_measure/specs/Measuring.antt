@@ -64,6 +64,12 @@ host_part (Ok value) = Ok tt
 host_part (Err (faults.NotFound page)) = Ok tt
 host_part (Err faults.Host) = Err tt
 
+-- it ended by its answers, and no call failed
+abbrev pub IsDecided : Result (List ℕ) MeasureFault → Type 0
+IsDecided (Ok measured) = ⊤
+IsDecided (Err (faults.NotFound page)) = ⊤
+IsDecided (Err faults.Host) = ⊥
+
 -- the bytes of a source in files
 abbrev pub source_in : Files → Source → List ℕ
 source_in files sources.Zero = zeros PAGE

@@ -18,5 +18,5 @@ mod words;
 
 pub use enclave::measure;
 pub use fault::{LayoutFault, MeasureFault};
-pub use laws::{absence_is_refused, text_has_one_outcome};
+pub use laws::{absence_is_refused, answers_have_one_outcome, text_has_one_outcome};
 pub use layout::Layout;
