@@ -1,8 +1,6 @@
 -- The same answers lead to one outcome.
-use Rattle.std.proofs.Common.{◌≡◌, ◌∙◌, ◌⊎◌, inl, inr, ℕ, Bool, true, false, List, [], ◌∷◌, ◌++◌, length, refl, sym, ap, subst, Result, Ok, Err, Option, Some, None}
-use Rattle.std.specs.List.{list_any}
-use Rattle.std.proofs.lemmas.Bool.{both_ways}
-use Rattle.std.proofs.lemmas.List.{append_assoc, append-nil}
+use Rattle.std.proofs.Common.{◌≡◌, ◌∙◌, ℕ, Bool, true, false, List, [], ◌∷◌, ◌++◌, length, refl, sym, ap, subst, Result, Ok, Err, Some, None}
+use Rattle.std.proofs.lemmas.List.{append_assoc}
 use Rattle.pf_io.specs.Host.{Name, Answer, LengthWas, Gave}
 use Rattle.enclave_measure.specs.declared.page.Page.{Page}
 use Rattle.enclave_measure.specs.declared.page.Source.{Source}
@@ -11,8 +9,8 @@ use Rattle.enclave_measure.specs.declared.fault.MeasureFault.{MeasureFault}
 use Rattle.enclave_measure.specs.declared.fault.MeasureFault.TheVariants as faults
 use Rattle.enclave_measure.specs.Pages.{PAGE, Listed}
 use Rattle.enclave_measure.specs.Records.{padded, measurement}
-use Rattle.enclave_measure.specs.Measuring.{SourceGives, GivesWhere, PageGives, Gives, IsOfFile, EndsAt, Measures, Whole, Ended, IsDecided, is_absence}
-use Rattle.enclave_measure.proofs.Places.{Places, Same, Before, After, places, tail_same}
+use Rattle.enclave_measure.specs.Measuring.{SourceGives, GivesWhere, PageGives, Gives, IsOfFile, Measures, Whole, Ended, IsDecided}
+use Rattle.enclave_measure.proofs.Places.{Places, Same, Before, After, places}
 use Rattle.enclave_measure.proofs.Absent.{absent_exactly}
 
 given_same : (name : Name) (at size size' : ℕ) (given given' : List ℕ) (u v : List Answer) → LengthWas name (Some size) ∷ Gave name at PAGE given ∷ u ≡ LengthWas name (Some size') ∷ Gave name at PAGE given' ∷ v → (given ≡ given') × (u ≡ v)
@@ -87,8 +85,8 @@ not_before : (f g : List Page) (page : Page) (more : List Page) (asked asked' th
 not_before f g page more asked asked' these given given' name other name' at e one two of first second =
     let at_page = around f page more asked' given' (subst (λ (ps : List Page). Gives ps asked' given') e two) in
     let whole : at_page.first ++ (at_page.middle ++ (at_page.last ++ (LengthWas name' None ∷ []))) ≡ asked ++ (LengthWas other None ∷ []) =
-        ap (λ (ts : List Answer). at_page.first ++ ts) (sym (append_assoc at_page.middle at_page.last (LengthWas name' None ∷ []))) ∙ sym (append_assoc at_page.first (at_page.middle ++ at_page.last) (LengthWas name' None ∷ []))
-        ∙ ap (λ (ts : List Answer). ts ++ (LengthWas name' None ∷ [])) (sym at_page.whole) ∙ sym second ∙ first in
+    ap (λ (ts : List Answer). at_page.first ++ ts) (sym (append_assoc at_page.middle at_page.last (LengthWas name' None ∷ []))) ∙ sym (append_assoc at_page.first (at_page.middle ++ at_page.last) (LengthWas name' None ∷ []))
+    ∙ ap (λ (ts : List Answer). ts ++ (LengthWas name' None ∷ [])) (sym at_page.whole) ∙ sym second ∙ first in
     let rest = gives_one f at_page.first asked (at_page.middle ++ (at_page.last ++ (LengthWas name' None ∷ []))) (LengthWas other None ∷ []) at_page.given given at_page.gives one whole in
     page_there_not page.measured page.source name other at at_page.middle (at_page.last ++ (LengthWas name' None ∷ [])) at_page.bytes of.measured of.source at_page.here rest.1
 
@@ -114,8 +112,10 @@ measures_one layout these outcome other (Ended f p o asked last given name at (f
   where
     first : these ≡ asked ++ (LengthWas name None ∷ [])
     first = said ∙ ap (λ (ts : List Answer). asked ++ ts) ends.1
+
     second : these ≡ asked' ++ (LengthWas name' None ∷ [])
     second = said' ∙ ap (λ (ts : List Answer). asked' ++ ts) ends'.1
+
     by_places : Places f g p q → outcome ≡ other
     by_places (Same fronts pages) = is ∙ ap (λ (n : ℕ). Err (faults.NotFound n)) (ends.0 ∙ ap (λ (ps : List Page). length ps) fronts ∙ sym ends'.0) ∙ sym is'
     by_places (Before more e) = absurd (not_before f g p more asked asked' these given given' name name name' at e gives gives' of first second)

@@ -6,9 +6,19 @@ use std::test::Fail;
 const TWO_PAGES: &str =
     "enclave 0x2000 1\npage 0x0 r-x reg measured zero\npage 0x1000 --- tcs bare zero";
 
+// The most bytes of a layout.
+const LONGEST: usize = 4_194_304;
+
+fn read(alloc: Global, text: &str) -> Result<Layout, LayoutFault> {
+    if text.len() > LONGEST {
+        return Err(LayoutFault::Memory);
+    }
+    Layout::read(alloc, text.as_bytes())
+}
+
 // The layout of a text that is one.
 fn layout(alloc: Global, text: &str) -> Result<Layout, Fail> {
-    match Layout::read(alloc, text.as_bytes()) {
+    match read(alloc, text) {
         Ok(layout) => Ok(layout),
         Err(_) => Err(Fail::new("the text is no layout")),
     }
@@ -16,7 +26,7 @@ fn layout(alloc: Global, text: &str) -> Result<Layout, Fail> {
 
 // What is said of a text.
 fn said(alloc: Global, text: &str) -> Result<String, Fail> {
-    let said = match Layout::read(alloc, text.as_bytes()) {
+    let said = match read(alloc, text) {
         Ok(_) => String::from_str(alloc, "read")?,
         Err(LayoutFault::BadLine { line }) => format!(in alloc; "line {line}")?,
         Err(LayoutFault::BadSize { line }) => format!(in alloc; "line {line} size")?,
