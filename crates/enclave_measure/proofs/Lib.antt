@@ -1,0 +1,13 @@
+pub mod Digits
+pub mod Cutting
+pub mod Wording
+pub mod Forming
+pub mod Listing
+pub mod Unique
+pub mod OneOutcome
+pub mod Asked
+pub mod Measured
+pub mod Absent
+pub mod Exemplified
+pub mod Places
+pub mod OneMeasurement

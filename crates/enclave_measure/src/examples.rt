@@ -1,0 +1,18 @@
+//! What a layout of two pages is read and measured to, computed. Each function is a theorem, with nothing to do.
+ghost use Rattle.enclave_measure.specs.Examples.{TwoPagesRead, PagePastTheEnd, OffsetRepeated, TwoPagesMeasured};
+
+/// Its lines list it.
+pub fn two_pages_are_read()
+    ensures { TwoPagesRead }
+{}
+
+/// With another offset the second page is refused.
+pub fn two_pages_are_refused()
+    ensures past_the_end { PagePastTheEnd }
+    ensures repeated { OffsetRepeated }
+{}
+
+/// The records that are measured have 5312 bytes.
+pub fn two_pages_have_records()
+    ensures { TwoPagesMeasured }
+{}
