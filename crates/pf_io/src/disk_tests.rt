@@ -358,32 +358,37 @@ fn a_file_that_was_not_synced_is_lost(rt: HostRuntime) -> Result<(), Fail> {
         for _ in 0..2 {
             assert_eq!(rt; host.write_at(a.as_str(), 0, b"abcd"), Ok(()));
             if host.sync(a.as_str()).is_err() {
-                stays_lost(&rt, &mut host, a.as_str())?;
+                refuses_changes(&rt, &mut host, a.as_str());
                 break;
             }
         }
     }
     if host.sync(read.as_str()).is_err() {
-        stays_lost(&rt, &mut host, read.as_str())?;
+        read_others(&rt, &mut host, folder)?;
+        assert_eq!(rt; host.sync(read.as_str()), Err(HostFault));
+        refuses_changes(&rt, &mut host, read.as_str());
+        assert_eq!(rt;
+            opened(&mut host, read.as_str(), 0),
+            Ok((Some(4), 4, *b"abcd"))
+        );
+        fs::remove_file(&rt, read.as_str())?;
+        refuses_changes(&rt, &mut host, read.as_str());
     }
     fs::remove_dir_all(&rt, folder)?;
     Ok(())
 }
 
-// No sync and no change of a name is tried, also after more files than stay open, and where the name is taken away. Its
-// bytes are read.
-fn stays_lost(rt: &HostRuntime, host: &mut DiskHost<HostRuntime>, name: &str) -> Result<(), Fail> {
+// Reads more files than stay open.
+fn read_others(
+    rt: &HostRuntime,
+    host: &mut DiskHost<HostRuntime>,
+    folder: &str,
+) -> Result<(), Fail> {
     for number in 0..70 {
-        let other = format!(in rt.alloc(); "{name}-{number}")?;
+        let other = format!(in rt.alloc(); "{folder}/{number}")?;
         fs::write(rt, other.as_str(), b"x")?;
-        assert_eq!(rt; host.len(other.as_str()), Ok(Some(1)));
+        host.len(other.as_str())?;
     }
-    assert_eq!(rt; host.sync(name), Err(HostFault));
-    refuses_changes(rt, host, name);
-    assert_eq!(rt; opened(host, name, 0), Ok((Some(4), 4, *b"abcd")));
-    fs::remove_file(rt, name)?;
-    assert_eq!(rt; host.sync(name), Err(HostFault));
-    refuses_changes(rt, host, name);
     Ok(())
 }
 
