@@ -1,8 +1,8 @@
 -- What a crash leaves of a file after one call, and what stays.
-use Rattle.std.proofs.Common.{◌≡◌, ◌≢◌, ◌⊎◌, inl, inr, ℕ, suc, ◌+◌, ◌<◌, ◌≤◌, List, [], ◌∷◌, ◌++◌, length, take, slice_get, refl, sym, ◌∙◌, ap, subst, Option, Some, None, Result, Ok, Err, arith}
+use Rattle.std.proofs.Common.{◌≡◌, ◌≢◌, ◌⊎◌, inl, inr, ℕ, suc, ◌+◌, ◌<◌, ◌≤◌, min, List, [], ◌∷◌, ◌++◌, length, take, slice_get, refl, sym, ◌∙◌, ap, subst, Option, Some, None, Result, Ok, Err, arith}
 use Rattle.std.proofs.lemmas.List.{drop_all, append-nil}
 use Rattle.pf_io.specs.Disk.{Name, File, Disk, Image, IsFileImage, IsImageAt, IsImage, IsSettledFile, IsSettledAt, read_of}
-use Rattle.pf_io.specs.Steps.{Follows, KeepsOthers, overwrite, Torn, CutShort, TornEnd, RisksWrite, RisksNoMore, Writes, Cuts, Syncs, Makes, Removes, Swaps, AtOnce, IsEmptyFile}
+use Rattle.pf_io.specs.Steps.{Follows, KeepsOthers, overwrite, Torn, CutShort, RisksWrite, RisksNoMore, Writes, Cuts, Syncs, Makes, Removes, Swaps, AtOnce, IsEmptyFile}
 use Rattle.pf_io.specs.SplicingProofs.{get_take, overwrite-length, overwrite-front, overwrite-gap, overwrite-back}
 
 -- two lists of one length with the same element at each place
@@ -114,6 +114,12 @@ taken_front len l xs i le lt = get_take l xs i (omega arith)
 pub cut_front : {T E : Type 0} (r : Result T E) (len : ℕ) (f g : File) (i : ℕ) → Cuts len r f g → i < len → slice_get g.bytes i ≡ slice_get f.bytes i
 cut_front (Ok x) len f g i cuts lt = ap (λ (l : List ℕ). slice_get l i) cuts.reads ∙ taken_front len len f.bytes i (omega arith) lt
 cut_front (Err x) len f g i cuts lt = ap (λ (l : List ℕ). slice_get l i) cuts.reads.2 ∙ taken_front len cuts.reads.0 f.bytes i cuts.reads.1 lt
+
+-- a cut tore: any bytes from `len` on, and any length between the old one and the one that the whole cut makes
+pub record TornEnd (len : ℕ) (old new : List ℕ) : Type 0 where
+  pub no_shorter : min (length old) len ≤ length new
+  pub no_longer : length new ≤ length old
+  pub front : (i : ℕ) → i < len → i < length old → slice_get new i ≡ slice_get old i
 
 -- what a crash leaves of a settled file that was cut, done or not
 pub cut_image : {T E : Type 0} (r : Result T E) (len : ℕ) (f g : File) (bytes : List ℕ) → IsSettledFile f → Cuts len r f g → IsFileImage g bytes → TornEnd len f.bytes bytes

@@ -24,12 +24,6 @@ pub record CutShort (at n : ℕ) (old new : List ℕ) : Type 0 where
   pub torn : Torn at n old new
   pub gap : (i : ℕ) → length old ≤ i → i < at → i < length new → slice_get new i ≡ Some 0
 
--- a cut tore: any bytes from `len` on, and any length between the old one and the one that the whole cut makes
-pub record TornEnd (len : ℕ) (old new : List ℕ) : Type 0 where
-  pub no_shorter : min (length old) len ≤ length new
-  pub no_longer : length new ≤ length old
-  pub front : (i : ℕ) → i < len → i < length old → slice_get new i ≡ slice_get old i
-
 -- After a write of n bytes, done or not, a crash may leave any bytes in its range too, and each length that the file has had.
 pub record RisksWrite (at n : ℕ) (old new : File) : Type 0 where
   pub before : (i : ℕ) → old.keeps i ≡ true → i < at → new.keeps i ≡ true

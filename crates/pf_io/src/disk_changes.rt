@@ -46,11 +46,12 @@ pub(crate) fn cut_file<R: Files<File = File>>(
     Ok(())
 }
 
-// Writes down what was changed. The system may drop it where that fails, and say so only once.
+// Writes down what was changed, by the handle that wrote where this run has one. The system may drop it where that fails,
+// and say so only once.
 fn sync_held(handles: &mut Handles, id: FileId) -> io::Result<()> {
     let outcome = handles.file(id)?.sync_all();
     if outcome.is_err() {
-        handles.changed.lose(id);
+        handles.lose(id);
     }
     outcome
 }
@@ -61,10 +62,10 @@ pub(crate) fn sync_file<R: Files<File = File>>(
     handles: &mut Handles,
     name: &str,
 ) -> io::Result<()> {
-    let Some(id) = handles.hold_to_change(system, name)? else {
-        return Ok(());
-    };
-    sync_held(handles, id)
+    match handles.hold_to_sync(system, name)? {
+        Some(id) => sync_held(handles, id),
+        None => Ok(()),
+    }
 }
 
 // Gives a new file a name.

@@ -193,7 +193,7 @@ fn changes_of_absent_names_are_faults(rt: HostRuntime) -> Result<(), Fail> {
     Ok(())
 }
 
-// Each call that changes a name is a fault, and so is reading it.
+// Each call on a name is a fault.
 fn refuses(rt: &impl Abort, host: &mut DiskHost<HostRuntime>, name: &str) {
     assert_eq!(rt; host.len(name), Err(HostFault), "{name}");
     assert_eq!(rt;
@@ -201,13 +201,14 @@ fn refuses(rt: &impl Abort, host: &mut DiskHost<HostRuntime>, name: &str) {
         Err(HostFault),
         "{name}"
     );
+    assert_eq!(rt; host.sync(name), Err(HostFault), "{name}");
     refuses_changes(rt, host, name);
 }
 
+// Each call that changes a name is a fault.
 fn refuses_changes(rt: &impl Abort, host: &mut DiskHost<HostRuntime>, name: &str) {
     assert_eq!(rt; host.write_at(name, 0, b"x"), Err(HostFault), "{name}");
     assert_eq!(rt; host.cut(name, 0), Err(HostFault), "{name}");
-    assert_eq!(rt; host.sync(name), Err(HostFault), "{name}");
     assert_eq!(rt; host.make(name), Err(HostFault), "{name}");
     assert_eq!(rt;
         host.swap_name(name, "/tmp/pf_io-none"),
@@ -328,8 +329,10 @@ fn a_name_with_another_file_than_before_is_a_fault(rt: HostRuntime) -> Result<()
     fs::rename(&rt, b.as_str(), a.as_str())?;
     fs::write(&rt, b.as_str(), b"ef")?;
     assert_eq!(rt; host.len(a.as_str()), Err(HostFault));
+    assert_eq!(rt; host.sync(a.as_str()), Err(HostFault));
     refuses_changes(&rt, &mut host, a.as_str());
     refuses_changes(&rt, &mut host, b.as_str());
+    assert_eq!(rt; host.sync(b.as_str()), Ok(()));
     assert_eq!(rt;
         opened(&mut host, b.as_str(), 0),
         Ok((Some(2), 2, [b'e', b'f', 9, 9]))
@@ -348,6 +351,8 @@ fn a_file_that_was_not_synced_is_lost(rt: HostRuntime) -> Result<(), Fail> {
     let folder = folder.as_str();
     fs::create_dir(&rt, folder)?;
     let a = below(rt.alloc(), folder, "a")?;
+    let read = below(rt.alloc(), folder, "read")?;
+    fs::write(&rt, read.as_str(), b"abcd")?;
     let mut host = DiskHost::new(rt.clone()?);
     if host.make(a.as_str()).is_ok() {
         for _ in 0..2 {
@@ -358,7 +363,82 @@ fn a_file_that_was_not_synced_is_lost(rt: HostRuntime) -> Result<(), Fail> {
             }
         }
     }
+    if host.sync(read.as_str()).is_err() {
+        read_others(&rt, &mut host, folder)?;
+        assert_eq!(rt; host.sync(read.as_str()), Err(HostFault));
+        refuses_changes(&rt, &mut host, read.as_str());
+        assert_eq!(rt;
+            opened(&mut host, read.as_str(), 0),
+            Ok((Some(4), 4, *b"abcd"))
+        );
+        fs::remove_file(&rt, read.as_str())?;
+        refuses_changes(&rt, &mut host, read.as_str());
+    }
     fs::remove_dir_all(&rt, folder)?;
+    Ok(())
+}
+
+// Reads more files than stay open.
+fn read_others(
+    rt: &HostRuntime,
+    host: &mut DiskHost<HostRuntime>,
+    folder: &str,
+) -> Result<(), Fail> {
+    for number in 0..70 {
+        let other = format!(in rt.alloc(); "{folder}/{number}")?;
+        fs::write(rt, other.as_str(), b"x")?;
+        host.len(other.as_str())?;
+    }
+    Ok(())
+}
+
+#[test]
+fn a_sync_needs_no_right_to_change(rt: HostRuntime) -> Result<(), Fail> {
+    let folder = passing(&rt, "synced")?;
+    let folder = folder.as_str();
+    fs::create_dir(&rt, folder)?;
+    let a = below(rt.alloc(), folder, "a")?;
+    let soft = below(rt.alloc(), folder, "soft")?;
+    let hard = below(rt.alloc(), folder, "hard")?;
+    fs::write(&rt, a.as_str(), b"abcd")?;
+    fs::set_permissions(&rt, a.as_str(), Permissions::from_mode(0o400))?;
+    let mut host = DiskHost::new(rt.clone()?);
+    assert_eq!(rt; host.sync(a.as_str()), Ok(()));
+    symlink(&rt, a.as_str(), soft.as_str())?;
+    assert_eq!(rt; host.sync(soft.as_str()), Ok(()));
+    fs::hard_link(&rt, a.as_str(), hard.as_str())?;
+    for name in [a.as_str(), soft.as_str(), hard.as_str()] {
+        let mut host = DiskHost::new(rt.clone()?);
+        assert_eq!(rt; host.sync(name), Ok(()), "{name}");
+        assert_eq!(rt;
+            opened(&mut host, name, 0),
+            Ok((Some(4), 4, *b"abcd")),
+            "{name}"
+        );
+        assert_eq!(rt; host.sync(name), Ok(()), "{name}");
+    }
+    fs::remove_dir_all(&rt, folder)?;
+    Ok(())
+}
+
+#[test]
+fn two_runs_sync_and_read_one_file(rt: HostRuntime) -> Result<(), Fail> {
+    let name = passing(&rt, "shared")?;
+    let name = name.as_str();
+    fs::write(&rt, name, b"abcd")?;
+    let mut first = DiskHost::new(rt.clone()?);
+    let mut second = DiskHost::new(rt.clone()?);
+    assert_eq!(rt; first.sync(name), Ok(()));
+    assert_eq!(rt; second.sync(name), Ok(()));
+    assert_eq!(rt; opened(&mut first, name, 0), Ok((Some(4), 4, *b"abcd")));
+    assert_eq!(rt; opened(&mut second, name, 0), Ok((Some(4), 4, *b"abcd")));
+    assert_eq!(rt; first.write_at(name, 0, b"x"), Err(HostFault));
+    drop(second);
+    assert_eq!(rt; first.write_at(name, 0, b"x"), Ok(()));
+    assert_eq!(rt; first.sync(name), Ok(()));
+    let mut third = DiskHost::new(rt.clone()?);
+    assert_eq!(rt; third.sync(name), Err(HostFault));
+    fs::remove_file(&rt, name)?;
     Ok(())
 }
 

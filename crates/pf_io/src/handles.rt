@@ -11,7 +11,8 @@ use std::rt::Files;
 // How many files that are only read stay open.
 const MOST_READ: usize = 64;
 
-/// The open files of a run: those that it only reads, and those that it changes, which stay open.
+/// The open files of a run: those that it only reads, and those that it changes, which stay open. So does one of which a
+/// sync failed.
 #[derive(Drop)]
 pub(crate) struct Handles {
     read: OpenFiles,
@@ -39,22 +40,44 @@ impl Handles {
         }
     }
 
-    /// The handle of a file.
-    pub(crate) fn file(&self, id: FileId) -> io::Result<&File> {
-        let open = match self.changed.find_id(id) {
+    fn find_id(&self, id: FileId) -> Option<&OpenFile> {
+        match self.changed.find_id(id) {
             Some(open) => Some(open),
             None => self.read.find_id(id),
-        };
-        match open {
+        }
+    }
+
+    /// The handle of a file.
+    pub(crate) fn file(&self, id: FileId) -> io::Result<&File> {
+        match self.find_id(id) {
             Some(open) => Ok(&open.file),
             None => Err(replaced()),
         }
     }
 
-    // Closes the file of a name at which it no longer stands. It is an error where this run has changed it.
+    // It is an error where a sync of the file failed.
+    fn check_kept(&self, id: FileId) -> io::Result<()> {
+        match self.find_id(id) {
+            Some(open) if open.is_lost => Err(ErrorKind::Other.into()),
+            _ => Ok(()),
+        }
+    }
+
+    /// Marks a file of which a sync failed: no later change or sync of it is tried.
+    pub(crate) fn lose(&mut self, id: FileId) {
+        self.changed.lose(id);
+        self.read.lose(id);
+    }
+
+    // Closes the file of a name at which it no longer stands. It is an error where this run has changed it, and where a
+    // sync of it failed.
     fn let_go(&mut self, name: &str) -> io::Result<()> {
         if self.changed.find(name).is_some() {
             return Err(replaced());
+        }
+        match self.read.find(name) {
+            Some(open) if open.is_lost => return Err(replaced()),
+            _ => {}
         }
         self.read.forget(name);
         Ok(())
@@ -101,11 +124,25 @@ impl Handles {
             Some(open) if open.id != id => return Err(replaced()),
             _ => {}
         }
-        match self.changed.find_id(id) {
-            Some(open) if open.is_lost => Err(ErrorKind::Other.into()),
-            Some(_) => Ok(Some(id)),
-            None => Ok(Some(self.open_to_change(system, name, id)?)),
+        self.check_kept(id)?;
+        if self.changed.find_id(id).is_some() {
+            return Ok(Some(id));
         }
+        Ok(Some(self.open_to_change(system, name, id)?))
+    }
+
+    /// Opens the file of a name to be synced, where it is not open: to be read, since a sync changes nothing. `None` where
+    /// it is absent. It is an error where a sync of it failed before.
+    pub(crate) fn hold_to_sync<R: Files<File = File>>(
+        &mut self,
+        system: &R,
+        name: &str,
+    ) -> io::Result<Option<FileId>> {
+        let Some(id) = self.hold_to_read(system, name)? else {
+            return Ok(None);
+        };
+        self.check_kept(id)?;
+        Ok(Some(id))
     }
 
     // The version of a file that this run has read.

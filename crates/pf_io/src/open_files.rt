@@ -58,10 +58,14 @@ impl OpenFiles {
         Ok(())
     }
 
-    /// Closes the file that was kept first where there are this many.
+    /// Closes the file that was kept first where there are this many, except one of which a sync failed.
     pub(crate) fn make_room(&mut self, most: usize) {
-        if self.files.len() >= most && !self.files.is_empty() {
-            self.files.remove(0);
+        if self.files.len() < most {
+            return;
+        }
+        let first = self.files.iter().find(|open| !open.is_lost);
+        if let Some(id) = first.map(|open| open.id) {
+            self.forget_id(id);
         }
     }
 
