@@ -2,6 +2,7 @@
 #![tactic(auto)]
 
 mod change;
+mod clearing;
 mod copying;
 mod fault;
 mod laws;
@@ -9,6 +10,7 @@ mod marks;
 mod nodes;
 mod numbers;
 mod putting;
+mod sealing;
 mod stepping;
 #[cfg(test)]
 mod tests;
@@ -16,7 +18,8 @@ mod tree;
 
 pub use fault::TreeFault;
 pub use laws::{
-    file_is_given, file_stands_for_one, linked_sheets_exist, parts_are_one, reads_are_decided,
-    small_sheets_have_one_node, standing_file_is_read, steps_stay_backed, unforged_is_given,
+    file_is_given, file_stands_for_one, linked_sheets_exist, next_sheet_exists, next_sheet_is_one,
+    parts_are_one, reads_are_decided, small_sheets_have_one_node, standing_file_is_read,
+    steps_stay_backed, unforged_is_given,
 };
 pub use tree::Tree;
