@@ -45,6 +45,8 @@ pub mod Placed
 pub mod Cleared
 pub mod Seals
 pub mod PutFrom
+pub mod SealedAs
+pub mod Flushed
 pub mod Fresh
 pub mod Small
 pub mod Pieces

@@ -109,6 +109,7 @@ sealed_none keys held dirty f = record {
     longer = omega arith;
     before = λ i lt outside. refl;
     gap = λ i le lt. absurd (omega arith);
+    ends = λ i le lt. absurd (omega arith);
   };
   keeps = λ i kept outside. kept;
 }
@@ -145,6 +146,10 @@ module _ (x : ℕ) (numbers dirty : List ℕ) (key plain : List ℕ) (keys : Lis
             | inl below ↦ overwrite-gap (4096 * x) b g i new below lt
             | inr past ↦ absurd (omega (arith, overwrite-length (4096 * x) b g, reached))
           ]
+        ];
+        ends = λ i le lt. elim (cases_lt i (length g)) [
+          | inl was ↦ so_far.ends i le was
+          | inr new ↦ (x, among, omega (arith, overwrite-length (4096 * x) b g, reached))
         ];
       }
 

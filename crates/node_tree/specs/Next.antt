@@ -5,7 +5,8 @@ use Rattle.node_layout.specs.Entries.{entry_at}
 use Rattle.node_tree.specs.Sheet.{Node, Sheet, HasNode, IsLinked, root_of}
 use Rattle.node_tree.specs.Content.{first_text}
 use Rattle.node_tree.specs.Existing.{AreKeys, MayBeSealed}
-use Rattle.node_tree.specs.State.{TreeState, Held, NO_ENTRY, sealed_root, IsSound}
+use Rattle.node_tree.specs.Opened.{IsAt}
+use Rattle.node_tree.specs.State.{TreeState, held_at, Held, root_in, NO_ENTRY, sealed_root, IsSound}
 use Rattle.node_tree.specs.Backing.{Backs, now}
 
 -- The sheet that a tree on another one seals under a path, a nonce and a key for each dirty node, in rising number. Its other nodes are those of the old sheet, and in its dirty
@@ -36,3 +37,28 @@ pub record IsSealedAs (next : Sheet) (tree : TreeState) : Type 0 where
   pub first : tree.first ≡ first_text next.content
   pub root : sealed_root tree ≡ root_of next.nodes
   pub plains : (k : ℕ) (node : Node) (plain : List ℕ) → HasNode next k node → Held tree k plain → plain ≡ node.plain
+
+-- a tree on a sheet seals the next one under these keys
+pub record SealsNext (sheet : Sheet) (tree : TreeState) (keys : List (List ℕ)) (next : Sheet) : Type 0 where
+  pub path : List ℕ
+  pub nonce : List ℕ
+  pub linked : IsLinked sheet
+  pub backs : Backs sheet tree
+  pub is_next : NextSheet sheet tree path nonce keys next
+
+-- Only plain texts of nodes that are held, and the root's key and tag, changed.
+pub record KeepsShape (old new : TreeState) : Type 0 where
+  pub size : new.size ≡ old.size
+  pub first : new.first ≡ old.first
+  pub base : new.base ≡ old.base
+  pub dirty : new.dirty ≡ old.dirty
+  pub held : (k : ℕ) → IsAt (Held old) k → IsAt (Held new) k
+
+-- the tree once the dirty nodes are clean, and the content is the last sealed one
+pub record IsSettled (old new : TreeState) : Type 0 where
+  pub size : new.size ≡ old.size
+  pub first : new.first ≡ old.first
+  pub root : root_in new ≡ sealed_root old
+  pub base : new.base ≡ node_count old.size
+  pub held : (k : ℕ) → held_at new k ≡ held_at old k
+  pub dirty : new.dirty ≡ []

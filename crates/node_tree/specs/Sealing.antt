@@ -74,12 +74,13 @@ writes_of name held (k ∷ numbers) (key ∷ keys) = writes_of name held numbers
 abbrev pub InBlocks : List ℕ → ℕ → Type 0
 InBlocks numbers i = (k : ℕ) × Contains numbers k × (4096 * k ≤ i) × (i < 4096 * k + 4096)
 
--- Each of the nodes that were put has its seal at its place; what was there and is outside the blocks of the dirty nodes is as before, and a gap before them is zeros.
+-- Each of the nodes that were put has its seal at its place; what was there and is outside the blocks of the dirty nodes is as before, a gap before them is zeros, and the file does not go on behind them.
 pub record HasSeals (numbers : List ℕ) (keys : List (List ℕ)) (held : ℕ → Option (List ℕ)) (dirty old new : List ℕ) : Type 0 where
   pub seals : (k : ℕ) (key plain : List ℕ) → HasKey numbers keys k key → held k ≡ Some plain → block_of new k ≡ seal_for key plain
   pub longer : length old ≤ length new
   pub before : (i : ℕ) → i < length old → ¬ (InBlocks dirty i) → slice_get new i ≡ slice_get old i
   pub gap : (i : ℕ) → length old ≤ i → i < length new → ¬ (InBlocks dirty i) → slice_get new i ≡ Some 0
+  pub ends : (i : ℕ) → length old ≤ i → i < length new → (k : ℕ) × Contains dirty k × (i < 4096 * k + 4096)
 
 -- the file so far, and what of it a crash keeps
 pub record SealedFile (numbers : List ℕ) (keys : List (List ℕ)) (held : ℕ → Option (List ℕ)) (dirty : List ℕ) (old new : File) : Type 0 where
@@ -97,6 +98,7 @@ pub record HasSealsOf (next : Sheet) (dirty old new : List ℕ) : Type 0 where
   pub longer : length old ≤ length new
   pub before : (i : ℕ) → i < length old → ¬ (InBlocks dirty i) → slice_get new i ≡ slice_get old i
   pub gap : (i : ℕ) → length old ≤ i → i < length new → ¬ (InBlocks dirty i) → slice_get new i ≡ Some 0
+  pub ends : (i : ℕ) → length old ≤ i → i < length new → (k : ℕ) × Contains dirty k × (i < 4096 * k + 4096)
 
 -- In the end all other names stay, and where the name is there, at Ok it has the seals; where it is absent, it stays so.
 pub record PutsAll (R : File → File → Type 0) (name : Name) (old new : Disk) : Type 0 where

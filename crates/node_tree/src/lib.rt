@@ -5,6 +5,7 @@ mod change;
 mod clearing;
 mod copying;
 mod fault;
+mod flushing;
 mod laws;
 mod marks;
 mod nodes;

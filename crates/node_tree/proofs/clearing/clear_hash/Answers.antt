@@ -4,7 +4,7 @@ use Rattle.node_tree.proofs.Cleared.{hash_cleared}
 use Rattle.node_tree.proofs.Kept.{keeps_nodes, keeps_one}
 use Rattle.node_tree.proofs.clearing.clear_hash.Goals as goal
 
-pub returns-then-number-ne0-clause-keeps : goal.returns-then-clause-keeps
+pub returns-then-number-ne0-clause-keeps : goal.returns-then-number-ne0-clause-keeps
 returns-then-number-ne0-clause-keeps c = keeps_nodes c.args.nodes.now
 
 pub returns-clause-cleared : goal.returns-clause-cleared
