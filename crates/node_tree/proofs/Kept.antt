@@ -27,8 +27,8 @@ keeps_one m n number marks there here others = record {
   marks = marks;
   blocks = λ blocks k plain now. elim (cases_eq k number) [
     | inl same ↦
-      let q = here there.0 there.1 in
-      ap length (sym (same_Some q.0 plain (sym q.1 ∙ ap (plain_at n) (sym same) ∙ now))) ∙ q.2 ∙ blocks number there.0 there.1
+        let q = here there.0 there.1 in
+        ap length (sym (same_Some q.0 plain (sym q.1 ∙ ap (plain_at n) (sym same) ∙ now))) ∙ q.2 ∙ blocks number there.0 there.1
     | inr other ↦ blocks k plain (sym (others k other) ∙ now)
   ];
   held = λ k was. elim (cases_eq k number) [

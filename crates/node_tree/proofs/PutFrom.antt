@@ -134,7 +134,7 @@ module _ (j : ℕ) (name numbers : List ℕ) (keys : List (List ℕ)) (held mid 
             (goes_on P Q R (Changes name (Writes {T = T} {E = E} (4096 * x) (seal_for key here.0) (Ok value))) before.honest between.honest after.honest so_far.disk (does here.0 here.1)
             (λ d e f puts changes. (
               puts_then (SealedFile (drop (suc j) numbers) (drop (suc j) keys) mid numbers) (Writes {T = T} {E = E} (4096 * x) (seal_for key here.0) (Ok value)) (SealedFile (x ∷ drop (suc j) numbers) (key ∷ drop (suc j) keys) held_now numbers) name d e f
-              (λ a b c so writes. sealed_more x (drop (suc j) numbers) numbers key here.0 (drop (suc j) keys) mid held_now behind_it among stay here.1 (whole here.0 here.1) T E value a b c so writes) puts changes,
+                  (λ a b c so writes. sealed_more x (drop (suc j) numbers) numbers key here.0 (drop (suc j) keys) mid held_now behind_it among stay here.1 (whole here.0 here.1) T E value a b c so writes) puts changes,
               λ image is. any_write x (drop (suc j) numbers) numbers key here.0 (drop (suc j) keys) mid held_now behind_it among stay here.1 (whole here.0 here.1) {T = T} {E = E} (Ok value) name d e f puts changes image is,
             ))));
       }

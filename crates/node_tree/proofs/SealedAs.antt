@@ -42,7 +42,7 @@ first_is first p size long padded =
     let low : i < 3072 = omega (arith, long) in
     elim (cases_lt i size) [
       | inl inside ↦
-        sym (first_byte content i low (omega (arith, whole)) ∙ get_or-map-range_with_len (byte_of first p) 0 size i i 0 inside (omega arith) ∙ cond-true (ltb i 3072) _ _ (lt-ltb i 3072 low))
+          sym (first_byte content i low (omega (arith, whole)) ∙ get_or-map-range_with_len (byte_of first p) 0 size i i 0 inside (omega arith) ∙ cond-true (ltb i 3072) _ _ (lt-ltb i 3072 low))
       | inr behind ↦ padded i behind low ∙ sym (first_padding content i (omega (arith, whole)) low)
     ])
 
@@ -77,8 +77,8 @@ module _ (sheet next : Sheet) (tree new : TreeState) (path nonce : List ℕ) (ke
   root_sealed =
       elim (cases_eq (node_count new.size) 1) [
         | inl one ↦
-          let single : node_count tree.size ≡ 1 = ap node_count (sym size_same) ∙ one in
-          cond-true (eqb (node_count new.size) 1) _ _ (eq-eqb (node_count new.size) 1 one) ∙ sym (zeros next.nodes (omega (arith, count_is, single)))
+            let single : node_count tree.size ≡ 1 = ap node_count (sym size_same) ∙ one in
+            cond-true (eqb (node_count new.size) 1) _ _ (eq-eqb (node_count new.size) 1 one) ∙ sym (zeros next.nodes (omega (arith, count_is, single)))
         | inr more ↦ cond-false (eqb (node_count new.size) 1) _ _ (ne_eqb (node_count new.size) 1 more) ∙ root_is ∙ root_next (λ single. more (ap node_count size_same ∙ single))
       ]
 

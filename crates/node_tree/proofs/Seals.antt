@@ -38,6 +38,7 @@ still_there x k b old long lt =
     (λ i within. get_drop (4096 * k) new i ∙ overwrite-back (4096 * x) b old (4096 * k + i) (omega (arith, long)) ∙ sym (get_drop (4096 * k) old i))) where
       reach_is : (n : ℕ) → n ≡ 4096 → reach (4096 * x) n ≡ 4096 * x + 4096
       reach_is n is = ap (reach (4096 * x)) is
+
       reached : reach (4096 * x) (length b) ≡ 4096 * x + 4096
       reached = reach_is (length b) long
 
@@ -132,11 +133,11 @@ module _ (x : ℕ) (numbers dirty : List ℕ) (key plain : List ℕ) (keys : Lis
       record {
         seals = λ k key' p has here. elim (first_or_rest x numbers key keys k key' has) [
           | inl (is, key_is) ↦
-            let same_plain : plain ≡ p = same_Some plain p (sym there ∙ sym (behind x (omega arith)) ∙ ap held_now is ∙ here) in
-            ap (block_of h) (sym is) ∙ written (4096 * x) b g long ∙ ap₂ seal_for key_is same_plain
+              let same_plain : plain ≡ p = same_Some plain p (sym there ∙ sym (behind x (omega arith)) ∙ ap held_now is ∙ here) in
+              ap (block_of h) (sym is) ∙ written (4096 * x) b g long ∙ ap₂ seal_for key_is same_plain
           | inr further ↦
-            let after = before k (with_key numbers keys k key' further) in
-            still_there x k b g long after ∙ so_far.seals k key' p further (sym (behind k (omega arith)) ∙ here)
+              let after = before k (with_key numbers keys k key' further) in
+              still_there x k b g long after ∙ so_far.seals k key' p further (sym (behind k (omega arith)) ∙ here)
         ];
         longer = let l = so_far.longer in omega arith;
         before = λ i lt outside. same i (let l = so_far.longer in omega arith) outside ∙ so_far.before i lt outside;

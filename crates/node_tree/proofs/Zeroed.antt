@@ -117,8 +117,8 @@ unmarked_more numbers i f g h lt so_far is k on =
     elim (cases_eq k (slice_index numbers i)) [
       | inl same ↦ absurd (false≢true (sym (is k ∙ cond-true (eqb k (slice_index numbers i)) _ _ (eq-eqb k (slice_index numbers i) same)) ∙ on))
       | inr other ↦
-        let was = so_far k (sym (is k ∙ cond-false (eqb k (slice_index numbers i)) _ _ (ne_eqb k (slice_index numbers i) other)) ∙ on) in
-        (was.0, λ there. elim (front_cases numbers i lt k there) [ inl before ↦ was.1 before | inr same ↦ other same ])
+          let was = so_far k (sym (is k ∙ cond-false (eqb k (slice_index numbers i)) _ _ (ne_eqb k (slice_index numbers i) other)) ∙ on) in
+          (was.0, λ there. elim (front_cases numbers i lt k there) [ inl before ↦ was.1 before | inr same ↦ other same ])
     ]
 
 pub unmarked_all : (numbers : List ℕ) (i : ℕ) (f g : ℕ → Bool) → length numbers ≤ i → ClearedTo numbers i f g → (k : ℕ) → g k ≡ true → (f k ≡ true) × ¬ (Contains numbers k)

@@ -1,9 +1,11 @@
-//! The keyed tree of a protected file's nodes, read over any host.
+//! The keyed tree of a protected file's nodes, read, changed and sealed over any host.
 #![tactic(auto)]
 
 mod change;
 mod clearing;
 mod copying;
+#[cfg(test)]
+mod edit_tests;
 mod fault;
 mod flushing;
 mod laws;
@@ -23,4 +25,5 @@ pub use laws::{
     parts_are_one, reads_are_decided, small_sheets_have_one_node, standing_file_is_read,
     steps_stay_backed, unforged_is_given,
 };
+pub use stepping::resized_range;
 pub use tree::Tree;

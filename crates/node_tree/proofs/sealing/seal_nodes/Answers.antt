@@ -86,7 +86,7 @@ loop-left-preserved g c =
     let known = known_of (plain_at c.loop-left.nodes) c.args.numbers.now k c.requires.low c.requires.parents held among in
     record {
       put = put_one_more j c.args.name.now c.args.numbers.now c.args.keys.now (plain_at c.args.nodes.now) (plain_at c.loop-left.nodes) (plain_at c.put_node.new.nodes) c.args.root.now c.loop-left.root c.put_node.new.root
-    before between (g.H.Host.state c.put_node.new.host) lt c.requires.one_each c.requires.rising (c.requires.low k among) (held k among) (parent_at (plain_at c.loop-left.nodes) k known) so_far c.put_node.ensures.counts c.put_node.ensures.put c.put_node.ensures.whole _ _ tt
+          before between (g.H.Host.state c.put_node.new.host) lt c.requires.one_each c.requires.rising (c.requires.low k among) (held k among) (parent_at (plain_at c.loop-left.nodes) k known) so_far c.put_node.ensures.counts c.put_node.ensures.put c.put_node.ensures.whole _ _ tt
           c.in_ok-put_node.ensures.cause.still c.in_ok-put_node.ensures.told c.in_ok-put_node.ensures.disk;
       keeps = keeps_nodes_then c.args.nodes.now c.loop-left.nodes c.put_node.new.nodes c.loop-left.invariant.keeps c.put_node.ensures.keeps;
     }
