@@ -15,7 +15,7 @@ use Rattle.pf_io.proofs.Telling.{told_on, told_none, both_weaker}
 use Rattle.node_layout.specs.Places.{parent_of}
 use Rattle.node_tree.specs.State.{plain_or}
 use Rattle.node_tree.specs.Opened.{Entry, IsAt}
-use Rattle.node_tree.specs.Sealing.{CountsPuts, IsEntryPut, ArePut, SealedFile, LeavesOutside, PutsAll, PutEnds, entry_for, seal_for, writes_of}
+use Rattle.node_tree.specs.Sealing.{CountsPuts, IsEntryPut, ArePut, SealedFile, LeavesOutside, PutsAll, PutsFront, entry_for, seal_for, writes_of}
 use Rattle.node_tree.proofs.Keyed.{any_default, in_list}
 use Rattle.node_tree.proofs.Placed.{to_rest, put_none, put_more, behind}
 use Rattle.node_tree.proofs.Seals.{OutsideFile, outside_image, puts_none, puts_then, sealed_none, sealed_more, any_write}
@@ -150,6 +150,16 @@ module _ (j : ℕ) (name numbers : List ℕ) (keys : List (List ℕ)) (held mid 
         others_then name d e f puts.others changes.others,
         λ image is. any_write x (drop (suc j) numbers) numbers key here.0 (drop (suc j) keys) mid held_now behind_it (in_list numbers j lt) stay here.1 (whole here.0 here.1) r name d e f puts changes image is,
       ))
+
+  pub put_stops_told : after.given ≡ between.given → PutsFront name held_now numbers keys before after
+  put_stops_told given = record {
+    left = suc j;
+    within = omega arith;
+    told =
+        subst (λ (g : Option (List Answer)). Both before.given g (IsMore (writes_of name held_now (drop (suc j) numbers) (drop (suc j) keys)))) (sym given)
+        (subst (λ (l : List Answer). Both before.given between.given (IsMore l))
+        (writes_same name mid held_now (drop (suc j) numbers) (drop (suc j) keys) (λ k further. let b = behind_it k further in sym (stay k (omega arith)))) so_far.told);
+  }
 
   pub put_stops_counts : CountsPuts (length keys) before after
   put_stops_counts = let c = counts_now in record { reads = c.reads; writes = let w = c.writes in omega (arith, same); widest = c.widest }

@@ -8,7 +8,7 @@ use Rattle.pf_io.specs.Disk.{File, Disk, Image, IsImage}
 use Rattle.pf_io.specs.Host.{Name}
 use Rattle.pf_io.specs.Steps.{KeepsOthers, Changes, Writes, overwrite, reach}
 use Rattle.pf_io.specs.SplicingProofs.{get_drop, overwrite-length, overwrite-front, overwrite-gap, overwrite-back}
-use Rattle.pf_io.proofs.Images.{same_elements, image_at, others_then, follows_at, written_cut_short}
+use Rattle.pf_io.proofs.Images.{same_elements, image_at, others_then, follows_at, follows_none, written_cut_short}
 use Rattle.node_tree.specs.Opened.{block_of}
 use Rattle.node_tree.specs.Sealing.{HasKey, seal_for, InBlocks, HasSeals, SealedFile, LeavesOutside, PutsAll}
 use Rattle.node_tree.proofs.Placed.{first_or_rest, with_key}
@@ -90,7 +90,7 @@ outside_image name dirty d e image puts is file there settled bytes left i lt ou
     ap (λ (l : List ℕ). slice_get l i) same ∙ r.2.kept i (q.2.keeps i (settled.keeps i lt) outside) ∙ q.2.before i lt outside
 
 pub puts_weaker : (R S : File → File → Type 0) (name : Name) (d e : Disk) → ((f g : File) → R f g → S f g) → PutsAll R name d e → PutsAll S name d e
-puts_weaker R S name d e go puts = record { there = λ file there. let q = puts.there file there in (q.0, q.1, go file q.0 q.2); others = puts.others }
+puts_weaker R S name d e go puts = record { there = λ file there. let q = puts.there file there in (q.0, q.1, go file q.0 q.2); absent = puts.absent; others = puts.others }
 
 -- one write more
 pub puts_then : (R W S : File → File → Type 0) (name : Name) (d e f : Disk) → ((a b c : File) → R a b → W b c → S a c) → PutsAll R name d e → Changes name W e f → PutsAll S name d f
@@ -99,6 +99,7 @@ puts_then R W S name d e f go puts changes = record {
       let q = puts.there file there in
       let r = follows_at W (e name) (f name) q.0 q.1 changes.there in
       (r.0, r.1, go file q.0 r.0 q.2 r.2);
+  absent = λ none. follows_none W (e name) (f name) (puts.absent none) changes.there;
   others = others_then name d e f puts.others changes.others;
 }
 
@@ -116,7 +117,7 @@ sealed_none keys held dirty f = record {
 }
 
 pub puts_none : (R : File → File → Type 0) (name : Name) (d e : Disk) → ((f : File) → R f f) → e ≡ d → PutsAll R name d e
-puts_none R name d e go same = subst (λ (x : Disk). PutsAll R name d x) (sym same) (record { there = λ file there. (file, there, go file); others = λ other apart. refl })
+puts_none R name d e go same = subst (λ (x : Disk). PutsAll R name d x) (sym same) (record { there = λ file there. (file, there, go file); absent = λ none. none; others = λ other apart. refl })
 
 module _ (x : ℕ) (numbers dirty : List ℕ) (key plain : List ℕ) (keys : List (List ℕ)) (mid held_now : ℕ → Option (List ℕ)) (before : (k : ℕ) → Contains numbers k → x < k) (among : Contains dirty x)
     (behind : (k : ℕ) → x ≤ k → held_now k ≡ mid k) (there : mid x ≡ Some plain) (long : length (seal_for key plain) ≡ 4096) where

@@ -1,8 +1,8 @@
 -- The sealing of dirty nodes, children first.
-use Rattle.std.specs.Prelude.{◌≡◌, ◌≢◌, ℕ, ◌+◌, ◌*◌, ◌<◌, ◌≤◌, max, true, List, [], ◌∷◌, ◌++◌, length, slice_index, slice_index_or, slice_get, Contains, Option, Some, Result, Ok, Err}
+use Rattle.std.specs.Prelude.{◌≡◌, ◌≢◌, ℕ, ◌+◌, ◌*◌, ◌<◌, ◌≤◌, max, true, List, [], ◌∷◌, ◌++◌, length, drop, slice_index, slice_index_or, slice_get, Contains, Option, Some, None, Result, Ok, Err}
 use Rattle.std.specs.BTreeMap.{BTreeMap}
 use Rattle.pf_io.specs.Disk.{File, Disk, Image, IsSettledFile}
-use Rattle.pf_io.specs.Host.{Name, Answer, Wrote, HostState}
+use Rattle.pf_io.specs.Host.{Name, Answer, Wrote, HostState, Both, IsMore}
 use Rattle.pf_io.specs.Steps.{KeepsOthers}
 use Rattle.node_layout.specs.Places.{parent_of, slot_of}
 use Rattle.node_layout.specs.Entries.{entry_at}
@@ -70,6 +70,17 @@ writes_of name held [] keys = []
 writes_of name held (k ∷ numbers) [] = []
 writes_of name held (k ∷ numbers) (key ∷ keys) = writes_of name held numbers keys ++ (Wrote name (4096 * k) (seal_for key (plain_or (held k) [])) ∷ [])
 
+-- Some of the writes were told, those of the last numbers.
+pub record PutsFront (name : Name) (held : ℕ → Option (List ℕ)) (numbers : List ℕ) (keys : List (List ℕ)) (old new : HostState) : Type 0 where
+  pub left : ℕ
+  pub within : left ≤ length numbers
+  pub told : Both old.given new.given (IsMore (writes_of name held (drop left numbers) (drop left keys)))
+
+-- all of them were, or at a fault some
+abbrev pub PutTold : {T E : Type 0} → Result T E → Name → (ℕ → Option (List ℕ)) → List ℕ → List (List ℕ) → HostState → HostState → Type 0
+PutTold (Ok value) name held numbers keys old new = Both old.given new.given (IsMore (writes_of name held numbers keys))
+PutTold (Err fault) name held numbers keys old new = PutsFront name held numbers keys old new
+
 -- byte i stands in the block of one of these nodes
 abbrev pub InBlocks : List ℕ → ℕ → Type 0
 InBlocks numbers i = (k : ℕ) × Contains numbers k × (4096 * k ≤ i) × (i < 4096 * k + 4096)
@@ -100,9 +111,10 @@ pub record HasSealsOf (next : Sheet) (dirty old new : List ℕ) : Type 0 where
   pub gap : (i : ℕ) → length old ≤ i → i < length new → ¬ (InBlocks dirty i) → slice_get new i ≡ Some 0
   pub ends : (i : ℕ) → length old ≤ i → i < length new → (k : ℕ) × Contains dirty k × (i < 4096 * k + 4096)
 
--- In the end all other names stay, and where the name is there, at Ok it has the seals; where it is absent, it stays so.
+-- In the end all other names stay, and where the name is there, at Ok its file has R with the one before; where it is absent, it stays so.
 pub record PutsAll (R : File → File → Type 0) (name : Name) (old new : Disk) : Type 0 where
   pub there : (file : File) → old name ≡ Some file → (file' : File) × (new name ≡ Some file') × R file file'
+  pub absent : old name ≡ None → new name ≡ None
   pub others : KeepsOthers name old new
 
 abbrev pub PutEnds : {T E : Type 0} → Result T E → (File → File → Type 0) → Name → Disk → Disk → Type 0

@@ -1,13 +1,13 @@
 //! The sealing of a tree's changes.
 ghost use Rattle.std.specs.Prelude.{◌≡◌, ℕ, List, length, OnOk};
 ghost use Rattle.pf_io.specs.Counts.{HasCause};
-ghost use Rattle.pf_io.specs.Host.{Both, IsMore, OnDisk};
+ghost use Rattle.pf_io.specs.Host.{OnDisk};
 ghost use Rattle.pf_io.specs.Moments.{Ran, Ends};
 ghost use Rattle.node_tree.specs.Sheet.{Sheet};
 ghost use Rattle.node_tree.specs.State.{held_at};
 ghost use Rattle.node_tree.specs.Next.{SealsNext, IsSealedAs, KeepsShape, IsSettled};
 ghost use Rattle.node_tree.specs.Stepping.{BacksWith};
-ghost use Rattle.node_tree.specs.Sealing.{CountsPuts, SealedFile, LeavesOutside, PutEnds, HasSealsOf, writes_of};
+ghost use Rattle.node_tree.specs.Sealing.{CountsPuts, SealedFile, LeavesOutside, PutEnds, HasSealsOf, PutTold};
 
 use crate::change::clear_marks;
 use crate::clearing::clear;
@@ -34,7 +34,7 @@ impl Tree {
         ensures counts { CountsPuts (length keys.now) (H.state host.old) (H.state host.new) }
         ensures rest { KeepsShape self.old self.new }
         ensures sealed { OnOk result ((sheet next : Sheet) → SealsNext sheet self.old keys.now next → IsSealedAs next self.new) }
-        ensures told { OnOk result (Both (H.state host.old).given (H.state host.new).given (IsMore (writes_of name.now (held_at self.new) self.old.dirty keys.now))) }
+        ensures told { PutTold result name.now (held_at self.new) self.old.dirty keys.now (H.state host.old) (H.state host.new) }
         ensures disk { OnDisk (H.state host.old) (H.state host.new) (Ran (LeavesOutside name.now self.old.dirty) (PutEnds result (SealedFile self.old.dirty keys.now (held_at self.new) self.old.dirty) name.now)) }
         ensures seals { (sheet next : Sheet) → SealsNext sheet self.old keys.now next → OnDisk (H.state host.old) (H.state host.new) (Ends (PutEnds result (λ old new. HasSealsOf next self.old.dirty old.bytes new.bytes) name.now)) }
     {

@@ -2,7 +2,7 @@
 ghost use Rattle.std.specs.Prelude.{◌≡◌, ◌≢◌, ◌⊎◌, ◌^◌, ◌<◌, ◌≤◌, ◌*◌, ℕ, List, [], ◌∷◌, Contains, length, OnOk, Some};
 ghost use Rattle.std.specs.List.Sorted.{IsStrictlyIncreasing};
 ghost use Rattle.pf_io.specs.Counts.{HasCause};
-ghost use Rattle.pf_io.specs.Host.{Both, IsMore, Wrote, OnDisk, CountsWrite};
+ghost use Rattle.pf_io.specs.Host.{Wrote, Tells, OnDisk, CountsWrite};
 ghost use Rattle.pf_io.specs.Moments.{Does, Ran};
 ghost use Rattle.pf_io.specs.Steps.{Changes, Writes};
 ghost use Rattle.node_layout.specs.Places.{parent_of};
@@ -11,7 +11,7 @@ ghost use Rattle.node_tree.specs.Opened.{IsAt};
 ghost use Rattle.node_tree.specs.Nodes.{Keeps, plain_at};
 ghost use Rattle.node_tree.specs.State.{AreBlocks};
 ghost use Rattle.node_tree.specs.Marks.{KeepsMarks};
-ghost use Rattle.node_tree.specs.Sealing.{KeepsNodes, CountsPuts, IsEntryPut, ArePut, SealedFile, LeavesOutside, PutEnds, entry_for, seal_for, writes_of};
+ghost use Rattle.node_tree.specs.Sealing.{KeepsNodes, CountsPuts, IsEntryPut, ArePut, SealedFile, LeavesOutside, PutEnds, PutTold, entry_for, seal_for};
 
 use crate::nodes::HeldNode;
 use aes_gcm::{Key, seal_in_place};
@@ -97,7 +97,7 @@ fn put_node<H: Host>(
     ensures put { (plain : List ℕ) → plain_at nodes.old number ≡ Some plain → IsEntryPut number (entry_for key.now plain) (plain_at nodes.old) (plain_at nodes.new) root.old root.new }
     ensures keeps { KeepsNodes nodes.old nodes.new }
     ensures whole { (plain : List ℕ) → plain_at nodes.old number ≡ Some plain → length (seal_for key.now plain) ≡ 4096 }
-    ensures told { OnOk result ((plain : List ℕ) → plain_at nodes.old number ≡ Some plain → Both (H.state host.old).given (H.state host.new).given (IsMore (Wrote name.now (4096 * number) (seal_for key.now plain) ∷ []))) }
+    ensures told { (plain : List ℕ) → plain_at nodes.old number ≡ Some plain → Tells result (λ _. Wrote name.now (4096 * number) (seal_for key.now plain)) (H.state host.old) (H.state host.new) }
     ensures disk { (plain : List ℕ) → plain_at nodes.old number ≡ Some plain → OnDisk (H.state host.old) (H.state host.new) (Does (Changes name.now (Writes (4096 * number) (seal_for key.now plain) result))) }
 {
     let mut block = held(nodes, number);
@@ -125,7 +125,7 @@ pub(crate) fn seal_nodes<H: Host>(
     ensures counts { CountsPuts (length keys.now) (H.state host.old) (H.state host.new) }
     ensures put { OnOk result (ArePut numbers.now keys.now (plain_at nodes.old) (plain_at nodes.new) root.old root.new) }
     ensures keeps { KeepsNodes nodes.old nodes.new }
-    ensures told { OnOk result (Both (H.state host.old).given (H.state host.new).given (IsMore (writes_of name.now (plain_at nodes.new) numbers.now keys.now))) }
+    ensures told { PutTold result name.now (plain_at nodes.new) numbers.now keys.now (H.state host.old) (H.state host.new) }
     ensures disk { OnDisk (H.state host.old) (H.state host.new) (Ran (LeavesOutside name.now numbers.now) (PutEnds result (SealedFile numbers.now keys.now (plain_at nodes.new) numbers.now) name.now)) }
 {
     let mut left = numbers.len();

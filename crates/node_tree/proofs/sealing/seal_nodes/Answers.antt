@@ -10,7 +10,7 @@ use Rattle.node_tree.specs.Nodes.{plain_at}
 use Rattle.node_tree.specs.Sealing.{ArePut, SealedFile, LeavesOutside, PutsAll, writes_of}
 use Rattle.node_tree.proofs.Keyed.{in_list}
 use Rattle.node_tree.proofs.Kept.{keeps_nodes, keeps_nodes_then}
-use Rattle.node_tree.proofs.PutFrom.{ArePutFrom, held_still, put_from_none, put_one_more, put_stops_disk, put_stops_counts, put_stops_cause, put_all_counts}
+use Rattle.node_tree.proofs.PutFrom.{ArePutFrom, held_still, put_from_none, put_one_more, put_stops_disk, put_stops_told, put_stops_counts, put_stops_cause, put_all_counts}
 use Rattle.node_tree.proofs.sealing.seal_nodes.Goals as goal
 
 -- a number's parent is held
@@ -115,6 +115,25 @@ returns-in_err-put_node-clause-counts g c =
 
 pub returns-in_err-put_node-clause-keeps : goal.returns-in_err-put_node-clause-keeps
 returns-in_err-put_node-clause-keeps g c = keeps_nodes_then c.args.nodes.now c.loop-left.nodes c.put_node.new.nodes c.loop-left.invariant.keeps c.put_node.ensures.keeps
+
+pub returns-in_err-put_node-clause-told : goal.returns-in_err-put_node-clause-told
+returns-in_err-put_node-clause-told g c =
+    let p = err_from_is_err_and c.from_residual.result c.from_residual.ensures.1 in
+    let j = c.loop-left.left - 1 in
+    let up : c.loop-left.left ≡ suc j = omega arith in
+    let w = c.loop-left.invariant.put.within in
+    let lt : j < length c.args.numbers.now = omega arith in
+    let k = slice_index c.args.numbers.now j in
+    let among : Contains c.args.numbers.now k = in_list c.args.numbers.now j lt in
+    let before = g.H.Host.state c.args.host.now in
+    let between = g.H.Host.state c.loop-left.host in
+    let held : (i : ℕ) → Contains c.args.numbers.now i → IsAt (At (plain_at c.loop-left.nodes)) i =
+    λ i there. held_still (drop c.loop-left.left c.args.numbers.now) (drop c.loop-left.left c.args.keys.now) (plain_at c.args.nodes.now) (plain_at c.loop-left.nodes) c.args.root.now c.loop-left.root i c.loop-left.invariant.put.put (c.requires.held i there) in
+    let so_far = subst (λ (n : ℕ). ArePutFrom n c.args.name.now c.args.numbers.now c.args.keys.now (plain_at c.args.nodes.now) (plain_at c.loop-left.nodes) c.args.root.now c.loop-left.root before between) up c.loop-left.invariant.put in
+    let known = known_of (plain_at c.loop-left.nodes) c.args.numbers.now k c.requires.low c.requires.parents held among in
+    rw p.1 (put_stops_told j c.args.name.now c.args.numbers.now c.args.keys.now (plain_at c.args.nodes.now) (plain_at c.loop-left.nodes) (plain_at c.put_node.new.nodes) c.args.root.now c.loop-left.root c.put_node.new.root
+    before between (g.H.Host.state c.put_node.new.host) lt c.requires.one_each c.requires.rising (c.requires.low k among) (held k among) (parent_at (plain_at c.loop-left.nodes) k known) so_far c.put_node.ensures.counts c.put_node.ensures.put c.put_node.ensures.whole
+    (c.in_err-put_node.ensures.told (held k among).0 (held k among).1))
 
 pub returns-in_err-put_node-clause-disk : goal.returns-in_err-put_node-clause-disk
 returns-in_err-put_node-clause-disk g c =

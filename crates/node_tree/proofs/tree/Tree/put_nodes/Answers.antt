@@ -8,7 +8,7 @@ use Rattle.node_tree.specs.Nodes.{plain_at}
 use Rattle.node_tree.specs.State.{TreeState, held_at}
 use Rattle.node_tree.specs.Inside.{state_of}
 use Rattle.node_tree.specs.Clearing.{AreCleared}
-use Rattle.node_tree.specs.Sealing.{ArePut, SealedFile, LeavesOutside, PutEnds, writes_of}
+use Rattle.node_tree.specs.Sealing.{ArePut, SealedFile, LeavesOutside, PutEnds, PutTold}
 use Rattle.node_tree.proofs.Kept.{keeps_nodes_then}
 use Rattle.node_tree.proofs.Flushed.{numbers_is, numbers_rise, numbers_low, numbers_high, numbers_held, numbers_parents, numbers_many, held_e, well_put, shape, tree_sealed, tree_seals}
 use Rattle.node_tree.proofs.tree.Tree.put_nodes.Goals as goal
@@ -62,9 +62,10 @@ pub returns-clause-told : goal.returns-clause-told
 returns-clause-told g c =
     let same : c.deref-2.result.now ≡ c.args.self.now.dirty = c.deref-2.ensures.0 ∙ numbers_is c.self.inside c.args.self.now c.self.view_is c.self.invariant c.dirty_numbers-numbers.result.items c.dirty_numbers-numbers.ensures in
     let new = state_of (record c.self.inside { root = c.seal_nodes.new.root; nodes = c.seal_nodes.new.nodes }) in
-    subst (λ (l : List ℕ). OnOk c.seal_nodes.result (Both (g.H.Host.state c.args.host.now).given (g.H.Host.state c.seal_nodes.new.host).given (IsMore (writes_of c.args.name.now (held_at new) l c.args.keys.now)))) same
-    (subst (λ (f : ℕ → Option (List ℕ)). OnOk c.seal_nodes.result (Both (g.H.Host.state c.args.host.now).given (g.H.Host.state c.seal_nodes.new.host).given (IsMore (writes_of c.args.name.now f c.deref-2.result.now c.args.keys.now))))
-    (held_e c.self.inside c.args.self.now c.self.view_is c.self.invariant c.dirty_numbers-numbers.result.items c.dirty_numbers-numbers.ensures c.seal_nodes.new.root c.seal_nodes.new.nodes (keeps_nodes_then c.self.inside.nodes c.clear.new.nodes c.seal_nodes.new.nodes c.clear.ensures.keeps c.seal_nodes.ensures.keeps)) c.seal_nodes.ensures.told)
+    subst (λ (l : List ℕ). PutTold c.seal_nodes.result c.args.name.now (held_at new) l c.args.keys.now (g.H.Host.state c.args.host.now) (g.H.Host.state c.seal_nodes.new.host)) same
+    (subst (λ (f : ℕ → Option (List ℕ)). PutTold c.seal_nodes.result c.args.name.now f c.deref-2.result.now c.args.keys.now (g.H.Host.state c.args.host.now) (g.H.Host.state c.seal_nodes.new.host))
+    (held_e c.self.inside c.args.self.now c.self.view_is c.self.invariant c.dirty_numbers-numbers.result.items c.dirty_numbers-numbers.ensures c.seal_nodes.new.root c.seal_nodes.new.nodes
+    (keeps_nodes_then c.self.inside.nodes c.clear.new.nodes c.seal_nodes.new.nodes c.clear.ensures.keeps c.seal_nodes.ensures.keeps)) c.seal_nodes.ensures.told)
 
 pub returns-clause-disk : goal.returns-clause-disk
 returns-clause-disk g c =
