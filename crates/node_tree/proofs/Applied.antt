@@ -1,13 +1,12 @@
 -- A step as bytes that are put.
-use Rattle.std.proofs.Common.{◌≡◌, inl, inr, ℕ, ◌+◌, ◌-◌, ◌*◌, ◌<◌, ◌≤◌, min, max, List, ◌++◌, length, take, drop, replicate, slice_index, refl, ap, ◌∙◌, sym, arith, subst}
+use Rattle.std.proofs.Common.{◌≡◌, inl, inr, ℕ, ◌+◌, ◌-◌, ◌<◌, ◌≤◌, min, max, List, ◌++◌, length, take, drop, replicate, slice_index, refl, ap, ◌∙◌, sym, arith, subst}
 use Rattle.std.proofs.lemmas.Bool.{cases_lt}
 use Rattle.std.proofs.lemmas.List.{get_or_append_left, get_or-append_right, get_or-replicate, get_or-take, get_or-drop, length-take, length-take-le, length-drop, length-append, length-replicate}
-use Rattle.node_layout.specs.Places.{data_count}
 use Rattle.node_tree.specs.State.{TreeState}
 use Rattle.node_tree.specs.Inside.{state_of}
 use Rattle.node_tree.specs.declared.tree.Tree.TheInside.{Inside}
 use Rattle.node_tree.specs.Putting.{put_byte, IsPutting}
-use Rattle.node_tree.specs.Applying.{Write, Size, applied, from_of, to_of}
+use Rattle.node_tree.specs.Applying.{Write, Size, from_of, to_of}
 use Rattle.node_tree.proofs.Puts.{put_before, put_within, put_behind}
 
 module _ (at size : ℕ) (from : List ℕ) (no_gap : at ≤ size) where

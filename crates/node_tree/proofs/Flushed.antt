@@ -1,5 +1,5 @@
 -- The sealing of a tree's changes, from its fields.
-use Rattle.std.proofs.Common.{◌≡◌, ◌≢◌, inl, inr, ℕ, ◌+◌, ◌^◌, ◌<◌, ◌≤◌, ◌==◌, List, [], ◌∷◌, length, refl, ap, ◌∙◌, sym, subst, arith, true, Option, Some, Result, Ok, Err, OnOk, if◌then◌else◌}
+use Rattle.std.proofs.Common.{◌≡◌, ℕ, ◌^◌, ◌<◌, ◌≤◌, ◌==◌, List, [], ◌∷◌, length, refl, ap, ◌∙◌, sym, subst, arith, true, Option, Result, Ok, Err, OnOk, if◌then◌else◌}
 use Rattle.std.specs.Prelude.{Contains}
 use Rattle.std.specs.List.Sorted.{IsStrictlyIncreasing}
 use Rattle.std.specs.Ordering.{nat_cmp}
@@ -12,11 +12,11 @@ use Rattle.node_layout.specs.Places.{node_count, parent_of}
 use Rattle.node_tree.specs.Sheet.{Sheet, HasNode}
 use Rattle.node_tree.specs.Opened.{At, IsAt, Entry}
 use Rattle.node_tree.specs.Nodes.{plain_at, Keeps}
-use Rattle.node_tree.specs.State.{TreeState, held_at, Held, root_in, AreBlocks, NO_ENTRY, sealed_root, MOST_DIRTY}
+use Rattle.node_tree.specs.State.{TreeState, held_at, Held, AreBlocks, NO_ENTRY, MOST_DIRTY}
 use Rattle.node_tree.specs.Inside.{state_of, IsWell}
 use Rattle.node_tree.specs.Marks.{marked, marked_at}
 use Rattle.node_tree.specs.Clearing.{AreCleared}
-use Rattle.node_tree.specs.Sealing.{KeepsNodes, HasKey, ArePut, SealedFile, LeavesOutside, HasSealsOf, PutsAll, PutEnds}
+use Rattle.node_tree.specs.Sealing.{KeepsNodes, HasKey, ArePut, SealedFile, LeavesOutside, HasSealsOf, PutEnds}
 use Rattle.node_tree.specs.Next.{SealsNext, IsSealedAs, KeepsShape, IsSettled}
 use Rattle.node_tree.specs.declared.nodes.HeldNode.{HeldNode}
 use Rattle.node_tree.specs.declared.tree.Tree.TheInside.{Inside}

@@ -1,23 +1,17 @@
 -- One entry more that is put.
-use Rattle.std.proofs.Common.{◌≡◌, ◌≢◌, ◌⊎◌, inl, inr, ℕ, zero, suc, ◌+◌, ◌-◌, ◌*◌, ◌<◌, ◌≤◌, List, [], ◌∷◌, ◌++◌, length, take, drop, drop-cons, get_or, refl, ap, ap₂, ◌∙◌, sym, subst, arith, Option, Some, slice_index}
+use Rattle.std.proofs.Common.{◌≡◌, ◌≢◌, ◌⊎◌, inl, inr, ℕ, zero, suc, ◌+◌, ◌*◌, ◌<◌, ◌≤◌, List, [], ◌∷◌, ◌++◌, length, take, drop, refl, ap, ap₂, ◌∙◌, sym, subst, arith, Option, Some, slice_index}
 use Rattle.std.specs.Prelude.{Contains, slice_index_or}
 use Rattle.std.proofs.lemmas.Bool.{cases_eq}
 use Rattle.std.proofs.lemmas.Option.{same_Some}
 use Rattle.node_layout.specs.Places.{parent_of, slot_of}
 use Rattle.node_layout.specs.Entries.{entry_at, with_entry}
 use Rattle.node_layout.proofs.InNode.{entry_here, entry_elsewhere}
-use Rattle.node_tree.specs.Sheet.{sealed}
-use Rattle.std.specs.List.Sorted.{IsStrictlyIncreasing}
-use Rattle.std.proofs.lemmas.List.{length-append, length-take-le, length-drop, get_or-drop}
-use Rattle.std.proofs.lemmas.List.Kept.{AllPairs-from_increasing}
-use Rattle.pf_io.specs.Host.{Answer, Wrote, HostState, Both, IsMore}
-use Rattle.pf_io.proofs.Telling.{told_on}
-use Rattle.node_tree.specs.State.{plain_or}
+use Rattle.std.proofs.lemmas.List.{length-append, length-take-le, length-drop}
 use Rattle.node_layout.proofs.Numbers.{parent_before, slot_below}
 use Rattle.node_tree.specs.Opened.{Entry, IsAt}
-use Rattle.node_tree.specs.Sealing.{HasKey, entry_for, IsEntryPut, ArePut, writes_of}
+use Rattle.node_tree.specs.Sealing.{HasKey, entry_for, IsEntryPut, ArePut}
 use Rattle.node_tree.proofs.Children.{child_of, child_is}
-use Rattle.node_tree.proofs.Keyed.{any_default, in_list}
+use Rattle.node_tree.proofs.Keyed.{in_list}
 
 pub none_in : (k : ℕ) → ¬ (Contains [] k)
 none_in k (i, lt, is) = omega arith

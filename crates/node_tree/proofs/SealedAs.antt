@@ -1,5 +1,5 @@
 -- A tree that was sealed is as the next sheet has it, and the sheet backs it once it is settled.
-use Rattle.std.proofs.Common.{◌≡◌, ◌≢◌, inl, inr, ℕ, ◌+◌, ◌*◌, ◌<◌, ◌≤◌, List, [], ◌∷◌, length, take, replicate, refl, ap, ap₂, ◌∙◌, sym, subst, arith, Option, Some, eqb, ltb, ◌-◌, slice_index}
+use Rattle.std.proofs.Common.{◌≡◌, ◌≢◌, inl, inr, ℕ, ◌+◌, ◌<◌, ◌≤◌, List, [], ◌∷◌, length, take, replicate, refl, ap, ap₂, ◌∙◌, sym, subst, arith, Option, Some, eqb, ltb, ◌-◌, slice_index}
 use Rattle.std.specs.Prelude.{Contains}
 use Rattle.std.proofs.lemmas.Bool.{cases_lt, cases_eq, cond-true, cond-false, eq-eqb, ne_eqb, lt-ltb}
 use Rattle.std.proofs.lemmas.Option.{same_Some}
@@ -7,7 +7,7 @@ use Rattle.std.proofs.lemmas.List.{ext_get_or, length-append, length-take, lengt
 use Rattle.std.proofs.lemmas.List.FromFn.{length-map-range_with_len, get_or-map-range_with_len}
 use Rattle.node_layout.specs.declared.metadata.MetaSecret.{MetaSecret}
 use Rattle.node_layout.specs.Metadata.{IsMetaText}
-use Rattle.node_layout.specs.Places.{data_place, data_count, node_count, parent_of}
+use Rattle.node_layout.specs.Places.{data_place, node_count, parent_of}
 use Rattle.node_layout.proofs.Numbers.{data_live}
 use Rattle.node_tree.specs.Content.{first_text, data_text, byte_of, bytes_of}
 use Rattle.node_tree.specs.Sheet.{Node, Sheet, HasNode, IsLinked, plain_in, root_of, meta_of}

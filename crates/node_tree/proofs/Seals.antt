@@ -1,16 +1,16 @@
 -- Seals that are written to an honest disk, the last number first.
-use Rattle.std.proofs.Common.{◌≡◌, ◌⊎◌, inl, inr, ℕ, ◌+◌, ◌-◌, ◌*◌, ◌<◌, ◌≤◌, max, List, [], ◌∷◌, ◌++◌, length, take, drop, replicate, get_or, refl, ap, ap₂, ◌∙◌, sym, arith, subst, true, Option, Some, Result, Ok, Err, slice_index}
-use Rattle.std.specs.Prelude.{Contains, slice_get, slice_index_or}
-use Rattle.std.proofs.lemmas.Bool.{cases_lt, cases_eq}
+use Rattle.std.proofs.Common.{◌≡◌, ◌⊎◌, inl, inr, ℕ, ◌+◌, ◌-◌, ◌*◌, ◌<◌, ◌≤◌, List, [], ◌∷◌, ◌++◌, length, take, drop, replicate, get_or, refl, ap, ap₂, ◌∙◌, sym, arith, subst, true, Option, Some, Result, Ok}
+use Rattle.std.specs.Prelude.{Contains, slice_get}
+use Rattle.std.proofs.lemmas.Bool.{cases_lt}
 use Rattle.std.proofs.lemmas.Option.{same_Some}
 use Rattle.std.proofs.lemmas.List.{ext_get_or, get_or_append_left, get_or-append_right, get_or-take, get_or-drop, length-take, length-take-le, length-drop, length-append, length-replicate}
 use Rattle.pf_io.specs.Disk.{File, Disk, Image, IsImage}
 use Rattle.pf_io.specs.Host.{Name}
-use Rattle.pf_io.specs.Steps.{KeepsOthers, Changes, Writes, overwrite, reach}
+use Rattle.pf_io.specs.Steps.{Changes, Writes, overwrite, reach}
 use Rattle.pf_io.specs.SplicingProofs.{get_drop, overwrite-length, overwrite-front, overwrite-gap, overwrite-back}
 use Rattle.pf_io.proofs.Images.{same_elements, image_at, others_then, follows_at, follows_none, written_cut_short}
 use Rattle.node_tree.specs.Opened.{block_of}
-use Rattle.node_tree.specs.Sealing.{HasKey, seal_for, InBlocks, HasSeals, SealedFile, LeavesOutside, PutsAll}
+use Rattle.node_tree.specs.Sealing.{seal_for, InBlocks, HasSeals, SealedFile, LeavesOutside, PutsAll}
 use Rattle.node_tree.proofs.Placed.{first_or_rest, with_key}
 
 -- the block that was written is read again

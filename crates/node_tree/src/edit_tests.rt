@@ -184,6 +184,7 @@ fn a_write_that_meets_damage_changes_nothing(rt: HostRuntime) {
         *byte ^= 1;
     }
     let mut forged = host_of(&rt, rt.alloc(), &file);
+    assert!(rt; tree.size() >= 9000);
     assert!(rt; tree.changed_count(3000, 9000) <= 48);
     let outcome = tree.write(&mut forged, "a.pf", 3000, &[255; 6000]);
     assert_eq!(rt; outcome, Err(damaged(3, Kind::Tag)));

@@ -1,4 +1,4 @@
-use Rattle.std.proofs.Common.{arith, ◌∙◌}
+use Rattle.std.proofs.Common.{arith}
 use Rattle.node_tree.specs.Nodes.{plain_at}
 use Rattle.node_tree.proofs.Cleared.{hash_cleared}
 use Rattle.node_tree.proofs.Kept.{keeps_nodes, keeps_one}

@@ -1,11 +1,11 @@
 use Rattle.std.proofs.Common.{◌≡◌, ℕ, List, Result, Ok, Err, OnOk, length, ap, sym, ◌∙◌, subst, rules, Option}
 use Rattle.std.specs.Prelude.{Contains}
 use Rattle.std.specs.List.Sorted.{IsStrictlyIncreasing}
-use Rattle.pf_io.specs.Host.{Both, IsMore}
+use Rattle.pf_io.specs.Host.{Both}
 use Rattle.pf_io.specs.Moments.{Ran}
 use Rattle.node_layout.specs.Places.{parent_of}
 use Rattle.node_tree.specs.Nodes.{plain_at}
-use Rattle.node_tree.specs.State.{TreeState, held_at}
+use Rattle.node_tree.specs.State.{held_at}
 use Rattle.node_tree.specs.Inside.{state_of}
 use Rattle.node_tree.specs.Clearing.{AreCleared}
 use Rattle.node_tree.specs.Sealing.{ArePut, SealedFile, LeavesOutside, PutEnds, PutTold}

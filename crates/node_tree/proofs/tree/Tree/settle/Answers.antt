@@ -1,5 +1,4 @@
-use Rattle.std.proofs.Common.{ℕ, List, ◌∙◌, subst}
-use Rattle.std.specs.Prelude.{Contains}
+use Rattle.std.proofs.Common.{◌∙◌}
 use Rattle.node_tree.specs.Inside.{state_of}
 use Rattle.node_tree.proofs.Flushed.{numbers_held, well_settled, settled_is}
 use Rattle.node_tree.proofs.SealedAs.{settled_with}
