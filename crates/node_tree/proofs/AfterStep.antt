@@ -113,8 +113,7 @@ module _ (name : Name) (these : List Answer) (files : Files) (of_files : AllByRe
       let there = ends.ready k (subst (λ (n : ℕ). Touches step n k) (sym size) on) (subst (λ (n : ℕ). k < node_count n) (sym size) live) in
       (there.0, file_opened name these files of_files old of_file k there.0 (came k there.0 there.1))
   of_step (Err (faults.Damaged damage)) ends =
-      let breaks = ends.0 in
-      (
+      let breaks = ends.0 in (
         new_of_file ends.1,
         record {
           touched = breaks.touched;

@@ -38,10 +38,10 @@ data_padding content d r le lt =
     let slice = drop (3072 + 4096 * d) content in
     padding_byte 4096 r (take 4096 slice) (omega (arith, length-take 4096 slice, length-drop (3072 + 4096 * d) content)) lt
 
-first_byte : (content : List ℕ) (i : ℕ) → i < 3072 → i < length content → get_or (first_text content) i 0 ≡ get_or content i 0
+pub first_byte : (content : List ℕ) (i : ℕ) → i < 3072 → i < length content → get_or (first_text content) i 0 ≡ get_or content i 0
 first_byte content i low lt = padded_byte 3072 i (take 3072 content) (omega (arith, length-take 3072 content)) ∙ get_or-take 3072 content i 0 low
 
-data_byte : (content : List ℕ) (d r : ℕ) → r < 4096 → 3072 + 4096 * d + r < length content → get_or (data_text content d) r 0 ≡ get_or content (3072 + 4096 * d + r) 0
+pub data_byte : (content : List ℕ) (d r : ℕ) → r < 4096 → 3072 + 4096 * d + r < length content → get_or (data_text content d) r 0 ≡ get_or content (3072 + 4096 * d + r) 0
 data_byte content d r low lt =
     let slice = drop (3072 + 4096 * d) content in
     padded_byte 4096 r (take 4096 slice) (omega (arith, length-take 4096 slice, length-drop (3072 + 4096 * d) content)) ∙ get_or-take 4096 slice r 0 low ∙ get_or-drop (3072 + 4096 * d) content r 0

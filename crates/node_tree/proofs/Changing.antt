@@ -89,16 +89,15 @@ module _ (name : Name) (at : ℕ) (from : List ℕ) (inside : Inside) (old : Tre
         → StepEnds (Err fault) step (Given name fetches.these) (state_of inside) (state_of (record inside { nodes = fetched })) (state_of (record inside { nodes = fetched }))
     stops (faults.Damaged damage) fetches =
         let ends = fetches.ends in
-        let here = of_front at (at + length from) inside.size numbers touched n below (slice_index (take n numbers) ends.i) (Contains-get_or (take n numbers) ends.i 0 ends.within) in
-        (
+        let here = of_front at (at + length from) inside.size numbers touched n below (slice_index (take n numbers) ends.i) (Contains-get_or (take n numbers) ends.i 0 ends.within) in (
           record {
             touched = subst (λ (k : ℕ). Touches step inside.size k) (sym ends.node_is) (on_range (slice_index (take n numbers) ends.i) here.0);
             live = subst (λ (k : ℕ). k < node_count inside.size) (sym ends.node_is) here.1;
             before = λ k on lt.
-            let place = in_front at (at + length from) inside.size numbers touched n below k (off_range k on) (let l = here.1 in omega (arith, l, ends.node_is)) in
-            let sooner = stands_before (take n numbers) place.0 ends.i (rising_front n numbers touched.rising) place.1 ends.within (omega (arith, place.2, ends.node_is)) in
-            let there = subst (λ (j : ℕ). IsAt (Held (state_of (record inside { nodes = fetched }))) j) place.2 (ends.before place.0 sooner) in
-            (there.0, fetches.fetched.came k there.0 there.1);
+                let place = in_front at (at + length from) inside.size numbers touched n below k (off_range k on) (let l = here.1 in omega (arith, l, ends.node_is)) in
+                let sooner = stands_before (take n numbers) place.0 ends.i (rising_front n numbers touched.rising) place.1 ends.within (omega (arith, place.2, ends.node_is)) in
+                let there = subst (λ (j : ℕ). IsAt (Held (state_of (record inside { nodes = fetched }))) j) place.2 (ends.before place.0 sooner) in
+                (there.0, fetches.fetched.came k there.0 there.1);
             fails = ends.fails;
           },
           refl,
@@ -254,11 +253,11 @@ module _ (name : Name) (at : ℕ) (from : List ℕ) (inside : Inside) (old : Tre
             dirty_after : (k : ℕ) → Contains (marked e.entries) k ↔ ((Contains (marked inside.nodes.entries) k ⊎ IsTouched at (at + length from) k) × (k < node_count size))
             dirty_after k = (
               λ there.
-                let on = (marked_iff e ordered_e k).0 there in
-                elim (cases_lt k (node_count size)) [
-                  | inl lt ↦ ((marked_m k).0 (sym (put_marks.same k) ∙ sym (ap is_marked (cut.below k lt)) ∙ on), lt)
-                  | inr ge ↦ absurd (false≢true (sym (ap is_marked (cut.gone k ge)) ∙ on))
-                ],
+                  let on = (marked_iff e ordered_e k).0 there in
+                  elim (cases_lt k (node_count size)) [
+                    | inl lt ↦ ((marked_m k).0 (sym (put_marks.same k) ∙ sym (ap is_marked (cut.below k lt)) ∙ on), lt)
+                    | inr ge ↦ absurd (false≢true (sym (ap is_marked (cut.gone k ge)) ∙ on))
+                  ],
               λ both. (marked_iff e ordered_e k).1 (ap is_marked (cut.below k both.1) ∙ put_marks.same k ∙ (marked_m k).1 both.0),
             )
 
@@ -279,9 +278,9 @@ module _ (name : Name) (at : ℕ) (from : List ℕ) (inside : Inside) (old : Tre
                   λ both. (dirty_after k).1 (elim both.0 [ inl was ↦ inl (was_dirty k was) | inr on ↦ inr on ], both.1),
                 ))
                 well_fetched.sound.low
-                where
-                  now_dirty : (k : ℕ) → Contains (marked inside.nodes.entries) k → Contains (marked fetched.entries) k
-                  now_dirty k there = subst (λ (l : List ℕ). Contains l k) (sym (same_marked inside.nodes fetched marks well.ordered)) there
+              where
+                now_dirty : (k : ℕ) → Contains (marked inside.nodes.entries) k → Contains (marked fetched.entries) k
+                now_dirty k there = subst (λ (l : List ℕ). Contains l k) (sym (same_marked inside.nodes fetched marks well.ordered)) there
 
             blocks_after : AreBlocks (Keeps e)
             blocks_after k plain there =
@@ -309,10 +308,13 @@ module _ (name : Name) (at : ℕ) (from : List ℕ) (inside : Inside) (old : Tre
                         let d = (dirty_after k).0 there in
                         let low = (parent_before k two).1 in
                         let live = d.1 in
-                        (dirty_after (parent_of k)).1 (elim d.0 [
-                          | inl was ↦ inl (well.sound.dirty_parents k was two)
-                          | inr on ↦ elim (parent_touched at (at + length from) k on) [ inl one ↦ absurd (omega arith) | inr above ↦ inr above.1 ]
-                        ], omega arith);
+                        (dirty_after (parent_of k)).1 (
+                          elim d.0 [
+                            | inl was ↦ inl (well.sound.dirty_parents k was two)
+                            | inr on ↦ elim (parent_touched at (at + length from) k on) [ inl one ↦ absurd (omega arith) | inr above ↦ inr above.1 ]
+                          ],
+                          omega arith,
+                        );
                     few = few_after fits;
                   };
                   ordered = ordered_e;

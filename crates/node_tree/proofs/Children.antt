@@ -1,13 +1,9 @@
 -- The children of a hash-tree node.
+pub use Rattle.node_tree.specs.Clearing.{child_of}
 use Rattle.std.proofs.Common.{◌≡◌, inl, inr, ℕ, ◌+◌, ◌-◌, ◌*◌, ◌/◌, ◌%◌, ◌<◌, ◌≤◌, ap, ◌∙◌, arith, ltb}
-use Rattle.std.specs.Prelude.{nat_lt, if◌then◌else◌}
 use Rattle.std.proofs.lemmas.Bool.{cases_lt, cases_eq, cond-true, cond-false, lt-ltb, le-ltb}
 use Rattle.node_layout.specs.Places.{data_place, mht_place, up, parent_of, slot_of}
 use Rattle.node_layout.proofs.Numbers.{below_mht, below_data, of_data, of_mht}
-
--- the node whose entry stands at a place of hash-tree node number k
-abbrev pub child_of : ℕ → ℕ → ℕ
-child_of k s = if nat_lt s 96 then data_place (96 * ((k - 1) / 97) + s) else mht_place (32 * ((k - 1) / 97) + (s - 96) + 1)
 
 child_data : (k s : ℕ) → s < 96 → child_of k s ≡ data_place (96 * ((k - 1) / 97) + s)
 child_data k s lt = cond-true (ltb s 96) _ _ (lt-ltb s 96 lt)

@@ -84,15 +84,15 @@ fewer_rising (x ∷ xs) [] rising rising' among = absurd (no_member x (among x (
 fewer_rising (x ∷ xs) (y ∷ ys) rising rising' among =
     elim (in_tail y ys x (among x (at_head x xs))) [
       | inl same ↦
-        let rest = fewer_rising xs ys (rising_tail x xs rising) (rising_tail y ys rising')
-        (λ k there. elim (in_tail y ys k (among k (to_tail x xs k there))) [ inl is ↦ absurd (let a = above_head x xs k rising there in omega arith) | inr further ↦ further ]) in
-        omega (arith, rest)
+          let rest = fewer_rising xs ys (rising_tail x xs rising) (rising_tail y ys rising')
+          (λ k there. elim (in_tail y ys k (among k (to_tail x xs k there))) [ inl is ↦ absurd (let a = above_head x xs k rising there in omega arith) | inr further ↦ further ]) in
+          omega (arith, rest)
       | inr further ↦
-        let low = above_head y ys x rising' further in
-        let rest = fewer_rising (x ∷ xs) ys rising (rising_tail y ys rising')
-        (λ k there. elim (in_tail y ys k (among k there)) [
-          | inl is ↦ absurd (elim (in_tail x xs k there) [ inl first ↦ omega arith | inr later ↦ let a = above_head x xs k rising later in omega arith ])
-          | inr on ↦ on
-        ]) in
-        omega (arith, rest)
+          let low = above_head y ys x rising' further in
+          let rest = fewer_rising (x ∷ xs) ys rising (rising_tail y ys rising')
+          (λ k there. elim (in_tail y ys k (among k there)) [
+            | inl is ↦ absurd (elim (in_tail x xs k there) [ inl first ↦ omega arith | inr later ↦ let a = above_head x xs k rising later in omega arith ])
+            | inr on ↦ on
+          ]) in
+          omega (arith, rest)
     ]

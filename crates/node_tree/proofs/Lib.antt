@@ -37,6 +37,17 @@ pub mod Fronts
 pub mod Changing
 pub mod Applied
 pub mod AfterStep
+pub mod Kept
+pub mod Keyed
+pub mod Following
+pub mod Unique
+pub mod Matching
+pub mod Placed
+pub mod Cleared
+pub mod Seals
+pub mod PutFrom
+pub mod SealedAs
+pub mod Flushed
 pub mod Fresh
 pub mod Small
 pub mod Pieces

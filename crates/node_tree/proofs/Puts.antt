@@ -25,8 +25,8 @@ put_more at n m from old i le fits where' =
       | inl before ↦ put_before at (take n from) old i before ∙ sym (put_before at (take m from) old i before)
       | inr past ↦ elim where' [
         | inl within ↦
-          put_within at (take n from) old i past (omega (arith, a)) ∙ get_or-take n from (i - at) 0 (omega arith)
-          ∙ sym (put_within at (take m from) old i past (omega (arith, b)) ∙ get_or-take m from (i - at) 0 (omega arith))
+            put_within at (take n from) old i past (omega (arith, a)) ∙ get_or-take n from (i - at) 0 (omega arith)
+            ∙ sym (put_within at (take m from) old i past (omega (arith, b)) ∙ get_or-take m from (i - at) 0 (omega arith))
         | inr behind ↦ put_behind at (take n from) old i (omega (arith, a)) ∙ sym (put_behind at (take m from) old i (omega (arith, b)))
       ]
     ]
@@ -64,10 +64,14 @@ module _ (at : ℕ) (from : List ℕ) (held : ℕ → Option (List ℕ)) where
         within = omega arith;
         past = λ lt. omega arith;
         put = record {
-          met = λ d plain there. record { plain = plain; there = there; bytes = λ r lt. elim (cases_lt (3072 + 4096 * d + r) at) [
-            | inl before ↦ sym (put_before at (take n from) (slice_index plain r) (3072 + 4096 * d + r) before)
-            | inr past ↦ sym (put_behind at (take n from) (slice_index plain r) (3072 + 4096 * d + r) (omega (arith, long)))
-          ] };
+          met = λ d plain there. record {
+            plain = plain;
+            there = there;
+            bytes = λ r lt. elim (cases_lt (3072 + 4096 * d + r) at) [
+              | inl before ↦ sym (put_before at (take n from) (slice_index plain r) (3072 + 4096 * d + r) before)
+              | inr past ↦ sym (put_behind at (take n from) (slice_index plain r) (3072 + 4096 * d + r) (omega (arith, long)))
+            ];
+          };
           others = λ d apart. refl;
           hashes = λ m. refl;
         };
@@ -94,9 +98,9 @@ module _ (at : ℕ) (from : List ℕ) (held : ℕ → Option (List ℕ)) where
           | inl before ↦ piece_before plain piece r fits s before ∙ bytes s lt ∙ put_more at done (done + n) from (slice_index old s) (3072 + 4096 * d + s) (omega arith) (omega arith) (inl (omega (arith, start)))
           | inr past ↦ elim (cases_lt s (r + n)) [
             | inl within ↦
-              piece_within plain piece r fits s past (omega (arith, piece_long)) ∙ get_or-take n (drop done from) (s - r) 0 (omega arith) ∙ get_or-drop done from (s - r) 0
-              ∙ ap (λ (i : ℕ). get_or from i 0) (let e : done + (s - r) ≡ 3072 + 4096 * d + s - at = omega (arith, start) in e)
-              ∙ sym (put_within at (take (done + n) from) (slice_index old s) (3072 + 4096 * d + s) (omega (arith, start)) (omega (arith, start, all)) ∙ get_or-take (done + n) from (3072 + 4096 * d + s - at) 0 (omega (arith, start)))
+                piece_within plain piece r fits s past (omega (arith, piece_long)) ∙ get_or-take n (drop done from) (s - r) 0 (omega arith) ∙ get_or-drop done from (s - r) 0
+                ∙ ap (λ (i : ℕ). get_or from i 0) (let e : done + (s - r) ≡ 3072 + 4096 * d + s - at = omega (arith, start) in e)
+                ∙ sym (put_within at (take (done + n) from) (slice_index old s) (3072 + 4096 * d + s) (omega (arith, start)) (omega (arith, start, all)) ∙ get_or-take (done + n) from (3072 + 4096 * d + s - at) 0 (omega (arith, start)))
             | inr behind ↦ piece_behind plain piece r fits s (omega (arith, piece_long)) ∙ bytes s lt ∙ put_more at done (done + n) from (slice_index old s) (3072 + 4096 * d + s) (omega arith) (omega arith) (inr (omega (arith, start)))
           ]
         ]
@@ -106,13 +110,13 @@ module _ (at : ℕ) (from : List ℕ) (held : ℕ → Option (List ℕ)) where
         let p = so_far.put.met e old was in
         elim (cases_eq e d) [
           | inl same ↦
-            let there : g (data_place d) ≡ Some p.plain = ap (λ (i : ℕ). g (data_place i)) (sym same) ∙ p.there in
-            record {
-              plain = with_piece p.plain r (take n (drop done from));
-              there = ap (λ (i : ℕ). h (data_place i)) same ∙ here p.plain there;
-              bytes = subst (λ (i : ℕ). (s : ℕ) → s < 4096 → slice_index (with_piece p.plain r (take n (drop done from))) s ≡ put_byte at (take (done + n) from) (slice_index old s) (3072 + 4096 * i + s)) (sym same)
-                  (same_node old p.plain there (subst (λ (i : ℕ). (s : ℕ) → s < 4096 → slice_index p.plain s ≡ put_byte at (take done from) (slice_index old s) (3072 + 4096 * i + s)) same p.bytes));
-            }
+              let there : g (data_place d) ≡ Some p.plain = ap (λ (i : ℕ). g (data_place i)) (sym same) ∙ p.there in
+              record {
+                plain = with_piece p.plain r (take n (drop done from));
+                there = ap (λ (i : ℕ). h (data_place i)) same ∙ here p.plain there;
+                bytes = subst (λ (i : ℕ). (s : ℕ) → s < 4096 → slice_index (with_piece p.plain r (take n (drop done from))) s ≡ put_byte at (take (done + n) from) (slice_index old s) (3072 + 4096 * i + s)) (sym same)
+                    (same_node old p.plain there (subst (λ (i : ℕ). (s : ℕ) → s < 4096 → slice_index p.plain s ≡ put_byte at (take done from) (slice_index old s) (3072 + 4096 * i + s)) same p.bytes));
+              }
           | inr other ↦ record {
             plain = p.plain;
             there = others (data_place e) (λ is. other (one_data e d is)) ∙ p.there;

@@ -38,13 +38,13 @@ came_touched : (a b old size k : ℕ) → a ≤ old → size ≤ max old b → n
 came_touched a b old size k le grows low high =
     elim (each_number k (omega arith)) [
       | inl (d, is) ↦
-        let fresh : data_count old ≤ d = elim (cases_lt d (data_count old)) [ inl lt ↦ absurd (let live = (data_live old d).1 lt in omega arith) | inr ge ↦ ge ] in
-        let live : d < data_count size = (data_live size d).0 (omega arith) in
-        (d, record { some = omega arith; begins = omega arith; ends = omega arith }, inl is)
+          let fresh : data_count old ≤ d = elim (cases_lt d (data_count old)) [ inl lt ↦ absurd (let live = (data_live old d).1 lt in omega arith) | inr ge ↦ ge ] in
+          let live : d < data_count size = (data_live size d).0 (omega arith) in
+          (d, record { some = omega arith; begins = omega arith; ends = omega arith }, inl is)
       | inr (m, is) ↦
-        let fresh : mht_count old ≤ m = elim (cases_lt m (mht_count old)) [ inl lt ↦ absurd (let live = (mht_live old m).1 lt in omega arith) | inr ge ↦ ge ] in
-        let live : m < mht_count size = (mht_live size m).0 (omega arith) in
-        (96 * m, record { some = omega arith; begins = omega arith; ends = omega arith }, inr (m, (0, omega arith), is))
+          let fresh : mht_count old ≤ m = elim (cases_lt m (mht_count old)) [ inl lt ↦ absurd (let live = (mht_live old m).1 lt in omega arith) | inr ge ↦ ge ] in
+          let live : m < mht_count size = (mht_live size m).0 (omega arith) in
+          (96 * m, record { some = omega arith; begins = omega arith; ends = omega arith }, inr (m, (0, omega arith), is))
     ]
 
 -- a touched node of a range up to the end of a content's last data node is live
@@ -80,19 +80,19 @@ module _ (step : Step) (at : ℕ) (from : List ℕ) (size : ℕ) (s s' : TreeSta
   put_data other i d r is small =
       elim (meets_or at (at + length from) d) [
         | inl meets ↦
-          let there = touched_z (data_place d) (d, meets, inl refl) in
-          let q = put.met d there.0 there.1 in
-          ap (λ (o : Option (List ℕ)). slice_index (plain_or o other) r) q.there ∙ q.bytes r small
-          ∙ ap₂ (λ (o : Option (List ℕ)) (j : ℕ). put_byte at from (slice_index (plain_or o other) r) j) (sym there.1) is
+            let there = touched_z (data_place d) (d, meets, inl refl) in
+            let q = put.met d there.0 there.1 in
+            ap (λ (o : Option (List ℕ)). slice_index (plain_or o other) r) q.there ∙ q.bytes r small
+            ∙ ap₂ (λ (o : Option (List ℕ)) (j : ℕ). put_byte at from (slice_index (plain_or o other) r) j) (sym there.1) is
         | inr apart ↦
-          ap (λ (o : Option (List ℕ)). slice_index (plain_or o other) r) (put.others d apart)
-          ∙ sym (elim (cases_lt i at) [
-            | inl before ↦ put_before at from _ i before
-            | inr past ↦ elim (cases_lt i (at + length from)) [
-              | inl inside ↦ absurd (apart (record { some = omega arith; begins = omega arith; ends = omega arith }))
-              | inr behind ↦ put_behind at from _ i behind
-            ]
-          ])
+            ap (λ (o : Option (List ℕ)). slice_index (plain_or o other) r) (put.others d apart)
+            ∙ sym (elim (cases_lt i at) [
+              | inl before ↦ put_before at from _ i before
+              | inr past ↦ elim (cases_lt i (at + length from)) [
+                | inl inside ↦ absurd (apart (record { some = omega arith; begins = omega arith; ends = omega arith }))
+                | inr behind ↦ put_behind at from _ i behind
+              ]
+            ])
       ]
 
   -- byte i afterwards, of a live data node
@@ -103,8 +103,8 @@ module _ (step : Step) (at : ℕ) (from : List ℕ) (size : ℕ) (s s' : TreeSta
       ∙ elim (cases_lt (data_place d) (node_count s.size)) [
         | inl was ↦ ap (λ (o : Option (List ℕ)). put_byte at from (slice_index (plain_or o other) r) i) (others (data_place d) (λ _. was))
         | inr new ↦
-          let fresh : data_count s.size ≤ d = elim (cases_lt d (data_count s.size)) [ inl less ↦ absurd (let l = (data_live s.size d).1 less in omega arith) | inr ge ↦ ge ] in
-          put_within at from _ i (omega arith) (omega arith) ∙ sym (put_within at from _ i (omega arith) (omega arith))
+            let fresh : data_count s.size ≤ d = elim (cases_lt d (data_count s.size)) [ inl less ↦ absurd (let l = (data_live s.size d).1 less in omega arith) | inr ge ↦ ge ] in
+            put_within at from _ i (omega arith) (omega arith) ∙ sym (put_within at from _ i (omega arith) (omega arith))
       ]
 
   -- byte i of the content afterwards
@@ -112,12 +112,12 @@ module _ (step : Step) (at : ℕ) (from : List ℕ) (size : ℕ) (s s' : TreeSta
   byte_after other i lt =
       elim (cases_lt i 3072) [
         | inl low ↦
-          cond-true (ltb i 3072) _ _ (lt-ltb i 3072 low) ∙ first i low ∙ ap (λ (b : ℕ). put_byte at from b i) (sym (cond-true (ltb i 3072) _ _ (lt-ltb i 3072 low)))
+            cond-true (ltb i 3072) _ _ (lt-ltb i 3072 low) ∙ first i low ∙ ap (λ (b : ℕ). put_byte at from b i) (sym (cond-true (ltb i 3072) _ _ (lt-ltb i 3072 low)))
         | inr high ↦
-          let d = (i - 3072) / 4096 in
-          let r = (i - 3072) % 4096 in
-          cond-false (ltb i 3072) _ _ (le-ltb i 3072 high) ∙ data_after (other (data_place d)) i d r lt (omega arith) (omega arith)
-          ∙ ap (λ (b : ℕ). put_byte at from b i) (sym (cond-false (ltb i 3072) _ _ (le-ltb i 3072 high)))
+            let d = (i - 3072) / 4096 in
+            let r = (i - 3072) % 4096 in
+            cond-false (ltb i 3072) _ _ (le-ltb i 3072 high) ∙ data_after (other (data_place d)) i d r lt (omega arith) (omega arith)
+            ∙ ap (λ (b : ℕ). put_byte at from b i) (sym (cond-false (ltb i 3072) _ _ (le-ltb i 3072 high)))
       ]
 
   content_after : (other : ℕ → List ℕ) → content_with other s' ≡ applied step (content_with other s)
@@ -143,16 +143,16 @@ module _ (step : Step) (at : ℕ) (from : List ℕ) (size : ℕ) (s s' : TreeSta
       | inr behind ↦ put_behind at from _ i behind ∙ padded.of_first i (putting.behind i (omega arith) behind (omega arith)) lt
     ];
     of_nodes = λ d r live past lt.
-    let i = 3072 + 4096 * d + r in
-    let live_now : data_place d < node_count size = subst (λ (n : ℕ). data_place d < node_count n) size_is live in
-    let low : d < data_count size = (data_live size d).0 live_now in
-    ap (λ (o : Option (List ℕ)). slice_index (plain_or o (other (data_place d))) r) (cut.below (data_place d) live_now) ∙ put_data (other (data_place d)) i d r refl lt ∙ elim (cases_lt i (at + length from)) [
-      | inl inside ↦ put_within at from _ i (omega arith) inside ∙ putting.zeros i (omega arith) (omega arith) inside
-      | inr behind ↦ put_behind at from _ i behind ∙ elim (cases_lt (data_place d) (node_count s.size)) [
-        | inl was ↦ ap (λ (o : Option (List ℕ)). slice_index (plain_or o (other (data_place d))) r) (others (data_place d) (λ _. was)) ∙ padded.of_nodes d r was (putting.behind i (omega arith) behind (omega arith)) lt
-        | inr new ↦ ap (λ (o : Option (List ℕ)). slice_index (plain_or o (other (data_place d))) r) (zeroed (data_place d) (came_touched at (at + length from) s.size size (data_place d) no_gap grows new live_now) new) ∙ get_or-replicate 4096 r 0 0 lt
-      ]
-    ];
+        let i = 3072 + 4096 * d + r in
+        let live_now : data_place d < node_count size = subst (λ (n : ℕ). data_place d < node_count n) size_is live in
+        let low : d < data_count size = (data_live size d).0 live_now in
+        ap (λ (o : Option (List ℕ)). slice_index (plain_or o (other (data_place d))) r) (cut.below (data_place d) live_now) ∙ put_data (other (data_place d)) i d r refl lt ∙ elim (cases_lt i (at + length from)) [
+          | inl inside ↦ put_within at from _ i (omega arith) inside ∙ putting.zeros i (omega arith) (omega arith) inside
+          | inr behind ↦ put_behind at from _ i behind ∙ elim (cases_lt (data_place d) (node_count s.size)) [
+            | inl was ↦ ap (λ (o : Option (List ℕ)). slice_index (plain_or o (other (data_place d))) r) (others (data_place d) (λ _. was)) ∙ padded.of_nodes d r was (putting.behind i (omega arith) behind (omega arith)) lt
+            | inr new ↦ ap (λ (o : Option (List ℕ)). slice_index (plain_or o (other (data_place d))) r) (zeroed (data_place d) (came_touched at (at + length from) s.size size (data_place d) no_gap grows new live_now) new) ∙ get_or-replicate 4096 r 0 0 lt
+          ]
+        ];
   }
 
   to_range : (k : ℕ) → Touches step s.size k → IsTouched at (at + length from) k

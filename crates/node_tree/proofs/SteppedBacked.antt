@@ -49,34 +49,37 @@ module _ (step : Step) (sheet : Sheet) (old new : TreeState) (linked : IsLinked 
     root = stepped.root ∙ backs.root;
     base = stepped.base ∙ backs.base;
     clean = λ k low live clean.
-    let apart = not_touched k live clean in
-    let n = backs.clean k low (was_live k live apart) (not_dirty k live clean) in
-    (n.0, n.1, λ plain there. n.2 plain (sym (stepped.others k low apart live) ∙ there));
+        let apart = not_touched k live clean in
+        let n = backs.clean k low (was_live k live apart) (not_dirty k live clean) in
+        (n.0, n.1, λ plain there. n.2 plain (sym (stepped.others k low apart live) ∙ there));
     dirty_held = λ k dirty. let d = (stepped.dirty k).0 dirty in elim d.0 [
       | inl was ↦ stepped.still k (stepped.low k dirty) d.1 (backs.dirty_held k was)
       | inr on ↦ stepped.touched k on d.1
     ];
     dirty_parents = λ k dirty two.
-    let d = (stepped.dirty k).0 dirty in
-    let before = (parent_before k two).1 in
-    let live = d.1 in
-    (stepped.dirty (parent_of k)).1 (elim d.0 [
-      | inl was ↦ inl (backs.dirty_parents k was two)
-      | inr on ↦ elim (parent_touched (from_of step old.size) (to_of step old.size) k on) [ inl one ↦ absurd (omega arith) | inr above ↦ inr above.1 ]
-    ], omega arith);
+        let d = (stepped.dirty k).0 dirty in
+        let before = (parent_before k two).1 in
+        let live = d.1 in
+        (stepped.dirty (parent_of k)).1 (
+          elim d.0 [
+            | inl was ↦ inl (backs.dirty_parents k was two)
+            | inr on ↦ elim (parent_touched (from_of step old.size) (to_of step old.size) k on) [ inl one ↦ absurd (omega arith) | inr above ↦ inr above.1 ]
+          ],
+          omega arith,
+        );
     entries = λ k node parent two live clean has dirty there.
-    let apart = not_touched k live clean in
-    let was = was_live k live apart in
-    let d = (stepped.dirty (parent_of k)).0 dirty in
-    let q = parent_before_step k two was d.0 in
-    let same : q.0 ≡ parent = same_Some q.0 parent (sym (parent_kept k q.0 (let b = (parent_before k two).1 in omega arith) (let b = (parent_before k two).1 in omega arith) q.1) ∙ there) in
-    ap (λ (t : List ℕ). entry_at t (slot_of k)) (sym same) ∙ elim (contains_cases old.dirty (parent_of k)) [
-      | inl parent_dirty ↦ backs.entries k node q.0 two was (not_dirty k live clean) has parent_dirty q.1
-      | inr parent_clean ↦
-        let before = parent_before k two in
-        let p = backs.clean (parent_of k) before.0 (let b = before.1 in omega arith) parent_clean in
-        ap (λ (t : List ℕ). entry_at t (slot_of k)) (p.2 q.0 q.1) ∙ linked.entries k p.0 node two p.1 has
-    ];
+        let apart = not_touched k live clean in
+        let was = was_live k live apart in
+        let d = (stepped.dirty (parent_of k)).0 dirty in
+        let q = parent_before_step k two was d.0 in
+        let same : q.0 ≡ parent = same_Some q.0 parent (sym (parent_kept k q.0 (let b = (parent_before k two).1 in omega arith) (let b = (parent_before k two).1 in omega arith) q.1) ∙ there) in
+        ap (λ (t : List ℕ). entry_at t (slot_of k)) (sym same) ∙ elim (contains_cases old.dirty (parent_of k)) [
+          | inl parent_dirty ↦ backs.entries k node q.0 two was (not_dirty k live clean) has parent_dirty q.1
+          | inr parent_clean ↦
+              let before = parent_before k two in
+              let p = backs.clean (parent_of k) before.0 (let b = before.1 in omega arith) parent_clean in
+              ap (λ (t : List ℕ). entry_at t (slot_of k)) (p.2 q.0 q.1) ∙ linked.entries k p.0 node two p.1 has
+        ];
     padded = stepped.padded (plain_in sheet) backs.padded;
   }
 

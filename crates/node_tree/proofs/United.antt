@@ -47,21 +47,24 @@ placed_later n x xs new rising lt places = record {
 }
 
 places : (n : ℕ) (xs : List ℕ) → IsStrictlyIncreasing xs → ¬ (Contains xs n) → (new : List ℕ) × Places n xs new
-places n [] rising apart = (n ∷ [], record {
-  rising = λ k lt. absurd (omega arith);
-  members = λ k. (
-    λ there. elim (in_tail n [] k there) [ inl is ↦ inr is | inr further ↦ absurd (no_member k further) ],
-    λ either. elim either [ inl there ↦ absurd (no_member k there) | inr is ↦ subst (λ (j : ℕ). Contains (n ∷ []) j) (sym is) (at_head n []) ],
-  );
-  longer = omega arith;
-})
+places n [] rising apart = (
+  n ∷ [],
+  record {
+    rising = λ k lt. absurd (omega arith);
+    members = λ k. (
+      λ there. elim (in_tail n [] k there) [ inl is ↦ inr is | inr further ↦ absurd (no_member k further) ],
+      λ either. elim either [ inl there ↦ absurd (no_member k there) | inr is ↦ subst (λ (j : ℕ). Contains (n ∷ []) j) (sym is) (at_head n []) ],
+    );
+    longer = omega arith;
+  },
+)
 places n (x ∷ xs) rising apart =
     elim (cases_lt n x) [
       | inl lt ↦ (n ∷ x ∷ xs, placed_first n x xs rising lt)
       | inr ge ↦
-        let other : x < n = elim (cases_eq n x) [ inl same ↦ absurd (apart (subst (λ (j : ℕ). Contains (x ∷ xs) j) (sym same) (at_head x xs))) | inr ne ↦ omega arith ] in
-        let rest = places n xs (rising_tail x xs rising) (λ there. apart (to_tail x xs n there)) in
-        (x ∷ rest.0, placed_later n x xs rest.0 rising other rest.1)
+          let other : x < n = elim (cases_eq n x) [ inl same ↦ absurd (apart (subst (λ (j : ℕ). Contains (x ∷ xs) j) (sym same) (at_head x xs))) | inr ne ↦ omega arith ] in
+          let rest = places n xs (rising_tail x xs rising) (λ there. apart (to_tail x xs n there)) in
+          (x ∷ rest.0, placed_later n x xs rest.0 rising other rest.1)
     ]
 
 -- the union with the first i numbers of a list, so far

@@ -1,9 +1,9 @@
 -- Nodes of zeros that come, marks that are set, and nodes that go.
-use Rattle.std.proofs.Common.{◌≡◌, ◌⊎◌, ◌↔◌, inl, inr, ℕ, ◌+◌, ◌<◌, ◌≤◌, List, [], ◌∷◌, ◌++◌, length, take, replicate, slice_index, refl, ◌∙◌, sym, arith, subst, Option, Some, Bool, true, cond, eqb}
+use Rattle.std.proofs.Common.{◌≡◌, ◌⊎◌, ◌↔◌, inl, inr, ℕ, ◌+◌, ◌<◌, ◌≤◌, List, [], ◌∷◌, ◌++◌, length, take, replicate, slice_index, refl, ◌∙◌, sym, arith, subst, Option, Some, Bool, true, false, cond, eqb}
 use Rattle.std.specs.Prelude.{Contains}
 use Rattle.std.specs.List.Sorted.{IsStrictlyIncreasing}
 use Rattle.std.specs.BTreeMap.{BTreeMap}
-use Rattle.std.proofs.lemmas.Bool.{cases_eq, ne_eqb, cond-true, cond-false, eq-eqb}
+use Rattle.std.proofs.lemmas.Bool.{cases_eq, false≢true, ne_eqb, cond-true, cond-false, eq-eqb}
 use Rattle.std.proofs.lemmas.List.{take_more, take_all}
 use Rattle.std.proofs.lemmas.List.Elements.{Contains-append_left, Contains-push, Contains-push_cases, Contains-get_or}
 use Rattle.node_tree.specs.Marks.{KeepsMarks}
@@ -102,6 +102,28 @@ marked_more numbers i f g h lt so_far is k = (
 pub marked_all : (numbers : List ℕ) (i : ℕ) (f g : ℕ → Bool) → length numbers ≤ i → MarkedTo numbers i f g → (k : ℕ) → (g k ≡ true) ↔ ((f k ≡ true) ⊎ Contains numbers k)
 unfolding MarkedTo
 marked_all numbers i f g all so_far = subst (λ (l : List ℕ). (k : ℕ) → (g k ≡ true) ↔ ((f k ≡ true) ⊎ Contains l k)) (take_all i numbers all) so_far
+
+-- one mark less
+pub ClearedTo : List ℕ → ℕ → (ℕ → Bool) → (ℕ → Bool) → Type 0
+ClearedTo numbers i f g = (k : ℕ) → g k ≡ true → (f k ≡ true) × ¬ (Contains (take i numbers) k)
+
+pub unmarked_none : (numbers : List ℕ) (f : ℕ → Bool) → ClearedTo numbers 0 f f
+unfolding ClearedTo
+unmarked_none numbers f k on = (on, no_front numbers k)
+
+pub unmarked_more : (numbers : List ℕ) (i : ℕ) (f g h : ℕ → Bool) → i < length numbers → ClearedTo numbers i f g → ((k : ℕ) → h k ≡ cond (eqb k (slice_index numbers i)) false (g k)) → ClearedTo numbers (i + 1) f h
+unfolding ClearedTo
+unmarked_more numbers i f g h lt so_far is k on =
+    elim (cases_eq k (slice_index numbers i)) [
+      | inl same ↦ absurd (false≢true (sym (is k ∙ cond-true (eqb k (slice_index numbers i)) _ _ (eq-eqb k (slice_index numbers i) same)) ∙ on))
+      | inr other ↦
+          let was = so_far k (sym (is k ∙ cond-false (eqb k (slice_index numbers i)) _ _ (ne_eqb k (slice_index numbers i) other)) ∙ on) in
+          (was.0, λ there. elim (front_cases numbers i lt k there) [ inl before ↦ was.1 before | inr same ↦ other same ])
+    ]
+
+pub unmarked_all : (numbers : List ℕ) (i : ℕ) (f g : ℕ → Bool) → length numbers ≤ i → ClearedTo numbers i f g → (k : ℕ) → g k ≡ true → (f k ≡ true) × ¬ (Contains numbers k)
+unfolding ClearedTo
+unmarked_all numbers i f g all so_far = subst (λ (l : List ℕ). (k : ℕ) → g k ≡ true → (f k ≡ true) × ¬ (Contains l k)) (take_all i numbers all) so_far
 
 -- the count of the numbers below a bound was found
 pub count_found : (xs : List ℕ) (bound n : ℕ) → IsStrictlyIncreasing xs → n ≤ length xs → ((i : ℕ) → i < n → slice_index xs i < bound) → (n < length xs → bound ≤ slice_index xs n) → IsCountBelow xs bound n

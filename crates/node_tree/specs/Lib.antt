@@ -17,5 +17,8 @@ pub mod Applying
 pub mod Stepping
 pub mod Putting
 pub mod Zeroing
+pub mod Next
+pub mod Clearing
+pub mod Sealing
 pub mod Inside
 pub mod Copying

@@ -41,14 +41,15 @@ pub(crate) fn add_zeroed(
     Ok(())
 }
 
-fn mark_one(nodes: &mut BTreeMap<u64, HeldNode>, number: u64)
+// Says of a node that is held whether it is dirty.
+fn set_mark(nodes: &mut BTreeMap<u64, HeldNode>, number: u64, dirty: bool)
     requires held { IsAt (Keeps nodes.old) number }
     ensures plains { (k : ℕ) → plain_at nodes.new k ≡ plain_at nodes.old k }
-    ensures marks { (k : ℕ) → marked_at nodes.new k ≡ (if k == number then true else marked_at nodes.old k) }
+    ensures marks { (k : ℕ) → marked_at nodes.new k ≡ (if k == number then dirty else marked_at nodes.old k) }
     ensures ordered { IsOrdered nat_cmp nodes.new }
 {
     match nodes.get_mut(&number) {
-        Some(node) => node.dirty = true,
+        Some(node) => node.dirty = dirty,
         None => unreachable!(),
     }
 }
@@ -61,7 +62,19 @@ pub(crate) fn mark(nodes: &mut BTreeMap<u64, HeldNode>, numbers: &[u64])
     ensures ordered { IsOrdered nat_cmp nodes.old → IsOrdered nat_cmp nodes.new }
 {
     for number in numbers {
-        mark_one(nodes, *number);
+        set_mark(nodes, *number, true);
+    }
+}
+
+// Says of some nodes, which are held, that they are not dirty.
+pub(crate) fn clear_marks(nodes: &mut BTreeMap<u64, HeldNode>, numbers: &[u64])
+    requires held { (k : ℕ) → Contains numbers.now k → IsAt (Keeps nodes.old) k }
+    ensures plains { (k : ℕ) → plain_at nodes.new k ≡ plain_at nodes.old k }
+    ensures marks { (k : ℕ) → marked_at nodes.new k ≡ true → (marked_at nodes.old k ≡ true) × ¬ (Contains numbers.now k) }
+    ensures ordered { IsOrdered nat_cmp nodes.old → IsOrdered nat_cmp nodes.new }
+{
+    for number in numbers {
+        set_mark(nodes, *number, false);
     }
 }
 

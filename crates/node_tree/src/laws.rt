@@ -6,6 +6,7 @@ ghost use Rattle.node_tree.specs.Unforged.{EachUnforgedGives, EachFileGives};
 ghost use Rattle.node_tree.specs.Standing.{EachStandingFile, EachSmallSheet};
 ghost use Rattle.node_tree.specs.Reading.{OneEnding};
 ghost use Rattle.node_tree.specs.Stepping.{SteppedStaysBacked};
+ghost use Rattle.node_tree.specs.Next.{NextExists, NextIsOne};
 
 /// A file stands for at most one path, nonce and content under a user's key.
 pub fn file_stands_for_one()
@@ -51,4 +52,14 @@ pub fn reads_are_decided()
 /// A tree that a sheet backs is backed by it after a step, and its content is stepped.
 pub fn steps_stay_backed()
     ensures { SteppedStaysBacked }
+{}
+
+/// A tree on a sheet has a next sheet under each path, nonce and list of keys, one for each dirty node.
+pub fn next_sheet_exists()
+    ensures { NextExists }
+{}
+
+/// It has one.
+pub fn next_sheet_is_one()
+    ensures { NextIsOne }
 {}

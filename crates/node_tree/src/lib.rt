@@ -1,14 +1,19 @@
-//! The keyed tree of a protected file's nodes, read over any host.
+//! The keyed tree of a protected file's nodes, read, changed and sealed over any host.
 #![tactic(auto)]
 
 mod change;
+mod clearing;
 mod copying;
+#[cfg(test)]
+mod edit_tests;
 mod fault;
+mod flushing;
 mod laws;
 mod marks;
 mod nodes;
 mod numbers;
 mod putting;
+mod sealing;
 mod stepping;
 #[cfg(test)]
 mod tests;
@@ -16,7 +21,9 @@ mod tree;
 
 pub use fault::TreeFault;
 pub use laws::{
-    file_is_given, file_stands_for_one, linked_sheets_exist, parts_are_one, reads_are_decided,
-    small_sheets_have_one_node, standing_file_is_read, steps_stay_backed, unforged_is_given,
+    file_is_given, file_stands_for_one, linked_sheets_exist, next_sheet_exists, next_sheet_is_one,
+    parts_are_one, reads_are_decided, small_sheets_have_one_node, standing_file_is_read,
+    steps_stay_backed, unforged_is_given,
 };
+pub use stepping::resized_range;
 pub use tree::Tree;

@@ -66,7 +66,12 @@ pub(crate) fn put_bytes_at(
         let byte = at + done as u64 - 3072;
         let place = (byte % 4096) as usize;
         let count = (4096 - place).min(from.len() - done);
-        put_piece(nodes, data_place(byte / 4096), place, &from[done..done + count]);
+        put_piece(
+            nodes,
+            data_place(byte / 4096),
+            place,
+            &from[done..done + count],
+        );
         done += count;
     }
 }

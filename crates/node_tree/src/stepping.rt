@@ -51,15 +51,10 @@ impl Tree {
     }
 
     /// Makes the content `size` bytes long, at most 2^32 and at most 32,768 above its length. Bytes that come are zeros.
-    /// At most 48 nodes may be dirty or touched (`changed_count`).
+    /// At most 48 nodes may be dirty or touched (`changed_count` of the `resized_range`).
     ///
     /// The faults are those of `write`, and after a refusal the content and the dirty nodes are as before.
-    pub fn resize<H: Host>(
-        &mut self,
-        host: &mut H,
-        name: &str,
-        size: u64,
-    ) -> Result<(), TreeFault>
+    pub fn resize<H: Host>(&mut self, host: &mut H, name: &str, size: u64) -> Result<(), TreeFault>
         requires small { size ≤ 2 ^ 32 }
         requires near { size ≤ self.old.size + 32768 }
         requires fits { MayChange self.old.dirty (from_of (Size size) self.old.size) (to_of (Size size) self.old.size) }
@@ -72,10 +67,9 @@ impl Tree {
         ensures standing { StepsStanding result name.now (Size size) self.old self.new (H.state host.old) }
         ensures honest { HonestStep result name.now (Size size) self.old self.new (H.state host.old) }
     {
-        let from = self.size.min(size);
-        let count = (size.max(self.size.min(data_end(size))) - from) as usize;
+        let (from, end) = resized_range(self.size, size);
         let zeros = zeros();
-        self.change(host, name, from, &zeros[..count], size)
+        self.change(host, name, from, &zeros[..(end - from) as usize], size)
     }
 
     // Puts bytes into the content at a place, and makes it `size` bytes long.
@@ -117,6 +111,16 @@ fn zeros() -> [u8; 32_768]
     ensures { result ≡ replicate 32768 0 }
 {
     [0; 32_768]
+}
+
+/// The bytes that a resize concerns, from the first up to the second: those that come, or those that go of the last data
+/// node that is left. Both lengths are at most 2^32.
+pub fn resized_range(old: u64, new: u64) -> (u64, u64)
+    requires old { old ≤ 2 ^ 32 }
+    requires new { new ≤ 2 ^ 32 }
+    ensures { result ≡ (from_of (Size new) old, to_of (Size new) old) }
+{
+    (old.min(new), new.max(old.min(data_end(new))))
 }
 
 // The end of the last data node of a content of this size.

@@ -11,12 +11,12 @@ use pf_io::MemHost;
 use std::alloc::{AllocError, Global};
 use std::process::Abort;
 
-const USER: [u8; 16] = [7; 16];
+pub(crate) const USER: [u8; 16] = [7; 16];
 
-const NONCE: [u8; 32] = [9; 32];
+pub(crate) const NONCE: [u8; 32] = [9; 32];
 
 // A content that shows its place: 251 is a prime, so bytes of two nodes at one place differ.
-fn content_byte(place: u64) -> u8 {
+pub(crate) fn content_byte(place: u64) -> u8 {
     (place % 251) as u8
 }
 
@@ -100,7 +100,7 @@ fn metadata(rt: &impl Abort, size: u64, root: &([u8; 16], [u8; 16])) -> [u8; 409
 }
 
 // The file of a content of this size.
-fn file_of(rt: &impl Abort, alloc: Global, size: u64) -> Result<Vec<u8>, AllocError>
+pub(crate) fn file_of(rt: &impl Abort, alloc: Global, size: u64) -> Result<Vec<u8>, AllocError>
     requires { size ≤ 2 ^ 20 }
 {
     let mut nodes = plain_nodes(alloc, size)?;
@@ -113,7 +113,7 @@ fn file_of(rt: &impl Abort, alloc: Global, size: u64) -> Result<Vec<u8>, AllocEr
     Ok(file)
 }
 
-fn host_of(rt: &impl Abort, alloc: Global, file: &[u8]) -> MemHost {
+pub(crate) fn host_of(rt: &impl Abort, alloc: Global, file: &[u8]) -> MemHost {
     let mut host = MemHost::new(alloc);
     assert!(rt; host.put("a.pf", file).is_ok());
     host
@@ -129,7 +129,7 @@ fn secret_of(rt: &impl Abort, node: &[u8; 4096]) -> MetaSecret
     }
 }
 
-fn tree_of(rt: &impl Abort, alloc: Global, file: &[u8]) -> Tree {
+pub(crate) fn tree_of(rt: &impl Abort, alloc: Global, file: &[u8]) -> Tree {
     let Some(node) = file.first_chunk::<4096>() else {
         panic!(rt; "no node 0");
     };
@@ -139,7 +139,7 @@ fn tree_of(rt: &impl Abort, alloc: Global, file: &[u8]) -> Tree {
     tree
 }
 
-fn expect_read(
+pub(crate) fn expect_read(
     rt: &impl Abort,
     tree: &mut Tree,
     host: &mut MemHost,
@@ -157,7 +157,7 @@ fn expect_read(
 }
 
 // Reads a content of this size in pieces, from the first byte to the end and past it.
-fn expect_pieces(rt: &impl Abort, tree: &mut Tree, host: &mut MemHost, size: u64, to: &mut [u8])
+pub(crate) fn expect_pieces(rt: &impl Abort, tree: &mut Tree, host: &mut MemHost, size: u64, to: &mut [u8])
     requires { length to.old ≤ 32768 }
 {
     for piece in 0..32u64 {
@@ -186,7 +186,7 @@ fn contents_of_several_sizes_are_read(rt: HostRuntime) {
     }
 }
 
-fn damaged(node: u64, kind: Kind) -> TreeFault {
+pub(crate) fn damaged(node: u64, kind: Kind) -> TreeFault {
     TreeFault::Damaged(Damage { node, kind })
 }
 

@@ -9,6 +9,7 @@ ghost use Rattle.node_tree.specs.State.{held_at, sealed_root, IsSound, MOST_DIRT
 ghost use Rattle.node_tree.specs.Marks.{IsChangedCount, MayChange};
 ghost use Rattle.node_tree.specs.Fetching.{host_part};
 ghost use Rattle.node_tree.specs.Backing.{Backs, IsMetaOf, now};
+ghost use Rattle.node_tree.specs.Next.{IsSealedAs};
 ghost use Rattle.node_tree.specs.Reading.{Reads, ReadsFew, DamageComes, BackedRead, ReadsStanding, HonestRead, IsOfFile};
 
 use crate::copying::copy_out;
@@ -125,7 +126,8 @@ impl Tree {
     /// The metadata of the content as it is to be sealed under a path. The root's key and tag are those of its last
     /// sealing, or zeros where the content stands in node 0 alone.
     pub fn meta(&self, path: &PathText) -> MetaSecret
-        ensures { result ≡ record { path = path.now; size = self.now.size; root_key = (sealed_root self.now).0; root_tag = (sealed_root self.now).1; first = self.now.first } }
+        ensures fields { result ≡ record { path = path.now; size = self.now.size; root_key = (sealed_root self.now).0; root_tag = (sealed_root self.now).1; first = self.now.first } }
+        ensures sealed { (next : Sheet) → IsSealedAs next self.now → next.path ≡ path.now → IsMetaOf next result }
     {
         let (root_key, root_tag) = sealed_root(self.size, &self.root);
         MetaSecret {

@@ -12,11 +12,11 @@ loop-number-preserved c =
     let n = c.loop-number.count in
     elim c.if-not-contains.branch [
       | then-not-contains w ↦
-        subst (λ (m : ℕ). UnitedTo c.args.dirty.now c.args.touched.now (i + 1) m) (sym w.count-is)
-        (united_more c.args.dirty.now c.args.touched.now i n c.requires.touched_rises c.loop-number-test.true c.loop-number.invariant (not_in c.args.dirty.now (slice_index c.args.touched.now i) (sym c.contains.ensures.value ∙ w.if-not-contains.true)))
+          subst (λ (m : ℕ). UnitedTo c.args.dirty.now c.args.touched.now (i + 1) m) (sym w.count-is)
+          (united_more c.args.dirty.now c.args.touched.now i n c.requires.touched_rises c.loop-number-test.true c.loop-number.invariant (not_in c.args.dirty.now (slice_index c.args.touched.now i) (sym c.contains.ensures.value ∙ w.if-not-contains.true)))
       | else-not-contains w ↦
-        subst (λ (m : ℕ). UnitedTo c.args.dirty.now c.args.touched.now (i + 1) m) (sym w.count-is)
-        (united_same c.args.dirty.now c.args.touched.now i n c.requires.touched_rises c.loop-number-test.true c.loop-number.invariant (is_in c.args.dirty.now (slice_index c.args.touched.now i) (sym c.contains.ensures.value ∙ w.if-not-contains.false)))
+          subst (λ (m : ℕ). UnitedTo c.args.dirty.now c.args.touched.now (i + 1) m) (sym w.count-is)
+          (united_same c.args.dirty.now c.args.touched.now i n c.requires.touched_rises c.loop-number-test.true c.loop-number.invariant (is_in c.args.dirty.now (slice_index c.args.touched.now i) (sym c.contains.ensures.value ∙ w.if-not-contains.false)))
     ]
 
 pub returns-clause-united : goal.returns-clause-united

@@ -19,9 +19,9 @@ fetch-requires-clause-known g c = parent_held c.args.numbers.now c.loop-number.n
 pub loop-number-preserved : goal.loop-number-preserved
 loop-number-preserved g c = record {
   to =
-    fetched_to_more c.args.name.now c.args.numbers.now c.loop-number.number-index (plain_at c.args.nodes.now) (plain_at c.loop-number.nodes) (plain_at c.fetch.new.nodes) c.args.root.now
-    (g.H.Host.state c.args.host.now) (g.H.Host.state c.loop-number.host) (g.H.Host.state c.fetch.new.host) c.requires.rising (omega arith) c.loop-number.invariant.to
-    tt c.in_ok-fetch.ensures.asking c.in_ok-fetch.ensures.fetches;
+      fetched_to_more c.args.name.now c.args.numbers.now c.loop-number.number-index (plain_at c.args.nodes.now) (plain_at c.loop-number.nodes) (plain_at c.fetch.new.nodes) c.args.root.now
+      (g.H.Host.state c.args.host.now) (g.H.Host.state c.loop-number.host) (g.H.Host.state c.fetch.new.host) c.requires.rising (omega arith) c.loop-number.invariant.to
+      tt c.in_ok-fetch.ensures.asking c.in_ok-fetch.ensures.fetches;
   marks = keeps_marks_then c.args.nodes.now c.loop-number.nodes c.fetch.new.nodes c.loop-number.invariant.marks c.fetch.ensures.marks;
 }
 

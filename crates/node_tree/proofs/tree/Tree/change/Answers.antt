@@ -57,14 +57,16 @@ returns-in_err-fetch_all-clause-few g c = λ step putting.
     (subst (λ (l : List ℕ). CountsReads (length (missing_of (plain_at c.self.inside.nodes) (take n l))) before after) c.deref-2.ensures.0 c.in_err-fetch_all.ensures.asking.counts)
 
 pub add_zeroed-requires : goal.add_zeroed-requires
-add_zeroed-requires g c = record { clean = λ k there.
-    let before = g.H.Host.state c.args.host.now in
-    let after = g.H.Host.state c.fetch_all.new.host in
-    let n = c.count_below-live.result in
-    let numbers = c.touched-numbers.result.items in
-    let below = subst (λ (b : ℕ). IsCountBelow numbers b n) c.node_count.ensures (subst (λ (l : List ℕ). IsCountBelow l c.node_count.result n) c.deref.ensures.0 c.count_below-live.ensures) in
-    none_marked c.args.name.now c.args.at c.args.from.now c.self.inside c.args.self.now c.self.view_is before after c.self.invariant numbers c.touched-numbers.ensures n below c.fetch_all.new.nodes c.in_ok-fetch_all.ensures.marks k
-    (subst (λ (l : List ℕ). Contains (drop n l) k) c.deref-3.ensures.0 (subst (λ (r : List ℕ). Contains r k) (back_is n c.deref-3.result.now) there)) }
+add_zeroed-requires g c = record {
+  clean = λ k there.
+      let before = g.H.Host.state c.args.host.now in
+      let after = g.H.Host.state c.fetch_all.new.host in
+      let n = c.count_below-live.result in
+      let numbers = c.touched-numbers.result.items in
+      let below = subst (λ (b : ℕ). IsCountBelow numbers b n) c.node_count.ensures (subst (λ (l : List ℕ). IsCountBelow l c.node_count.result n) c.deref.ensures.0 c.count_below-live.ensures) in
+      none_marked c.args.name.now c.args.at c.args.from.now c.self.inside c.args.self.now c.self.view_is before after c.self.invariant numbers c.touched-numbers.ensures n below c.fetch_all.new.nodes c.in_ok-fetch_all.ensures.marks k
+      (subst (λ (l : List ℕ). Contains (drop n l) k) c.deref-3.ensures.0 (subst (λ (r : List ℕ). Contains r k) (back_is n c.deref-3.result.now) there));
+}
 
 pub invariant_of-self-in_err-add_zeroed : goal.invariant_of-self-in_err-add_zeroed
 invariant_of-self-in_err-add_zeroed g c =
@@ -106,19 +108,21 @@ returns-in_err-add_zeroed-clause-few g c = λ step putting.
     (subst (λ (l : List ℕ). CountsReads (length (missing_of (plain_at c.self.inside.nodes) (take n l))) before after) c.deref-2.ensures.0 c.in_ok-fetch_all.ensures.asking.counts)
 
 pub mark-requires : goal.mark-requires
-mark-requires g c = record { held = λ k there.
-    let before = g.H.Host.state c.args.host.now in
-    let after = g.H.Host.state c.fetch_all.new.host in
-    let n = c.count_below-live.result in
-    let numbers = c.touched-numbers.result.items in
-    let below = subst (λ (b : ℕ). IsCountBelow numbers b n) c.node_count.ensures (subst (λ (l : List ℕ). IsCountBelow l c.node_count.result n) c.deref.ensures.0 c.count_below-live.ensures) in
-    let fetches = subst (λ (l : List ℕ). Fetches (Ok tt) c.args.name.now (take n l) (plain_at c.self.inside.nodes) (plain_at c.fetch_all.new.nodes) c.self.inside.root before after) c.deref-2.ensures.0 c.in_ok-fetch_all.ensures.fetches in
-    let may = subst (λ (l : List ℕ). MayZero (drop n l) (plain_at c.fetch_all.new.nodes) (plain_at c.add_zeroed.new.nodes)) c.deref-3.ensures.0
-    (subst (λ (r : List ℕ). MayZero r (plain_at c.fetch_all.new.nodes) (plain_at c.add_zeroed.new.nodes)) (back_is n c.deref-3.result.now) c.in_ok-add_zeroed.ensures.may) in
-    let zeroed = subst (λ (l : List ℕ). IsZeroed (length (drop n l)) (drop n l) (plain_at c.fetch_all.new.nodes) (plain_at c.add_zeroed.new.nodes)) c.deref-3.ensures.0
-    (subst (λ (r : List ℕ). IsZeroed (length r) r (plain_at c.fetch_all.new.nodes) (plain_at c.add_zeroed.new.nodes)) (back_is n c.deref-3.result.now) c.in_ok-add_zeroed.ensures.zeroed) in
-    numbers_held c.args.name.now c.args.at c.args.from.now c.self.inside c.args.self.now c.self.view_is before after c.self.invariant numbers c.touched-numbers.ensures n below c.fetch_all.new.nodes c.in_ok-fetch_all.ensures.marks tt fetches
-    c.add_zeroed.new.nodes may c.in_ok-add_zeroed.ensures.marks zeroed k (subst (λ (l : List ℕ). Contains l k) c.deref-4.ensures.0 there) }
+mark-requires g c = record {
+  held = λ k there.
+      let before = g.H.Host.state c.args.host.now in
+      let after = g.H.Host.state c.fetch_all.new.host in
+      let n = c.count_below-live.result in
+      let numbers = c.touched-numbers.result.items in
+      let below = subst (λ (b : ℕ). IsCountBelow numbers b n) c.node_count.ensures (subst (λ (l : List ℕ). IsCountBelow l c.node_count.result n) c.deref.ensures.0 c.count_below-live.ensures) in
+      let fetches = subst (λ (l : List ℕ). Fetches (Ok tt) c.args.name.now (take n l) (plain_at c.self.inside.nodes) (plain_at c.fetch_all.new.nodes) c.self.inside.root before after) c.deref-2.ensures.0 c.in_ok-fetch_all.ensures.fetches in
+      let may = subst (λ (l : List ℕ). MayZero (drop n l) (plain_at c.fetch_all.new.nodes) (plain_at c.add_zeroed.new.nodes)) c.deref-3.ensures.0
+      (subst (λ (r : List ℕ). MayZero r (plain_at c.fetch_all.new.nodes) (plain_at c.add_zeroed.new.nodes)) (back_is n c.deref-3.result.now) c.in_ok-add_zeroed.ensures.may) in
+      let zeroed = subst (λ (l : List ℕ). IsZeroed (length (drop n l)) (drop n l) (plain_at c.fetch_all.new.nodes) (plain_at c.add_zeroed.new.nodes)) c.deref-3.ensures.0
+      (subst (λ (r : List ℕ). IsZeroed (length r) r (plain_at c.fetch_all.new.nodes) (plain_at c.add_zeroed.new.nodes)) (back_is n c.deref-3.result.now) c.in_ok-add_zeroed.ensures.zeroed) in
+      numbers_held c.args.name.now c.args.at c.args.from.now c.self.inside c.args.self.now c.self.view_is before after c.self.invariant numbers c.touched-numbers.ensures n below c.fetch_all.new.nodes c.in_ok-fetch_all.ensures.marks tt fetches
+      c.add_zeroed.new.nodes may c.in_ok-add_zeroed.ensures.marks zeroed k (subst (λ (l : List ℕ). Contains l k) c.deref-4.ensures.0 there);
+}
 
 pub put_bytes_at-requires-clause-held : goal.put_bytes_at-requires-clause-held
 put_bytes_at-requires-clause-held g c =

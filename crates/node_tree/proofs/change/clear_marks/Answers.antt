@@ -1,0 +1,24 @@
+use Rattle.std.proofs.Common.{◌∙◌, refl, slice_index, arith}
+use Rattle.std.proofs.lemmas.List.Elements.{Contains-get_or}
+use Rattle.node_tree.specs.Marks.{marked_at}
+use Rattle.node_tree.proofs.Zeroed.{unmarked_none, unmarked_more, unmarked_all}
+use Rattle.node_tree.proofs.change.clear_marks.Goals as goal
+
+pub loop-number-init : goal.loop-number-init
+loop-number-init c = record { plains = λ k. refl; marks = unmarked_none c.args.numbers.now (marked_at c.args.nodes.now); ordered = λ ordered. ordered }
+
+pub set_mark-requires : goal.set_mark-requires
+set_mark-requires c =
+    let number = slice_index c.args.numbers.now c.loop-number.number-index in
+    let h = c.requires.held number (Contains-get_or c.args.numbers.now c.loop-number.number-index 0 c.loop-number-test.true) in
+    record { held = (h.0, c.loop-number.invariant.plains number ∙ h.1) }
+
+pub loop-number-preserved : goal.loop-number-preserved
+loop-number-preserved c = record {
+  plains = λ k. c.set_mark.ensures.plains k ∙ c.loop-number.invariant.plains k;
+  marks = unmarked_more c.args.numbers.now c.loop-number.number-index (marked_at c.args.nodes.now) (marked_at c.loop-number.nodes) (marked_at c.set_mark.new.nodes) c.loop-number-test.true c.loop-number.invariant.marks c.set_mark.ensures.marks;
+  ordered = λ ordered. c.set_mark.ensures.ordered;
+}
+
+pub returns-clause-marks : goal.returns-clause-marks
+returns-clause-marks c = unmarked_all c.args.numbers.now c.loop-number.number-index (marked_at c.args.nodes.now) (marked_at c.loop-number.nodes) (omega arith) c.loop-number.invariant.marks
