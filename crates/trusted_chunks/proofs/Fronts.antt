@@ -174,11 +174,12 @@ missing_has (c ∷ numbers) d kept is no_one = elim (Contains-cons c numbers d i
 -- At most three numbers are all kept, once the missing ones have come.
 pub all_kept : (numbers : List ℕ) (old : Kept) (came : List (ℕ × List ℕ)) → length numbers ≤ 3 → missing_of old numbers ≡ numbers_of came → (d : ℕ) → Contains numbers d → IsSome (kept_at (kept_with came (used numbers old)) d)
 all_kept numbers old came few came_is d is =
-    let long : length (missing_of old numbers) ≡ length came = ap (λ (l : List ℕ). length l) came_is ∙ length-map (λ chunk. chunk.0) came in
+    let long : length (missing_of old numbers) ≡ length came = ap (λ (l : List ℕ). length l) came_is ∙ length-map came (λ chunk. chunk.0) in
     let fits : length (present_of old numbers) + length came ≤ MOST_KEPT = omega (arith, few, long, split_numbers numbers old) in
     (elim (has d old) as (λ b. has d old ≡ b → has d (kept_with came (used numbers old)) ≡ true) [
       | true ↦ λ t. has_all d (length (present_of old numbers) + length came) (kept_with came (used numbers old)) (with_front came d (length (present_of old numbers)) (used numbers old) fits (used_in numbers d old is t))
-      | false ↦ λ t. with_in came d (length (present_of old numbers)) (used numbers old) fits (subst (λ (l : List ℕ). Contains l d) came_XX
+      | false ↦ λ t. with_in came d (length (present_of old numbers)) (used numbers old) fits (subst (λ (l : List ℕ). Contains l d) came_is (missing_has numbers d old is t))
+    ]) refl
 
 -- how many are kept
 length_removed : (c : ℕ) (kept : Kept) (e : ℕ × List ℕ) → entry_of c kept ≡ Some e → suc (length (remove_entry (nat_eq c) kept)) ≡ length kept

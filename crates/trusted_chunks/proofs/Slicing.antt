@@ -15,9 +15,9 @@ take_both : (m n : ℕ) (bytes : List ℕ) → take m bytes ++ take n (drop m by
 take_both zero n bytes = ap (λ (k : ℕ). take k bytes) (omega arith)
 take_both (suc m) n [] = nothing n
   where
-    nothing : (k : ℕ) → take k [] ≡ take (suc m + k) []
-    nothing zero = let e : suc m + 0 ≡ suc m = omega arith in ap (λ (j : ℕ). take j []) (sym e)
-    nothing (suc k) = let e : suc m + suc k ≡ suc (m + suc k) = omega arith in ap (λ (j : ℕ). take j []) (sym e)
+    nothing : (k : ℕ) → take {A = ℕ} k [] ≡ take (suc m + k) []
+    nothing zero = let e : suc m + 0 ≡ suc m = omega arith in ap (λ (j : ℕ). take {A = ℕ} j []) (sym e)
+    nothing (suc k) = let e : suc m + suc k ≡ suc (m + suc k) = omega arith in ap (λ (j : ℕ). take {A = ℕ} j []) (sym e)
 take_both (suc m) n (b ∷ bytes) = let e : suc (m + n) ≡ suc m + n = omega arith in ap (λ (l : List ℕ). b ∷ l) (take_both m n bytes) ∙ ap (λ (k : ℕ). take k (b ∷ bytes)) e
 
 -- dropping of a front
@@ -26,7 +26,7 @@ drop_front zero n bytes = ap (λ (k : ℕ). take k bytes) (omega arith)
 drop_front (suc s) zero bytes = let e : zero ≡ zero - suc s = omega arith in ap (λ (k : ℕ). take k (drop (suc s) bytes)) e
 drop_front (suc s) (suc n) [] = nothing (suc n - suc s)
   where
-    nothing : (k : ℕ) → [] ≡ take k []
+    nothing : (k : ℕ) → ◌≡◌ {A = List ℕ} [] (take k [])
     nothing zero = refl
     nothing (suc k) = refl
 drop_front (suc s) (suc n) (b ∷ bytes) = drop_front s n bytes ∙ ap (λ (k : ℕ). take k (drop s bytes)) (omega arith)
@@ -52,7 +52,7 @@ pub record SliceIs (at room n : ℕ) (buffer bytes : List ℕ) : Type 0 where
   pub count : n ≡ room
   pub same : take n buffer ≡ take n (drop at bytes)
 
-pub slice_is : (at room n : ℕ) (buffer bytes all : List ℕ) → at + room ≤ length bytes → all ≡ take (CHUNK * span at room) (drop (CHUNK * (at / CHUNK)) bytes) → n ≡ min room (length all - at % CHUNK) → take n buffer ≡ take n (drop (at % CHUNK) all)
+pub slice_is : (at room n : ℕ) (buffer bytes all : List ℕ) → room ≤ length bytes - at → all ≡ take (CHUNK * span at room) (drop (CHUNK * (at / CHUNK)) bytes) → n ≡ min room (length all - at % CHUNK) → take n buffer ≡ take n (drop (at % CHUNK) all)
     → SliceIs at room n buffer bytes
 slice_is at zero n buffer bytes all fits all_is count same = let none : n ≡ 0 = omega (arith, count) in rw none (record { count = refl; same = refl })
 slice_is at (suc r) n buffer bytes all fits all_is count same =
@@ -73,7 +73,7 @@ slice_is at (suc r) n buffer bytes all fits all_is count same =
     }
 
 -- the touched chunks are of the bytes
-pub touched_within : (at room size c : ℕ) → at + room ≤ size → Contains (touched at room) c → c < chunk_count size
+pub touched_within : (at room size c : ℕ) → room ≤ size - at → Contains (touched at room) c → c < chunk_count size
 touched_within at zero size c fits is = absurd (Contains-nil c is)
 touched_within at (suc r) size c fits is =
     let high = range_high (at / CHUNK) ((at + r) / CHUNK + 1 - at / CHUNK) c is in

@@ -8,7 +8,7 @@ use Rattle.trusted_chunks.specs.Fetching.{hash_in}
 use Rattle.trusted_chunks.specs.declared.fault.ChunkFault.{ChunkFault}
 use Rattle.trusted_chunks.proofs.Fronts.{few_kept}
 use Rattle.trusted_chunks.proofs.Slicing.{slice_is}
-use Rattle.trusted_chunks.proofs.Holding.{still_holds}
+use Rattle.trusted_chunks.proofs.Coming.{reads_few}
 use Rattle.trusted_chunks.proofs.Fetched.{fetched_none, fetched_then, fetched_failed, failed_cause}
 use Rattle.trusted_chunks.proofs.fetching.fetch_all.Goals as goal
 
