@@ -82,7 +82,7 @@ begins (Err faults.Host) name hash numbers came these none = record { rest = non
 begins (Err faults.Memory) name hash numbers came these (NoMemory.unasked none) = record { rest = none.c ∷ none.next.0; tail = []; numbers_are = none.next.1; these_are = none.asked ∙ sym (append-nil (chunks_given name came)) }
 begins (Err faults.Memory) name hash numbers came these (NoMemory.unkept c slice next asked right) = record { rest = c ∷ next.0; tail = chunk_answer name (c, slice) ∷ []; numbers_are = next.1; these_are = asked }
 
-from_missing : (kept : Kept) (numbers : List ℕ) (c : ℕ) → Contains (missing_of kept numbers) c → Contains numbers c
+pub from_missing : (kept : Kept) (numbers : List ℕ) (c : ℕ) → Contains (missing_of kept numbers) c → Contains numbers c
 from_missing kept [] c is = is
 from_missing kept (first ∷ numbers) c is = by_case (λ more. from_missing kept numbers c more) (is_none (kept_at kept first)) is
   where

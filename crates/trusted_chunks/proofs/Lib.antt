@@ -9,3 +9,4 @@ mod Fronts
 mod Holding
 mod Slicing
 mod Coming
+mod Piecing
