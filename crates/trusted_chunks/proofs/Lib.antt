@@ -10,3 +10,4 @@ mod Holding
 mod Slicing
 mod Coming
 mod Piecing
+mod Opened
