@@ -104,7 +104,7 @@ ends_held (Err fault) at buffer bytes old new holds size gives = tt
 ends_held (Ok n) at buffer bytes old new holds size gives =
     let room = readable old at (length buffer) in
     let all_is : joined new.kept (touched at room) ≡ take (CHUNK * span at room) (drop (CHUNK * (at / CHUNK)) bytes) =
-        joined_chunks new.kept bytes (touched at room) (λ c is. chunk_kept new bytes c holds (gives.all_kept c is)) ∙ concat_chunks bytes (at / CHUNK) (span at room) in
+    joined_chunks new.kept bytes (touched at room) (λ c is. chunk_kept new bytes c holds (gives.all_kept c is)) ∙ concat_chunks bytes (at / CHUNK) (span at room) in
     let is = slice_is at room n buffer bytes (joined new.kept (touched at room)) (omega (arith, size)) all_is gives.count gives.bytes in
     (is.count ∙ ap (λ (k : ℕ). min (length buffer) (k - at)) size, is.same)
 

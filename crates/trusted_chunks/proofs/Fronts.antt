@@ -52,6 +52,7 @@ has_moved c d (suc k) (f ∷ kept) e bytes is there = (elim (nat_eq c f.0) as (�
     first same false t =
         let other : nat_eq d f.0 ≡ false = ap (λ g. nat_eq d g.0) same ∙ t in
         has_longer d k (suc k) kept (omega arith) (rw other at there)
+
     later : (entry_of c kept ≡ Some e → has d (take k kept) ≡ true → is_some (cond (nat_eq d e.0) (Some bytes) (kept_at (take k (remove_entry (nat_eq c) kept)) d)) ≡ true)
         → (b : Bool) → nat_eq d f.0 ≡ b → entry_of c kept ≡ Some e → is_some (cond (nat_eq d e.0) (Some bytes) (cond (nat_eq d f.0) (Some f.1) (kept_at (take k (remove_entry (nat_eq c) kept)) d))) ≡ true
     later on true t found = rw t (elim (nat_eq d e.0) as (λ b. is_some (cond b (Some bytes) (Some f.1)) ≡ true) [ true ↦ refl | false ↦ refl ])
@@ -101,12 +102,12 @@ used_front : (numbers : List ℕ) (d k : ℕ) (kept : Kept) → has d (take k ke
 used_front [] d k kept there = has_longer d k (k + 0) kept (omega arith) there
 used_front (c ∷ numbers) d k kept there = (elim (has c kept) as (λ b. has c kept ≡ b → has d (take (k + length (present_of kept (c ∷ numbers))) (used (c ∷ numbers) kept)) ≡ true) [
   | true ↦ λ t.
-    let on = used_front numbers d (suc k) (promoted (nat_eq c) kept) (front_promoted c d k kept (entry_of c kept) refl there) in
-    let long : length (present_of (promoted (nat_eq c) kept) numbers) ≡ length (present_of kept numbers) = ap (λ (l : List ℕ). length l) (same_present c kept numbers) in
-    rw t (has_longer d (suc k + length (present_of (promoted (nat_eq c) kept) numbers)) (k + suc (length (present_of kept numbers))) (used numbers (promoted (nat_eq c) kept)) (omega (arith, long)) on)
+      let on = used_front numbers d (suc k) (promoted (nat_eq c) kept) (front_promoted c d k kept (entry_of c kept) refl there) in
+      let long : length (present_of (promoted (nat_eq c) kept) numbers) ≡ length (present_of kept numbers) = ap (λ (l : List ℕ). length l) (same_present c kept numbers) in
+      rw t (has_longer d (suc k + length (present_of (promoted (nat_eq c) kept) numbers)) (k + suc (length (present_of kept numbers))) (used numbers (promoted (nat_eq c) kept)) (omega (arith, long)) on)
   | false ↦ λ t.
-    let same : promoted (nat_eq c) kept ≡ kept = (promoted_absent nat_eq (lru_cache kept MOST_KEPT) c t).1 in
-    rw t (subst (λ (l : Kept). has d (take (k + length (present_of kept numbers)) (used numbers l)) ≡ true) (sym same) (used_front numbers d k kept there))
+      let same : promoted (nat_eq c) kept ≡ kept = (promoted_absent nat_eq (lru_cache kept MOST_KEPT) c t).1 in
+      rw t (subst (λ (l : Kept). has d (take (k + length (present_of kept numbers)) (used numbers l)) ≡ true) (sym same) (used_front numbers d k kept there))
 ]) refl
 
 -- each of the numbers that is kept stands in the front of as many
@@ -114,11 +115,11 @@ used_in : (numbers : List ℕ) (d : ℕ) (kept : Kept) → Contains numbers d �
 used_in [] d kept is there = absurd (Contains-nil d is)
 used_in (c ∷ numbers) d kept is there = elim (Contains-cons c numbers d is) [
   | inl same ↦
-    let t : has c kept ≡ true = ap (λ (e : ℕ). has e kept) same ∙ there in
-    let on = used_front numbers c 1 (promoted (nat_eq c) kept) (first_promoted c kept (entry_of c kept) refl t) in
-    let long : length (present_of (promoted (nat_eq c) kept) numbers) ≡ length (present_of kept numbers) = ap (λ (l : List ℕ). length l) (same_present c kept numbers) in
-    subst (λ (e : ℕ). has e (take (length (present_of kept (c ∷ numbers))) (used (c ∷ numbers) kept)) ≡ true) same
-    (rw t (has_longer c (1 + length (present_of (promoted (nat_eq c) kept) numbers)) (suc (length (present_of kept numbers))) (used numbers (promoted (nat_eq c) kept)) (omega (arith, long)) on))
+      let t : has c kept ≡ true = ap (λ (e : ℕ). has e kept) same ∙ there in
+      let on = used_front numbers c 1 (promoted (nat_eq c) kept) (first_promoted c kept (entry_of c kept) refl t) in
+      let long : length (present_of (promoted (nat_eq c) kept) numbers) ≡ length (present_of kept numbers) = ap (λ (l : List ℕ). length l) (same_present c kept numbers) in
+      subst (λ (e : ℕ). has e (take (length (present_of kept (c ∷ numbers))) (used (c ∷ numbers) kept)) ≡ true) same
+      (rw t (has_longer c (1 + length (present_of (promoted (nat_eq c) kept) numbers)) (suc (length (present_of kept numbers))) (used numbers (promoted (nat_eq c) kept)) (omega (arith, long)) on))
   | inr more ↦ later (has c kept) refl (used_in numbers d (promoted (nat_eq c) kept) more (has_promoted c d kept ∙ there))
 ]
   where
@@ -144,7 +145,7 @@ with_in ((c, bytes) ∷ chunks) d k kept fits is =
     let next = put_entries nat_eq (lru_cache kept MOST_KEPT) c bytes in
     elim (Contains-cons c (numbers_of chunks) d is) [
       | inl same ↦ subst (λ (e : ℕ). has e (kept_with chunks next) ≡ true) same
-        (has_all c (1 + length chunks) (kept_with chunks next) (with_front chunks c 1 next (omega (arith, fits)) (first_put c bytes kept (entry_of c kept) refl)))
+          (has_all c (1 + length chunks) (kept_with chunks next) (with_front chunks c 1 next (omega (arith, fits)) (first_put c bytes kept (entry_of c kept) refl)))
       | inr more ↦ with_in chunks d k next (omega (arith, fits)) more
     ]
 
@@ -167,6 +168,7 @@ missing_has (c ∷ numbers) d kept is no_one = elim (Contains-cons c numbers d i
     here : c ≡ d → (o : Option (List ℕ)) → kept_at kept c ≡ o → Contains (missing_of kept (c ∷ numbers)) d
     here same (Some x) t = let yes_one : has d kept ≡ true = ap (λ (e : ℕ). has e kept) (sym same) ∙ ap (λ (o : Option (List ℕ)). is_some o) t in absurd (true≢false (sym yes_one ∙ no_one))
     here same None t = rw t (subst (Contains (c ∷ missing_of kept numbers)) same (Contains-head c (missing_of kept numbers)))
+
     there : (b : Bool) → Contains (missing_of kept numbers) d → Contains (cond b (c ∷ missing_of kept numbers) (missing_of kept numbers)) d
     there true has_it = Contains-tail c (missing_of kept numbers) d has_it
     there false has_it = has_it

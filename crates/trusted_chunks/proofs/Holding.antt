@@ -30,6 +30,7 @@ from_with ((c, bytes) ∷ chunks) kept e is = elim (from_with chunks (put_entrie
     key : (k j : ℕ) (l : Kept) → (j ≡ k) ⊎ ((w : List ℕ) × Contains l (j, w) × (nat_eq k j ≡ true)) → k ≡ j
     key k j l (inl same) = sym same
     key k j l (inr (w, there, t)) = eqb-true k j t
+
     pair : (k : ℕ) (v : List ℕ) (p : ℕ × List ℕ) → p.1 ≡ v → k ≡ p.0 → (k, v) ≡ p
     pair k v p value is_key = ap (λ (x : ℕ). (x, v)) is_key ∙ ap (λ (x : List ℕ). (p.0, x)) (sym value)
 

@@ -1,3 +1,5 @@
+ghost use Rattle.std.specs.Prelude.{◌≤◌, length};
+
 use crate::{ChunkFault, TrustFault, TrustedFile};
 use lru::LruCache;
 use pf_fakes::{Answer, ScriptHost};
@@ -6,11 +8,13 @@ use sha2::{Digest, Sha256};
 use std::alloc::Global;
 use std::test::Fail;
 
-// Bytes that show their chunk and their place.
+// Bytes of which each chunk begins with its number.
 fn content(alloc: Global, len: usize) -> Result<Vec<u8>, Fail> {
-    let mut bytes = Vec::new(alloc);
-    for i in 0..len {
-        bytes.push(((i / 16384 * 7 + i) % 251) as u8)?;
+    let mut bytes = vec![in alloc; 7; len]?;
+    for chunk in 0..5 {
+        if let Some(first) = bytes.get_mut(16384 * chunk) {
+            *first = chunk as u8;
+        }
     }
     Ok(bytes)
 }
@@ -26,17 +30,13 @@ fn open(alloc: Global, host: &mut MemHost, bytes: &[u8]) -> Result<TrustedFile, 
 }
 
 // Reads, and says whether the bytes are those of the content.
-fn reads(
-    file: &mut TrustedFile,
-    host: &mut MemHost,
-    at: usize,
-    to: &mut [u8],
-    bytes: &[u8],
-) -> bool {
-    let want = bytes.len().saturating_sub(at).min(to.len());
-    match file.read(host, at as u64, to) {
-        Ok(n) => n == want && at <= bytes.len() && to[..n] == bytes[at..at + n],
-        Err(_) => false,
+fn reads(file: &mut TrustedFile, host: &mut MemHost, at: usize, to: &mut [u8], bytes: &[u8]) -> bool
+    requires { length to.old ≤ 32768 }
+{
+    let room = to.len();
+    match (bytes.get(at..), file.read(host, at as u64, to)) {
+        (Some(rest), Ok(n)) => n == rest.len().min(room) && rest.starts_with(&to[..n]),
+        _ => false,
     }
 }
 
@@ -84,18 +84,17 @@ fn a_changed_chunk_is_named(rt: HostRuntime) -> Result<(), Fail> {
     let bytes = content(alloc, 40000)?;
     let mut host = ScriptHost::new(alloc);
     host.answer(Answer::Len(Some(40000)))?;
-    for chunk in [0, 1, 2, 0, 1] {
-        let end = (16384 * chunk + 16384).min(bytes.len());
-        let slice = Bytes::copy(alloc, &bytes[16384 * chunk..end])?;
-        host.answer(Answer::Given(slice))?;
+    for slice in bytes.chunks(16384) {
+        host.answer(Answer::Given(Bytes::copy(alloc, slice)?))?;
     }
-    let mut changed = bytes[32768..].to_vec(alloc)?;
-    changed.push(0)?;
-    host.answer(Answer::Given(changed.into()))?;
+    for slice in bytes.chunks(16384).take(2) {
+        host.answer(Answer::Given(Bytes::copy(alloc, slice)?))?;
+    }
+    host.answer(Answer::Given(Bytes::zeroed(alloc, 7233)?))?;
     let mut file = TrustedFile::open(alloc, &mut host, "a", &Sha256::digest(&bytes))?;
     let mut to = vec![in alloc; 0; 32768]?;
     assert_eq!(rt; file.read(&mut host, 0, &mut to), Ok(32768));
-    assert!(rt; to[..] == bytes[..32768]);
+    assert!(rt; bytes.starts_with(&to));
     let damaged = file.read(&mut host, 32768, &mut to);
     assert_eq!(rt; damaged, Err(ChunkFault::Damaged { chunk: 2 }));
     Ok(())

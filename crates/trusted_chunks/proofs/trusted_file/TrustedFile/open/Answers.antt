@@ -63,9 +63,10 @@ pub returns-then-not-is_sum-clause-honest : goal.returns-then-not-is_sum-clause-
 returns-then-not-is_sum-clause-honest g c = honest_open _ c.args.name.now c.args.sum.now (g.H.Host.state c.args.host.now) (g.H.Host.state c.take_slices.new.host) (returns-then-not-is_sum-clause-opens g c)
 
 pub invariant_of-result : goal.invariant_of-result
-invariant_of-result g c =
-    (sound_opened c.in_ok-taken.taken c.args.name.now (record { name = c.in_ok-own_name.own_name; size = c.in_ok-taken.taken.len; hashes = c.in_ok-taken.taken.hashes.items; kept = c.in_ok-kept.kept.entries }) (g.H.Host.state c.len.new.self) (g.H.Host.state c.take_slices.new.host) c.in_ok-taken.ensures.takes refl refl (ap (λ (k : LruCache ℕ (List ℕ)). k.entries) c.in_ok-kept.ensures),
-    ap (λ (k : LruCache ℕ (List ℕ)). k.cap) c.in_ok-kept.ensures ∙ c.most_kept.ensures)
+invariant_of-result g c = (
+  sound_opened c.in_ok-taken.taken c.args.name.now (record { name = c.in_ok-own_name.own_name; size = c.in_ok-taken.taken.len; hashes = c.in_ok-taken.taken.hashes.items; kept = c.in_ok-kept.kept.entries }) (g.H.Host.state c.len.new.self) (g.H.Host.state c.take_slices.new.host) c.in_ok-taken.ensures.takes refl refl (ap (λ (k : LruCache ℕ (List ℕ)). k.entries) c.in_ok-kept.ensures),
+  ap (λ (k : LruCache ℕ (List ℕ)). k.cap) c.in_ok-kept.ensures ∙ c.most_kept.ensures,
+)
 
 pub returns-clause-opens : goal.returns-clause-opens
 returns-clause-opens g c =

@@ -45,7 +45,7 @@ invariant_of-self g c =
     let chunks_are = c.deref-2.ensures.0 ∙ c.use_kept-missing.ensures.missing ∙ ap (λ (l : List ℕ). missing_of file.kept l) numbers in
     let kept_is = ap (λ (k : LruCache ℕ (List ℕ)). k.entries) c.use_kept-missing.ensures.used ∙ ap (λ (l : List ℕ). used l file.kept) numbers in
     let f = fetched_by (Unit {0}) (Err c.in_err-fetch_all.field-0.0) c.as_str.result.now file.name c.deref.result.now file.hashes c.deref-2.result.now (missing_of file.kept (touched at room)) c.use_kept-missing.new.kept.entries (used (touched at room) file.kept) new s0 s1
-        c.in_err-fetch_all.ensures.fetches c.as_str.ensures c.deref.ensures.value chunks_are kept_is in
+    c.in_err-fetch_all.ensures.fetches c.as_str.ensures c.deref.ensures.value chunks_are kept_is in
     (sound_then {T = Unit {0}} (Err c.in_err-fetch_all.field-0.0) file.name (hash_at file) (touched at room) (missing_of file.kept (touched at room)) file new s0 s1 c.self.invariant.0 f, c.in_err-fetch_all.ensures.cap)
 
 pub returns-in_err-fetch_all-clause-reads : goal.returns-in_err-fetch_all-clause-reads
@@ -61,7 +61,7 @@ returns-in_err-fetch_all-clause-reads g c =
     let chunks_are = c.deref-2.ensures.0 ∙ c.use_kept-missing.ensures.missing ∙ ap (λ (l : List ℕ). missing_of file.kept l) numbers in
     let kept_is = ap (λ (k : LruCache ℕ (List ℕ)). k.entries) c.use_kept-missing.ensures.used ∙ ap (λ (l : List ℕ). used l file.kept) numbers in
     let f = fetched_by (Unit {0}) (Err p.0) c.as_str.result.now file.name c.deref.result.now file.hashes c.deref-2.result.now (missing_of file.kept (touched at room)) c.use_kept-missing.new.kept.entries (used (touched at room) file.kept) new s0 s1
-        (subst (λ (x : ChunkFault). Fetches {T = Unit {0}} (Err x) c.as_str.result.now (hash_in c.deref.result.now) c.deref-2.result.now c.use_kept-missing.new.kept.entries new s0 s1) (sym p.2) c.in_err-fetch_all.ensures.fetches) c.as_str.ensures c.deref.ensures.value chunks_are kept_is in
+    (subst (λ (x : ChunkFault). Fetches {T = Unit {0}} (Err x) c.as_str.result.now (hash_in c.deref.result.now) c.deref-2.result.now c.use_kept-missing.new.kept.entries new s0 s1) (sym p.2) c.in_err-fetch_all.ensures.fetches) c.as_str.ensures c.deref.ensures.value chunks_are kept_is in
     rw p.1 (subst (λ (x : FileState). Reads (Err p.0) at c.args.to.now x (record file { kept = new }) s0 s1) c.self.view_is
     (reads_of (Err p.0) at room c.args.to.now file new s0 s1 c.readable-room.ensures (fetched_err p.0 file.name (hash_at file) (missing_of file.kept (touched at room)) (used (touched at room) file.kept) new s0 s1 f) tt))
 
@@ -95,7 +95,7 @@ copy_out-requires-clause-all_kept g c = λ d is.
     let chunks_are = c.deref-2.ensures.0 ∙ c.use_kept-missing.ensures.missing ∙ ap (λ (l : List ℕ). missing_of file.kept l) numbers in
     let kept_is = ap (λ (k : LruCache ℕ (List ℕ)). k.entries) c.use_kept-missing.ensures.used ∙ ap (λ (l : List ℕ). used l file.kept) numbers in
     let f = fetched_by (Unit {0}) (Ok tt) c.as_str.result.now file.name c.deref.result.now file.hashes c.deref-2.result.now (missing_of file.kept (touched at room)) c.use_kept-missing.new.kept.entries (used (touched at room) file.kept) new s0 s1
-        c.in_ok-fetch_all.ensures.fetches c.as_str.ensures c.deref.ensures.value chunks_are kept_is in
+    c.in_ok-fetch_all.ensures.fetches c.as_str.ensures c.deref.ensures.value chunks_are kept_is in
     touched_kept at room file.name (hash_at file) file new s0 s1 (omega (arith, c.readable-room.ensures, c.requires)) f d (subst (λ (l : List ℕ). Contains l d) numbers is)
 
 pub invariant_of-self-2 : goal.invariant_of-self-2
@@ -110,7 +110,7 @@ invariant_of-self-2 g c =
     let chunks_are = c.deref-2.ensures.0 ∙ c.use_kept-missing.ensures.missing ∙ ap (λ (l : List ℕ). missing_of file.kept l) numbers in
     let kept_is = ap (λ (k : LruCache ℕ (List ℕ)). k.entries) c.use_kept-missing.ensures.used ∙ ap (λ (l : List ℕ). used l file.kept) numbers in
     let f = fetched_by (Unit {0}) (Ok tt) c.as_str.result.now file.name c.deref.result.now file.hashes c.deref-2.result.now (missing_of file.kept (touched at room)) c.use_kept-missing.new.kept.entries (used (touched at room) file.kept) new s0 s1
-        c.in_ok-fetch_all.ensures.fetches c.as_str.ensures c.deref.ensures.value chunks_are kept_is in
+    c.in_ok-fetch_all.ensures.fetches c.as_str.ensures c.deref.ensures.value chunks_are kept_is in
     (sound_then {T = Unit {0}} (Ok tt) file.name (hash_at file) (touched at room) (missing_of file.kept (touched at room)) file new s0 s1 c.self.invariant.0 f, c.in_ok-fetch_all.ensures.cap)
 
 pub returns-clause-rest : goal.returns-clause-rest
@@ -129,7 +129,7 @@ returns-clause-reads g c =
     let chunks_are = c.deref-2.ensures.0 ∙ c.use_kept-missing.ensures.missing ∙ ap (λ (l : List ℕ). missing_of file.kept l) numbers in
     let kept_is = ap (λ (k : LruCache ℕ (List ℕ)). k.entries) c.use_kept-missing.ensures.used ∙ ap (λ (l : List ℕ). used l file.kept) numbers in
     let f = fetched_by (Unit {0}) (Ok tt) c.as_str.result.now file.name c.deref.result.now file.hashes c.deref-2.result.now (missing_of file.kept (touched at room)) c.use_kept-missing.new.kept.entries (used (touched at room) file.kept) new s0 s1
-        c.in_ok-fetch_all.ensures.fetches c.as_str.ensures c.deref.ensures.value chunks_are kept_is in
+    c.in_ok-fetch_all.ensures.fetches c.as_str.ensures c.deref.ensures.value chunks_are kept_is in
     let n = c.copy_out.result in
     let fits : room ≤ length c.args.to.now = omega (arith, c.readable-room.ensures) in
     let rest = returns-clause-rest g c in
