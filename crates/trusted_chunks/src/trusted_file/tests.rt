@@ -1,4 +1,4 @@
-ghost use Rattle.std.specs.Prelude.{◌≤◌, length};
+ghost use Rattle.std.specs.Prelude.{◌≡◌, ◌≤◌, length, IfOk};
 
 use crate::{ChunkFault, TrustFault, TrustedFile};
 use lru::LruCache;
@@ -7,6 +7,14 @@ use pf_io::{Bytes, MemHost, Text};
 use sha2::{Digest, Sha256};
 use std::alloc::Global;
 use std::test::Fail;
+
+// Room for so many bytes.
+fn room_for(alloc: Global, len: usize) -> Result<Vec<u8>, Fail>
+    ensures { IfOk result (λ room. length room.items ≡ len) }
+{
+    let room = vec![in alloc; 0; len]?;
+    Ok(room)
+}
 
 // Bytes of which each chunk begins with its number.
 fn content(alloc: Global, len: usize) -> Result<Vec<u8>, Fail> {
@@ -47,7 +55,7 @@ fn slices_of_the_file_are_read(rt: HostRuntime) -> Result<(), Fail> {
         let mut host = host_of(rt.alloc(), &bytes)?;
         let mut file = open(rt.alloc(), &mut host, &bytes)?;
         assert_eq!(rt; file.len(), len as u64);
-        let mut to = vec![in rt.alloc(); 0; 32768]?;
+        let mut to = room_for(rt.alloc(), 32768)?;
         for at in [0, 16383, 16384, 39999, 40000] {
             if at <= len {
                 assert!(rt;
@@ -90,9 +98,9 @@ fn a_changed_chunk_is_named(rt: HostRuntime) -> Result<(), Fail> {
     for slice in bytes.chunks(16384).take(2) {
         host.answer(Answer::Given(Bytes::copy(alloc, slice)?))?;
     }
-    host.answer(Answer::Given(Bytes::zeroed(alloc, 7233)?))?;
+    host.answer(Answer::Given(Bytes::copy(alloc, b"changed")?))?;
     let mut file = TrustedFile::open(alloc, &mut host, "a", &Sha256::digest(&bytes))?;
-    let mut to = vec![in alloc; 0; 32768]?;
+    let mut to = room_for(alloc, 32768)?;
     assert_eq!(rt; file.read(&mut host, 0, &mut to), Ok(32768));
     assert!(rt; bytes.starts_with(&to));
     let damaged = file.read(&mut host, 32768, &mut to);
