@@ -37,33 +37,40 @@ fn open(alloc: Global, host: &mut MemHost, bytes: &[u8]) -> Result<TrustedFile, 
     TrustedFile::open(alloc, host, "a", &Sha256::digest(bytes))
 }
 
-// Reads, and says whether the bytes are those of the content.
-fn reads(file: &mut TrustedFile, host: &mut MemHost, at: usize, to: &mut [u8], bytes: &[u8]) -> bool
-    requires { length to.old ≤ 32768 }
+// Reads with so much room, and says whether the bytes are those of the content.
+fn reads(
+    alloc: Global,
+    file: &mut TrustedFile,
+    host: &mut MemHost,
+    at: usize,
+    room: usize,
+    bytes: &[u8],
+) -> Result<bool, Fail>
+    requires { room ≤ 32768 }
 {
-    let room = to.len();
-    match (bytes.get(at..), file.read(host, at as u64, to)) {
+    let mut to = room_for(alloc, room)?;
+    let same = match (bytes.get(at..), file.read(host, at as u64, &mut to)) {
         (Some(rest), Ok(n)) => n == rest.len().min(room) && rest.starts_with(&to[..n]),
         _ => false,
-    }
+    };
+    Ok(same)
 }
 
 #[test]
 fn slices_of_the_file_are_read(rt: HostRuntime) -> Result<(), Fail> {
+    let alloc = rt.alloc();
     for len in [0, 16384, 40000] {
-        let bytes = content(rt.alloc(), len)?;
-        let mut host = host_of(rt.alloc(), &bytes)?;
-        let mut file = open(rt.alloc(), &mut host, &bytes)?;
+        let bytes = content(alloc, len)?;
+        let mut host = host_of(alloc, &bytes)?;
+        let mut file = open(alloc, &mut host, &bytes)?;
         assert_eq!(rt; file.len(), len as u64);
-        let mut to = room_for(rt.alloc(), 32768)?;
         for at in [0, 16383, 16384, 39999, 40000] {
             if at <= len {
-                assert!(rt;
-                    reads(&mut file, &mut host, at, &mut to, &bytes),
-                    "{len} {at}"
-                );
+                let same = reads(alloc, &mut file, &mut host, at, 32768, &bytes)?;
+                assert!(rt; same, "{len} {at}");
             }
         }
+        let mut to = *b"....";
         assert_eq!(rt; file.read(&mut host, 50000, &mut to), Ok(0));
     }
     Ok(())
@@ -74,14 +81,16 @@ fn four_chunks_are_kept_and_a_fifth_pushes_the_first_out(rt: HostRuntime) -> Res
     let bytes = content(rt.alloc(), 80000)?;
     let mut host = host_of(rt.alloc(), &bytes)?;
     let mut file = open(rt.alloc(), &mut host, &bytes)?;
-    let mut to = *b".";
     for chunk in 0..5 {
-        assert!(rt; reads(&mut file, &mut host, 16384 * chunk, &mut to, &bytes));
+        let same = reads(rt.alloc(), &mut file, &mut host, 16384 * chunk, 1, &bytes)?;
+        assert!(rt; same);
     }
     host.stop_at(0);
     for chunk in 1..5 {
-        assert!(rt; reads(&mut file, &mut host, 16384 * chunk, &mut to, &bytes));
+        let same = reads(rt.alloc(), &mut file, &mut host, 16384 * chunk, 1, &bytes)?;
+        assert!(rt; same);
     }
+    let mut to = *b".";
     assert_eq!(rt; file.read(&mut host, 0, &mut to), Err(ChunkFault::Host));
     Ok(())
 }
