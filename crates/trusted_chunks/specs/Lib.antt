@@ -7,3 +7,4 @@ pub mod Opening
 pub mod Reading
 pub mod Fetching
 pub mod Inside
+pub mod Examples

@@ -49,8 +49,8 @@ pub record NoneCame (name : Name) (numbers : List ℕ) (came : List (ℕ × List
 
 -- there was no memory for the next chunk, before it was asked for or when it had come and was right
 pub data NoMemory (name : Name) (hash : ℕ → List ℕ) (numbers : List ℕ) (came : List (ℕ × List ℕ)) (these : List Answer) : Type 0 where
-  before : NoneCame name numbers came these → NoMemory name hash numbers came these
-  behind : (c : ℕ) (slice : List ℕ) → NextIs numbers came c → these ≡ chunks_given name came ++ chunk_answer name (c, slice) ∷ [] → sha256 slice ≡ hash c → NoMemory name hash numbers came these
+  unasked : NoneCame name numbers came these → NoMemory name hash numbers came these
+  unkept : (c : ℕ) (slice : List ℕ) → NextIs numbers came c → these ≡ chunks_given name came ++ chunk_answer name (c, slice) ∷ [] → sha256 slice ≡ hash c → NoMemory name hash numbers came these
 
 -- how the fetching of some chunks ends, by those that came and were right and by the answers
 abbrev pub FetchEnds : {T : Type 0} → Result T ChunkFault → Name → (ℕ → List ℕ) → List ℕ → List (ℕ × List ℕ) → List Answer → Type 0

@@ -9,22 +9,14 @@ ghost use Rattle.trusted_chunks.specs.Reading.{host_part, Fetches};
 ghost use Rattle.trusted_chunks.specs.Fetching.{hash_in, ChunkEnds};
 
 use crate::fault::ChunkFault;
-use crate::slices::CHUNK;
+use crate::slices::{CHUNK, has_sum};
 use arrayvec::ArrayVec;
 use lru::LruCache;
 use pf_io::{Bytes, Host};
-use sha2::{Digest, Sha256};
 use std::alloc::Global;
 
-/// The most chunks that a read touches.
-pub(crate) const MOST_TOUCHED: usize = 3;
-
 /// Brings those of `count` chunks from `first` on that are kept to the front, in turn, and answers the others.
-pub(crate) fn use_kept(
-    kept: &mut LruCache<u32, Bytes>,
-    first: u32,
-    count: u32,
-) -> ArrayVec<u32, MOST_TOUCHED>
+pub(crate) fn use_kept(kept: &mut LruCache<u32, Bytes>, first: u32, count: u32) -> ArrayVec<u32, 3>
     requires few { count ≤ 3 }
     requires small { first + count ≤ 2 ^ 20 }
     ensures used { kept.new ≡ lru_cache (used (range_with_len first count) kept.old.entries) kept.old.cap }
@@ -53,9 +45,9 @@ fn fetch<H: Host>(
 {
     let mut slice = Vec::new(alloc);
     slice.resize(CHUNK, 0)?;
-    let n = host.read_at(name, CHUNK as u64 * u64::from(chunk), slice.as_mut_slice())?;
+    let n = host.read_at(name, CHUNK as u64 * chunk as u64, slice.as_mut_slice())?;
     slice.truncate(n);
-    if Sha256::digest(slice.as_slice()) != *hash {
+    if !has_sum(slice.as_slice(), hash) {
         return Err(ChunkFault::Damaged { chunk });
     }
     Ok(slice.into())

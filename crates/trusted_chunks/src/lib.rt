@@ -2,6 +2,7 @@
 #![tactic(auto)]
 
 mod copying;
+pub mod examples;
 mod fault;
 mod fetching;
 mod slices;

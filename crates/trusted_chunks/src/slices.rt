@@ -1,11 +1,11 @@
 // A file that is taken whole, slice by slice, and summed; its bytes are not kept.
-ghost use Rattle.std.specs.Prelude.{◌≡◌, ◌++◌, ◌≤◌, ℕ, List, length, OnOk, OnErr, IfErr};
-ghost use Rattle.sha2.specs.Hashers.{Holds256};
+ghost use Rattle.std.specs.Prelude.{◌≡◌, ◌++◌, ◌^◌, ◌↔◌, ◌≤◌, length, OnOk, IfOk, IfErr, IsTrue};
+ghost use Rattle.sha2.specs.Sha256.{sha256};
 ghost use Rattle.pf_io.specs.Counts.{HasCause};
 ghost use Rattle.pf_io.specs.Unchanged.{KeepsDisk};
 ghost use Rattle.trusted_chunks.specs.Chunks.{sums_of};
 ghost use Rattle.trusted_chunks.specs.Opening.{host_part};
-ghost use Rattle.trusted_chunks.specs.Taking.{Takes};
+ghost use Rattle.trusted_chunks.specs.Taking.{Hashes, SliceEnds, Takes};
 
 use crate::fault::TrustFault;
 use pf_io::Host;
@@ -26,6 +26,20 @@ pub(crate) struct Taken {
     pub sum: [u8; 32],
 }
 
+/// Whether the two sums are one.
+pub(crate) fn is_sum(found: &[u8; 32], sum: &[u8; 32]) -> bool
+    ensures { IsTrue result ↔ (found.now ≡ sum.now) }
+{
+    found.as_slice() == sum.as_slice()
+}
+
+/// Whether the bytes have this sum.
+pub(crate) fn has_sum(bytes: &[u8], sum: &[u8; 32]) -> bool
+    ensures { IsTrue result ↔ (sha256 bytes.now ≡ sum.now) }
+{
+    is_sum(&Sha256::digest(bytes), sum)
+}
+
 // Adds a slice to the sums, where it is not empty.
 fn add_slice(
     slice: &[u8],
@@ -34,7 +48,7 @@ fn add_slice(
 ) -> Result<(), TrustFault>
     requires { length slice.now ≤ 16384 }
     ensures hashes { OnOk result (hashes.new.items ≡ hashes.old.items ++ sums_of slice.now) }
-    ensures hasher { OnOk result ((taken : List ℕ) → Holds256 hasher.old taken → Holds256 hasher.new (taken ++ slice.now)) }
+    ensures hasher { OnOk result (Hashes hasher.old slice.now hasher.new) }
     ensures memory { IfErr result (λ fault. fault ≡ TrustFault.Memory) }
 {
     hasher.update(slice);
@@ -42,6 +56,29 @@ fn add_slice(
         hashes.push(Sha256::digest(slice))?;
     }
     Ok(())
+}
+
+// Takes the slice at a place: it is asked of the host and added to the sums.
+fn take_slice<H: Host>(
+    host: &mut H,
+    name: &str,
+    at: u64,
+    buffer: &mut [u8; CHUNK],
+    hashes: &mut Vec<[u8; 32]>,
+    hasher: &mut Sha256,
+) -> Result<usize, TrustFault>
+    requires { at ≤ 2 ^ 32 }
+    ensures cause { HasCause (H.state host.old).faults (H.state host.new).faults (host_part result) }
+    ensures disk { KeepsDisk (H.state host.old) (H.state host.new) }
+    ensures ends { SliceEnds result name.now at hashes.old.items hashes.new.items hasher.old hasher.new (H.state host.old) (H.state host.new) }
+    ensures short { IfOk result (λ n. n ≤ 16384) }
+{
+    let n = host.read_at(name, at, buffer)?;
+    if at + n as u64 > MOST_BYTES {
+        return Err(TrustFault::TooLarge);
+    }
+    add_slice(&buffer[..n], hashes, hasher)?;
+    Ok(n)
 }
 
 /// Takes a file that is there: slices in turn, up to the first that is no whole one. Each chunk is summed once, and the
@@ -60,12 +97,8 @@ pub(crate) fn take_slices<H: Host>(
     let mut hasher = Sha256::new();
     let mut len = 0;
     loop {
-        let n = host.read_at(name, len, &mut buffer)?;
+        let n = take_slice(host, name, len, &mut buffer, &mut hashes, &mut hasher)?;
         len += n as u64;
-        if len > MOST_BYTES {
-            return Err(TrustFault::TooLarge);
-        }
-        add_slice(&buffer[..n], &mut hashes, &mut hasher)?;
         if n < CHUNK {
             return Ok(Taken {
                 len,

@@ -10,7 +10,7 @@ ghost use Rattle.trusted_chunks.specs.Reading.{host_part as read_part, Reads, Re
 use crate::copying::copy_out;
 use crate::fault::{ChunkFault, TrustFault};
 use crate::fetching::{fetch_all, use_kept};
-use crate::slices::{CHUNK, take_slices};
+use crate::slices::{CHUNK, is_sum, take_slices};
 use lru::LruCache;
 use pf_io::{Bytes, Host, Text};
 use std::alloc::Global;
@@ -86,7 +86,7 @@ impl TrustedFile {
         let own_name = Text::copy(alloc, name)?;
         let kept = LruCache::sparse(alloc, most_kept())?;
         let taken = take_slices(alloc, host, name)?;
-        if taken.sum != *sum {
+        if !is_sum(&taken.sum, sum) {
             return Err(TrustFault::WrongSum { found: taken.sum });
         }
         Ok(TrustedFile {

@@ -1,3 +1,5 @@
+ghost use Rattle.std.specs.Prelude.{◌≡◌, ◌≤◌, length, IfOk};
+
 use crate::{ChunkFault, TrustFault, TrustedFile};
 use lru::LruCache;
 use pf_fakes::{Answer, ScriptHost};
@@ -6,11 +8,21 @@ use sha2::{Digest, Sha256};
 use std::alloc::Global;
 use std::test::Fail;
 
-// Bytes that show their chunk and their place.
+// Room for so many bytes.
+fn room_for(alloc: Global, len: usize) -> Result<Vec<u8>, Fail>
+    ensures { IfOk result (λ room. length room.items ≡ len) }
+{
+    let room = vec![in alloc; 0; len]?;
+    Ok(room)
+}
+
+// Bytes of which each chunk begins with its number.
 fn content(alloc: Global, len: usize) -> Result<Vec<u8>, Fail> {
-    let mut bytes = Vec::new(alloc);
-    for i in 0..len {
-        bytes.push(((i / 16384 * 7 + i) % 251) as u8)?;
+    let mut bytes = vec![in alloc; 7; len]?;
+    for chunk in 0..5 {
+        if let Some(first) = bytes.get_mut(16384 * chunk) {
+            *first = chunk as u8;
+        }
     }
     Ok(bytes)
 }
@@ -25,37 +37,40 @@ fn open(alloc: Global, host: &mut MemHost, bytes: &[u8]) -> Result<TrustedFile, 
     TrustedFile::open(alloc, host, "a", &Sha256::digest(bytes))
 }
 
-// Reads, and says whether the bytes are those of the content.
+// Reads with so much room, and says whether the bytes are those of the content.
 fn reads(
+    alloc: Global,
     file: &mut TrustedFile,
     host: &mut MemHost,
     at: usize,
-    to: &mut [u8],
+    room: usize,
     bytes: &[u8],
-) -> bool {
-    let want = bytes.len().saturating_sub(at).min(to.len());
-    match file.read(host, at as u64, to) {
-        Ok(n) => n == want && at <= bytes.len() && to[..n] == bytes[at..at + n],
-        Err(_) => false,
-    }
+) -> Result<bool, Fail>
+    requires { room ≤ 32768 }
+{
+    let mut to = room_for(alloc, room)?;
+    let same = match (bytes.get(at..), file.read(host, at as u64, &mut to)) {
+        (Some(rest), Ok(n)) => n == rest.len().min(room) && rest.starts_with(&to[..n]),
+        _ => false,
+    };
+    Ok(same)
 }
 
 #[test]
 fn slices_of_the_file_are_read(rt: HostRuntime) -> Result<(), Fail> {
+    let alloc = rt.alloc();
     for len in [0, 16384, 40000] {
-        let bytes = content(rt.alloc(), len)?;
-        let mut host = host_of(rt.alloc(), &bytes)?;
-        let mut file = open(rt.alloc(), &mut host, &bytes)?;
+        let bytes = content(alloc, len)?;
+        let mut host = host_of(alloc, &bytes)?;
+        let mut file = open(alloc, &mut host, &bytes)?;
         assert_eq!(rt; file.len(), len as u64);
-        let mut to = vec![in rt.alloc(); 0; 32768]?;
         for at in [0, 16383, 16384, 39999, 40000] {
             if at <= len {
-                assert!(rt;
-                    reads(&mut file, &mut host, at, &mut to, &bytes),
-                    "{len} {at}"
-                );
+                let same = reads(alloc, &mut file, &mut host, at, 32768, &bytes)?;
+                assert!(rt; same, "{len} {at}");
             }
         }
+        let mut to = *b"....";
         assert_eq!(rt; file.read(&mut host, 50000, &mut to), Ok(0));
     }
     Ok(())
@@ -66,14 +81,16 @@ fn four_chunks_are_kept_and_a_fifth_pushes_the_first_out(rt: HostRuntime) -> Res
     let bytes = content(rt.alloc(), 80000)?;
     let mut host = host_of(rt.alloc(), &bytes)?;
     let mut file = open(rt.alloc(), &mut host, &bytes)?;
-    let mut to = *b".";
     for chunk in 0..5 {
-        assert!(rt; reads(&mut file, &mut host, 16384 * chunk, &mut to, &bytes));
+        let same = reads(rt.alloc(), &mut file, &mut host, 16384 * chunk, 1, &bytes)?;
+        assert!(rt; same);
     }
     host.stop_at(0);
     for chunk in 1..5 {
-        assert!(rt; reads(&mut file, &mut host, 16384 * chunk, &mut to, &bytes));
+        let same = reads(rt.alloc(), &mut file, &mut host, 16384 * chunk, 1, &bytes)?;
+        assert!(rt; same);
     }
+    let mut to = *b".";
     assert_eq!(rt; file.read(&mut host, 0, &mut to), Err(ChunkFault::Host));
     Ok(())
 }
@@ -84,18 +101,17 @@ fn a_changed_chunk_is_named(rt: HostRuntime) -> Result<(), Fail> {
     let bytes = content(alloc, 40000)?;
     let mut host = ScriptHost::new(alloc);
     host.answer(Answer::Len(Some(40000)))?;
-    for chunk in [0, 1, 2, 0, 1] {
-        let end = (16384 * chunk + 16384).min(bytes.len());
-        let slice = Bytes::copy(alloc, &bytes[16384 * chunk..end])?;
-        host.answer(Answer::Given(slice))?;
+    for slice in bytes.chunks(16384) {
+        host.answer(Answer::Given(Bytes::copy(alloc, slice)?))?;
     }
-    let mut changed = bytes[32768..].to_vec(alloc)?;
-    changed.push(0)?;
-    host.answer(Answer::Given(changed.into()))?;
+    for slice in bytes.chunks(16384).take(2) {
+        host.answer(Answer::Given(Bytes::copy(alloc, slice)?))?;
+    }
+    host.answer(Answer::Given(Bytes::copy(alloc, b"changed")?))?;
     let mut file = TrustedFile::open(alloc, &mut host, "a", &Sha256::digest(&bytes))?;
-    let mut to = vec![in alloc; 0; 32768]?;
+    let mut to = room_for(alloc, 32768)?;
     assert_eq!(rt; file.read(&mut host, 0, &mut to), Ok(32768));
-    assert!(rt; to[..] == bytes[..32768]);
+    assert!(rt; bytes.starts_with(&to));
     let damaged = file.read(&mut host, 32768, &mut to);
     assert_eq!(rt; damaged, Err(ChunkFault::Damaged { chunk: 2 }));
     Ok(())

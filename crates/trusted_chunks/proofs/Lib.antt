@@ -1,0 +1,13 @@
+mod Lists
+mod Copied
+mod Promoting
+mod Summing
+mod Asked
+mod TakenUp
+mod Fetched
+mod Fronts
+mod Holding
+mod Slicing
+mod Coming
+mod Piecing
+mod Opened

@@ -1,0 +1,205 @@
+-- How an opening ends, by the length that came and the slices that were taken.
+use Rattle.std.proofs.Common.{Contains, ◌≡◌, ◌≢◌, ℕ, ◌+◌, ◌-◌, ◌*◌, ◌<◌, ◌≤◌, Bool, true, false, List, [], ◌∷◌, ◌++◌, length, take, drop, Option, Some, None, refl, sym, ap, subst, ◌∙◌, arith, length-append, length-drop, length-take, Result, Ok, Err}
+use Rattle.std.specs.Prelude.{is_some}
+use Rattle.std.specs.List.{concat, AllByRecursion}
+use Rattle.std.proofs.lemmas.List.{take_all, take-append-drop, drop-drop, append-nil}
+use Rattle.std.proofs.lemmas.Option.{IfSome_then}
+use Rattle.std.proofs.lemmas.List.FromFn.{length-map-range_with_len}
+use Rattle.sha2.specs.Sha256.{sha256}
+use Rattle.pf_io.specs.Moments.{Does}
+use Rattle.pf_io.specs.Steps.{Stays}
+use Rattle.pf_io.specs.Host.{Name, Files, Answer, LengthWas, Gave, HostState, Both, IsMore, KeepsFiles, OnHonest, OnDisk, CountsNeither, length_of, contents, files_of}
+use Rattle.pf_io.specs.Answered.{Answered, IsAnswerOf}
+use Rattle.pf_io.specs.Unchanged.{KeepsDisk}
+use Rattle.pf_io.proofs.Answering.{answered_length, answered_then}
+use Rattle.lru.proofs.Splits.{Contains-nil}
+use Rattle.trusted_chunks.specs.Chunks.{CHUNK, chunk, chunk_count}
+use Rattle.trusted_chunks.specs.State.{Kept, MOST_BYTES, FileState, IsSound, Holds}
+use Rattle.trusted_chunks.specs.Slices.{given_in_turn, AreWhole, IsTaken, CountsSlices}
+use Rattle.trusted_chunks.specs.Taking.{NotLarge, IsSummed, Takes}
+use Rattle.trusted_chunks.specs.Opening.{IsOpened, IsTooLarge, HasWrongSum, IsStopped, IsStarved, OpenEnds, slices_asked, Opens, OpensFile, HonestOpen}
+use Rattle.trusted_chunks.specs.declared.fault.TrustFault.{TrustFault}
+use Rattle.trusted_chunks.specs.declared.fault.TrustFault.TheVariants as faults
+use Rattle.trusted_chunks.specs.declared.slices.Taken.{Taken}
+use Rattle.trusted_chunks.proofs.Asked.{counts_then}
+
+-- the file was said to be there
+pub record LengthCame (name : Name) (old new : HostState) : Type 0 where
+  pub size : ℕ
+  pub answered : Answered (LengthWas name (Some size) ∷ []) old new
+  pub counts : CountsSlices 0 old new
+
+some_of : (o : Option ℕ) → is_some o ≡ true → (size : ℕ) × (o ≡ Some size)
+some_of (Some size) is = (size, refl)
+some_of None is = absurd (cc)
+
+pub length_came : (name : Name) (o : Option ℕ) (old new : HostState) → is_some o ≡ true → Both old.given new.given (IsMore (LengthWas name o ∷ [])) → KeepsFiles old new → OnHonest old (λ files. o ≡ length_of (files name)) → CountsNeither old new
+    → LengthCame name old new
+length_came name o old new is told files honest counts =
+    let some = some_of o is in
+    record {
+      size = some.0;
+      answered = subst (λ (x : Option ℕ). Answered (LengthWas name x ∷ []) old new) some.1 (answered_length name o old new told files honest);
+      counts = record { reads = let e = counts.reads in omega (arith, e); writes = counts.writes; widest = let e = counts.widest in omega (arith, e) };
+    }
+
+abbrev these_of : Name → ℕ → List (List ℕ) → List Answer
+these_of name size slices = LengthWas name (Some size) ∷ given_in_turn name 0 slices
+
+length_in_turn : (name : Name) (at : ℕ) (slices : List (List ℕ)) → length (given_in_turn name at slices) ≡ length slices
+length_in_turn name at [] = refl
+length_in_turn name at (slice ∷ slices) = let on = length_in_turn name (at + length slice) slices in omega (arith, on)
+
+-- want of memory before the first slice
+pub opens_starved : (name : Name) (sum : List ℕ) (old new : HostState) → LengthCame name old new → Opens (Err faults.Memory) name sum old new
+opens_starved name sum old new came = record {
+  these = these_of name came.size [];
+  answered = came.answered;
+  counts = came.counts;
+  ends = IsStarved.between (IsStopped.at_slice [] (tt, (came.size, refl)) (omega arith));
+}
+
+-- slices of which the taking failed
+pub opens_failed : (fault : TrustFault) (name : Name) (sum : List ℕ) (old mid new : HostState) → LengthCame name old mid → Takes (Err fault) name mid new → Opens (Err fault) name sum old new
+opens_failed faults.NotFound name sum old mid new came takes = absurd takes.ends
+opens_failed faults.TooLarge name sum old mid new came takes =
+    let last = takes.ends.0 in
+    let is = takes.ends.1 in
+    record {
+      these = these_of name came.size (takes.whole ++ takes.more);
+      answered = answered_then (LengthWas name (Some came.size) ∷ []) (given_in_turn name 0 (takes.whole ++ takes.more)) old mid new came.answered takes.answered;
+      counts = counts_then 0 (length (takes.whole ++ takes.more) + 0) _ old mid new came.counts takes.counts (omega (arith, length_in_turn name 0 (takes.whole ++ takes.more)));
+      ends = record {
+        whole = takes.whole;
+        last = last;
+        came = (takes.are_whole, (came.size, ap (λ (m : List (List ℕ)). these_of name came.size (takes.whole ++ m)) is));
+        not_before = takes.ends.2;
+        too_large = subst (λ (m : List (List ℕ)). MOST_BYTES < length (concat (takes.whole ++ m))) is takes.ends.3;
+      };
+    }
+opens_failed (faults.WrongSum found) name sum old mid new came takes = absurd takes.ends
+opens_failed faults.Host name sum old mid new came takes = record {
+  these = these_of name came.size (takes.whole ++ takes.more);
+  answered = answered_then (LengthWas name (Some came.size) ∷ []) (given_in_turn name 0 (takes.whole ++ takes.more)) old mid new came.answered takes.answered;
+  counts = counts_then 0 (length (takes.whole ++ takes.more) + 1) _ old mid new came.counts takes.counts (omega (arith, length_in_turn name 0 (takes.whole ++ takes.more)));
+  ends = IsStopped.at_slice takes.whole (takes.are_whole, (came.size, ap (λ (m : List (List ℕ)). these_of name came.size (takes.whole ++ m)) takes.ends.0)) takes.ends.1;
+}
+opens_failed faults.Memory name sum old mid new came takes =
+    let last = takes.ends.0 in
+    let is = takes.ends.1 in
+    record {
+      these = these_of name came.size (takes.whole ++ takes.more);
+      answered = answered_then (LengthWas name (Some came.size) ∷ []) (given_in_turn name 0 (takes.whole ++ takes.more)) old mid new came.answered takes.answered;
+      counts = counts_then 0 (length (takes.whole ++ takes.more) + 0) _ old mid new came.counts takes.counts (omega (arith, length_in_turn name 0 (takes.whole ++ takes.more)));
+      ends = IsStarved.at_last takes.whole last (takes.are_whole, (came.size, ap (λ (m : List (List ℕ)). these_of name came.size (takes.whole ++ m)) is))
+          (subst (λ (m : List (List ℕ)). length (concat (takes.whole ++ m)) ≤ MOST_BYTES) is takes.ends.2);
+    }
+
+-- the file was taken whole
+taken_is : (name : Name) (taken : Taken) (mid new : HostState) (size : ℕ) → (takes : Takes (Ok taken) name mid new) → IsTaken name (these_of name size (takes.whole ++ takes.more)) (concat (takes.whole ++ takes.more))
+taken_is name taken mid new size takes = record {
+  size = size;
+  whole = takes.whole;
+  last = takes.ends.0;
+  are_whole = takes.are_whole;
+  ended = takes.ends.2;
+  asked = ap (λ (m : List (List ℕ)). these_of name size (takes.whole ++ m)) takes.ends.1;
+  bytes_are = ap (λ (m : List (List ℕ)). concat (takes.whole ++ m)) takes.ends.1;
+}
+
+pub opens_wrong : (name : Name) (sum : List ℕ) (taken : Taken) (old mid new : HostState) → LengthCame name old mid → Takes (Ok taken) name mid new → taken.sum ≢ sum → Opens (Err (faults.WrongSum taken.sum)) name sum old new
+opens_wrong name sum taken old mid new came takes other = record {
+  these = these_of name came.size (takes.whole ++ takes.more);
+  answered = answered_then (LengthWas name (Some came.size) ∷ []) (given_in_turn name 0 (takes.whole ++ takes.more)) old mid new came.answered takes.answered;
+  counts = counts_then 0 (length (takes.whole ++ takes.more) + 0) _ old mid new came.counts takes.counts (omega (arith, length_in_turn name 0 (takes.whole ++ takes.more)));
+  ends = record {
+    bytes = concat (takes.whole ++ takes.more);
+    taken = taken_is name taken mid new came.size takes;
+    not_large = takes.ends.3.not_large;
+    found_is = takes.ends.3.sum_is;
+    other = other;
+  };
+}
+
+pub opens_ok : (name : Name) (sum : List ℕ) (taken : Taken) (file : FileState) (old mid new : HostState) → LengthCame name old mid → Takes (Ok taken) name mid new → taken.sum ≡ sum → file.name ≡ name → file.size ≡ taken.len → file.hashes ≡ taken.hashes.items
+    → file.kept ≡ [] → Opens (Ok file) name sum old new
+opens_ok name sum taken file old mid new came takes same name_is size_is hashes_are none = record {
+  these = these_of name came.size (takes.whole ++ takes.more);
+  answered = answered_then (LengthWas name (Some came.size) ∷ []) (given_in_turn name 0 (takes.whole ++ takes.more)) old mid new came.answered takes.answered;
+  counts = counts_then 0 (length (takes.whole ++ takes.more) + 0) _ old mid new came.counts takes.counts (omega (arith, length_in_turn name 0 (takes.whole ++ takes.more)));
+  ends = record {
+    bytes = concat (takes.whole ++ takes.more);
+    taken = taken_is name taken mid new came.size takes;
+    not_large = takes.ends.3.not_large;
+    sum_is = sym takes.ends.3.sum_is ∙ same;
+    holds = record {
+      size_is = size_is ∙ takes.ends.3.len_is;
+      hashes_are = hashes_are ∙ takes.ends.3.hashes_are;
+      kept_are = λ c kept is. absurd (Contains-nil (c, kept) (subst (λ (l : Kept). Contains l (c, kept)) none is));
+    };
+    name_is = name_is;
+    none_kept = none;
+  };
+}
+
+-- what was opened is sound
+pub sound_opened : (taken : Taken) (name : Name) (file : FileState) (mid new : HostState) → Takes (Ok taken) name mid new → file.size ≡ taken.len → file.hashes ≡ taken.hashes.items → file.kept ≡ [] → IsSound file
+sound_opened taken name file mid new takes size_is hashes_are none =
+    let summed = takes.ends.3 in
+    let bytes = concat (takes.whole ++ takes.more) in
+    let long : length file.hashes ≡ chunk_count (length bytes) = ap (λ (l : List (List ℕ)). length l) (hashes_are ∙ summed.hashes_are) ∙ length-map-range_with_len (λ c. sha256 (chunk bytes c)) 0 (chunk_count (length bytes)) in
+    record {
+      within = let a = summed.len_is in let b = summed.not_large in omega (arith, size_is, a, b);
+      one_each = long ∙ ap (λ (n : ℕ). chunk_count n) (sym (size_is ∙ summed.len_is));
+      few = let no_one : length file.kept ≡ 0 = ap (λ (l : Kept). length l) none in omega (arith, no_one);
+    }
+
+-- slices that an honest host gave are its file's
+few_in_turn : (files : Files) (name : Name) (at : ℕ) (slices : List (List ℕ)) → AllByRecursion (IsAnswerOf files) (given_in_turn name at slices) → at ≤ length (contents (files name)) → at + length (concat slices) ≤ length (contents (files name))
+few_in_turn files name at [] all le = omega (arith, le)
+few_in_turn files name at (slice ∷ slices) all le =
+    let bytes = contents (files name) in
+    let short : length slice ≤ length bytes - at = omega (arith, ap (λ (l : List ℕ). length l) all.0, length-take CHUNK (drop at bytes), length-drop at bytes) in
+    let on = few_in_turn files name (at + length slice) slices all.1 (omega (arith, le, short)) in
+    omega (arith, on, length-append slice (concat slices))
+
+ended_at : (last bytes : List ℕ) → last ≡ take CHUNK bytes → length last < CHUNK → last ++ [] ≡ bytes
+ended_at last bytes is short = append-nil last ∙ is ∙ take_all CHUNK bytes (omega (arith, short, ap (λ (l : List ℕ). length l) is, length-take CHUNK bytes))
+
+all_in_turn : (files : Files) (name : Name) (at : ℕ) (whole : List (List ℕ)) (last : List ℕ) → AreWhole whole → length last < CHUNK → AllByRecursion (IsAnswerOf files) (given_in_turn name at (whole ++ last ∷ []))
+    → concat (whole ++ last ∷ []) ≡ drop at (contents (files name))
+all_in_turn files name at [] last are short all = ended_at last (drop at (contents (files name))) all.0 short
+all_in_turn files name at (slice ∷ whole) last are short all =
+    let bytes = contents (files name) in
+    let place : drop (at + length slice) bytes ≡ drop CHUNK (drop at bytes) = ap (λ (k : ℕ). drop (at + k) bytes) are.0 ∙ ap (λ (k : ℕ). drop k bytes) (omega arith) ∙ sym (drop-drop CHUNK at bytes) in
+    ap (λ (l : List ℕ). slice ++ l) (all_in_turn files name (at + length slice) whole last are.1 short all.1 ∙ place) ∙ ap (λ (l : List ℕ). l ++ drop CHUNK (drop at bytes)) all.0 ∙ take-append-drop CHUNK (drop at bytes)
+
+-- a file that was said to be there is
+there : (o : Option (List ℕ)) (size : ℕ) → Some size ≡ length_of o → o ≡ Some (contents o)
+there (Some bytes) size is = refl
+there None size is = absurd (cc)
+
+not_there : (o : Option (List ℕ)) → None ≡ length_of o → o ≡ None
+not_there (Some bytes) is = absurd (cc)
+not_there None is = refl
+
+-- over an honest host the bytes taken are those of its file
+taken_all : (files : Files) (name : Name) (these : List Answer) (bytes : List ℕ) → IsTaken name these bytes → AllByRecursion (IsAnswerOf files) these → (files name ≡ Some bytes)
+taken_all files name these bytes taken all =
+    let given = subst (λ (l : List Answer). AllByRecursion (IsAnswerOf files) l) taken.asked all in
+    there (files name) taken.size given.0 ∙ ap (λ (b : List ℕ). Some b) (sym (taken.bytes_are ∙ all_in_turn files name 0 taken.whole taken.last taken.are_whole taken.ended given.1))
+
+opens_file : (r : Result FileState TrustFault) (name : Name) (sum : List ℕ) (these : List Answer) (files : Files) → OpenEnds r name sum these → AllByRecursion (IsAnswerOf files) these → OpensFile r sum (files name)
+opens_file (Ok file) name sum these files opened all = rw (taken_all files name these opened.bytes opened.taken all) (opened.holds, opened.sum_is, opened.not_large)
+opens_file (Err faults.NotFound) name sum these files is all = not_there (files name) (subst (λ (l : List Answer). AllByRecursion (IsAnswerOf files) l) is all).0
+opens_file (Err faults.TooLarge) name sum these files large all =
+    let given = subst (λ (l : List Answer). AllByRecursion (IsAnswerOf files) l) large.came.1.1 all in
+    let few = few_in_turn files name 0 (large.whole ++ large.last ∷ []) given.1 (omega arith) in
+    let is = there (files name) large.came.1.0 given.0 in
+    rw is (omega (arith, few, large.too_large))
+opens_file (Err (faults.WrongSum found)) name sum these files wrong all = rw (taken_all files name these wrong.bytes wrong.taken all) (wrong.found_is, wrong.other, wrong.not_large)
+opens_file (Err faults.Host) name sum these files stopped all = tt
+opens_file (Err faults.Memory) name sum these files starved all = tt
+
+pub honest_open : (r : Result FileState TrustFault) (name : Name) (sum : List ℕ) (old new : HostState) → Opens r name sum old new → HonestOpen r name sum old
+honest_open r name sum old new opens = IfSome_then (files_of old) opens.answered.honest (λ files all. opens_file r name sum opens.these files opens.ends all)
