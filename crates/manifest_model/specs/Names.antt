@@ -1,6 +1,6 @@
 -- Names of files, and the lexical normal form of a name.
 use Rattle.std.specs.Prelude.{◌≡◌, ◌≢◌, ℕ, Bool, true, false, not, ◌&&◌, ◌==◌, nat_eq, nat_le, if◌then◌else◌, All, List, [], ◌∷◌, ◌++◌, reverse, length, drop, fold, codes, bytes_eq, Option, Some, None}
-use Rattle.std.specs.List.{starts_with, list_all, slice_split, join_with_byte}
+use Rattle.std.specs.List.{starts_with, ends_with, list_all, slice_split, join_with_byte}
 use Rattle.pf_io.specs.Names.{SLASH, LONGEST}
 
 -- what stands between the slashes
@@ -36,6 +36,11 @@ kept_of absolute ps = reverse (fold (go absolute) [] ps)
 -- the parts of a name's normal form: none for the root, and for the folder that the name is relative to
 unfoldable pub normal_parts : List ℕ → List (List ℕ)
 normal_parts name = kept_of (is_absolute name) (parts name)
+
+-- parts, each behind a slash
+abbrev pub behind : List (List ℕ) → List ℕ
+behind [] = []
+behind (p ∷ ps) = SLASH ∷ (p ++ behind ps)
 
 -- parts as a name, absolute or not
 abbrev pub name_of : Bool → List (List ℕ) → List ℕ
@@ -78,6 +83,4 @@ unfoldable pub is_name : List ℕ → Bool
 is_name name = (nat_le 1 (length name) && nat_le (length name) LONGEST) && list_all (λ byte. not (byte == 0)) name
 
 abbrev pub ends_in_slash : List ℕ → Bool
-ends_in_slash [] = false
-ends_in_slash (byte ∷ []) = byte == SLASH
-ends_in_slash (byte ∷ next ∷ bytes) = ends_in_slash (next ∷ bytes)
+ends_in_slash name = ends_with nat_eq name (SLASH ∷ [])

@@ -1,6 +1,7 @@
 // Names of files, and their lexical normal form.
-ghost use Rattle.std.specs.Prelude.{◌≡◌, List, ℕ, map, IfOk, OnOk, option_map, reverse, string_bytes};
-ghost use Rattle.manifest_model.specs.Names.{normal, normal_parts, is_absolute, is_here, go, name_of, file_name, is_name, ends_in_slash};
+ghost use Rattle.std.specs.Prelude.{◌≡◌, if◌then◌else◌, [], ◌∷◌, ◌++◌, List, ℕ, map, IfOk, OnOk, option_map, reverse, string_bytes};
+ghost use Rattle.pf_io.specs.Names.{SLASH};
+ghost use Rattle.manifest_model.specs.Names.{normal, normal_parts, is_absolute, is_here, ABOVE, go_above, go, behind, name_of, file_name, is_name, ends_in_slash};
 
 use pf_io::{Memory, Text, is_name};
 use std::alloc::Global;
@@ -19,6 +20,22 @@ fn is_here(part: &str) -> bool
     part.is_empty() || part == "."
 }
 
+// A part `..` behind those that are kept.
+fn go_above<'a>(kept: &mut Vec<&'a str>, absolute: bool, part: &'a str) -> Result<(), Memory>
+    requires { part.now ≡ ABOVE }
+    ensures { OnOk result (reverse (map (λ p. p.now) kept.new.items) ≡ go_above absolute (reverse (map (λ p. p.now) kept.old.items))) }
+{
+    match kept.last().copied() {
+        None if absolute => Ok(()),
+        Some(last) if last != ".." => {
+            kept.pop();
+            Ok(())
+        }
+        None => Ok(kept.push(part)?),
+        Some(_) => Ok(kept.push(part)?),
+    }
+}
+
 // One more part behind those that are kept.
 fn go<'a>(kept: &mut Vec<&'a str>, absolute: bool, part: &'a str) -> Result<(), Memory>
     ensures { OnOk result (reverse (map (λ p. p.now) kept.new.items) ≡ go absolute (reverse (map (λ p. p.now) kept.old.items)) part.now) }
@@ -27,14 +44,7 @@ fn go<'a>(kept: &mut Vec<&'a str>, absolute: bool, part: &'a str) -> Result<(), 
         return Ok(());
     }
     if part == ".." {
-        match kept.last().copied() {
-            None if absolute => return Ok(()),
-            Some(last) if last != ".." => {
-                kept.pop();
-                return Ok(());
-            }
-            _ => {}
-        }
+        return go_above(kept, absolute, part);
     }
     kept.push(part)?;
     Ok(())
@@ -45,28 +55,52 @@ fn normal_parts<'a>(alloc: Global, absolute: bool, name: &'a str) -> Result<Vec<
     requires { absolute ≡ is_absolute name.now }
     ensures { IfOk result (λ kept. map (λ p. p.now) kept.items ≡ normal_parts name.now) }
 {
+    let parts: Vec<&str> = name.split('/').collect(alloc)?;
     let mut kept = Vec::new(alloc);
-    for part in name.split('/') {
+    for part in &parts {
         go(&mut kept, absolute, part)?;
     }
     Ok(kept)
+}
+
+// What stands before the first part.
+fn lead(absolute: bool) -> &'static str
+    ensures { result.now ≡ (if absolute then SLASH ∷ [] else []) }
+{
+    if absolute { "/" } else { "" }
+}
+
+// A name of no parts.
+fn no_parts(absolute: bool) -> &'static str
+    ensures { result.now ≡ name_of absolute [] }
+{
+    if absolute { "/" } else { "." }
+}
+
+// Writes parts to the end of a name, each behind a slash.
+fn push_behind(name: &mut String, parts: &[&str]) -> Result<(), Memory>
+    ensures { OnOk result (string_bytes name.new ≡ string_bytes name.old ++ behind (map (λ p. p.now) parts.now)) }
+{
+    for part in parts {
+        name.push_str("/")?;
+        name.push_str(part)?;
+    }
+    Ok(())
 }
 
 // Parts as a name.
 fn joined(alloc: Global, absolute: bool, parts: &[&str]) -> Result<String, Memory>
     ensures { IfOk result (λ name. string_bytes name ≡ name_of absolute (map (λ p. p.now) parts.now)) }
 {
-    if parts.is_empty() {
-        return Ok(String::from_str(alloc, if absolute { "/" } else { "." })?);
-    }
-    let mut name = String::new(alloc);
-    for (i, part) in parts.iter().enumerate() {
-        if absolute || i > 0 {
-            name.push_str("/")?;
+    match parts {
+        [] => Ok(String::from_str(alloc, no_parts(absolute))?),
+        [first, others @ ..] => {
+            let mut name = String::from_str(alloc, lead(absolute))?;
+            name.push_str(first)?;
+            push_behind(&mut name, others)?;
+            Ok(name)
         }
-        name.push_str(part)?;
     }
-    Ok(name)
 }
 
 /// The lexical normal form of a name: split at `/`, without empty parts and `.`, each `..` taken together with the part
@@ -85,14 +119,18 @@ pub fn normal_name(alloc: Global, name: &str) -> Result<Text, Memory>
 pub(crate) fn file_name(uri: &str) -> Option<&str>
     ensures { option_map (λ name. name.now) result ≡ file_name uri.now }
 {
-    uri.strip_prefix("file:")
+    if uri.as_bytes().starts_with(b"file:") {
+        Some(&uri[5..])
+    } else {
+        None
+    }
 }
 
 /// Whether the text ends in a slash.
 pub(crate) fn ends_in_slash(name: &str) -> bool
     ensures { result ≡ ends_in_slash name.now }
 {
-    matches!(name.as_bytes(), [.., b'/'])
+    name.as_bytes().ends_with(b"/")
 }
 
 /// Whether the text names a file of a host.

@@ -130,7 +130,7 @@ fn trusted_items(
     let mut entries = Vec::new(alloc);
     let mut index = Index::new(alloc);
     for (k, item) in items.iter().enumerate() {
-        let item = trusted_item(alloc, &Place::Item(place, k), item)?;
+        let item = trusted_item(alloc, &Place::Item(&*place, k), item)?;
         add(alloc, &mut entries, &mut index, item)?;
     }
     Ok(entries)
