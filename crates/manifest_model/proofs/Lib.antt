@@ -1,1 +1,5 @@
 pub mod Naming
+pub mod Checking
+pub mod Indexed
+pub mod Entered
+pub mod Steps

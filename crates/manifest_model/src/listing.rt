@@ -21,10 +21,11 @@ use toml::Table;
 use toml::value::{Array, Value};
 
 // The policy of the table `sgx`.
+#[tactic(auto, unfolding(crate::specs::Listed::policy_refusal, crate::specs::Listed::policy_of))]
 fn policy_of(alloc: Global, sgx: &Table) -> Result<Policy, ManifestFault>
     ensures { Checks (policy_refusal (table_view sgx.now)) (λ policy. policy ≡ policy_of (table_view sgx.now)) result }
 {
-    let place = Place::Key(&Place::Top("sgx"), "file_check_policy");
+    let place = Place::Path("sgx.file_check_policy");
     let text = wanted_text(alloc, &place, member(sgx, "file_check_policy"))?;
     match text.unwrap_or("strict") {
         "strict" => Ok(Policy::Strict),
@@ -37,6 +38,7 @@ fn policy_of(alloc: Global, sgx: &Table) -> Result<Policy, ManifestFault>
 }
 
 // The normal uri of an item of the allowed files.
+#[tactic(auto, unfolding(crate::specs::Listed::allowed_item_refusal, crate::specs::Listed::allowed_uri))]
 fn allowed_item(alloc: Global, place: &Place<'_>, item: &Value) -> Result<Text, ManifestFault>
     ensures { Checks (allowed_item_refusal (place_text place.now) (view item.now)) (λ uri. uri ≡ allowed_uri (view item.now)) result }
 {
@@ -60,10 +62,11 @@ fn allowed_items(
 }
 
 // The allowed files of the table `sgx`.
+#[tactic(auto, unfolding(crate::specs::Listed::allowed_refusal, crate::specs::Listed::allowed_of))]
 fn allowed_of(alloc: Global, sgx: &Table) -> Result<Vec<Text>, ManifestFault>
     ensures { Checks (allowed_refusal (table_view sgx.now)) (λ uris. uris.items ≡ allowed_of (table_view sgx.now)) result }
 {
-    let place = Place::Key(&Place::Top("sgx"), "allowed_files");
+    let place = Place::Path("sgx.allowed_files");
     match wanted_list(alloc, &place, member(sgx, "allowed_files"))? {
         Some(items) => allowed_items(alloc, &place, items),
         None => Ok(Vec::new(alloc)),
@@ -85,11 +88,12 @@ fn check_key(alloc: Global, place: &Place<'_>, name: &str, value: &Value) -> Res
 }
 
 // Checks the keys of the table `fs`.
+#[tactic(auto, unfolding(crate::specs::Listed::keying_refusal))]
 fn check_keys(alloc: Global, fs: &Table, absent: &Table) -> Result<(), ManifestFault>
     requires { table_view absent.now ≡ no_members }
     ensures { Checks (keying_refusal (table_view fs.now)) (λ _. ⊤) result }
 {
-    let place = Place::Key(&Place::Top("fs"), "insecure__keys");
+    let place = Place::Path("fs.insecure__keys");
     let keys = wanted_table(alloc, &place, member(fs, "insecure__keys"), absent)?;
     for (name, value) in keys.iter() {
         let name = name.as_str();
@@ -108,13 +112,14 @@ pub(crate) struct Taken {
 }
 
 /// Takes from a table what it lists.
+#[tactic(auto, unfolding(crate::specs::Listed::refusal))]
 pub(crate) fn take(alloc: Global, table: &Table) -> Result<Taken, ManifestFault>
     ensures { Checks (refusal (table_view table.now)) (λ taken. IsTaken (table_view table.now) taken) result }
 {
     walk_table(alloc, table)?;
     let absent = Table::new(alloc);
-    let sgx = wanted_table(alloc, &Place::Top("sgx"), member(table, "sgx"), &absent)?;
-    let fs = wanted_table(alloc, &Place::Top("fs"), member(table, "fs"), &absent)?;
+    let sgx = wanted_table(alloc, &Place::Path("sgx"), member(table, "sgx"), &absent)?;
+    let fs = wanted_table(alloc, &Place::Path("fs"), member(table, "fs"), &absent)?;
     let policy = policy_of(alloc, sgx)?;
     let trusted = trusted_of(alloc, sgx)?;
     let allowed = allowed_of(alloc, sgx)?;

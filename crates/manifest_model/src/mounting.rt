@@ -61,6 +61,7 @@ fn uri_of<'v>(
 }
 
 // An item of the list of mounts.
+#[tactic(auto, unfolding(crate::specs::Mounting::mount_refusal, crate::specs::Mounting::mount_of))]
 fn mount_item(alloc: Global, place: &Place<'_>, item: &Value) -> Result<Mount, ManifestFault>
     ensures { Checks (mount_refusal (place_text place.now) (view item.now)) (λ mount. mount ≡ mount_of (view item.now)) result }
 {
@@ -85,13 +86,13 @@ fn mount_item(alloc: Global, place: &Place<'_>, item: &Value) -> Result<Mount, M
 }
 
 // The mount of the root.
+#[tactic(auto, unfolding(crate::specs::Mounting::root_refusal, crate::specs::Mounting::root_of))]
 fn root_of(alloc: Global, root: &Table) -> Result<Mount, ManifestFault>
     ensures { Checks (root_refusal (table_view root.now)) (λ mount. mount ≡ root_of (table_view root.now)) result }
 {
-    let place = Place::Key(&Place::Top("fs"), "root");
-    let kind = wanted_text(alloc, &Place::Key(&place, "type"), member(root, "type"))?;
+    let kind = wanted_text(alloc, &Place::Path("fs.root.type"), member(root, "type"))?;
     let kind = kind_of(kind.unwrap_or("chroot"));
-    let uri = wanted_text(alloc, &Place::Key(&place, "uri"), member(root, "uri"))?;
+    let uri = wanted_text(alloc, &Place::Path("fs.root.uri"), member(root, "uri"))?;
     let name = source(alloc, kind, uri.unwrap_or("file:."))?;
     Ok(Mount {
         kind,
@@ -119,6 +120,7 @@ fn mount_items(
 }
 
 /// The mounts of the table `fs`: the root, and then those of the list. `absent` has no members.
+#[tactic(auto, unfolding(crate::specs::Listed::mounting_refusal, crate::specs::Listed::mounting_of))]
 pub(crate) fn mounts_of(
     alloc: Global,
     fs: &Table,
@@ -127,11 +129,9 @@ pub(crate) fn mounts_of(
     requires { table_view absent.now ≡ no_members }
     ensures { Checks (mounting_refusal (table_view fs.now)) (λ mounts. mounts.items ≡ mounting_of (table_view fs.now)) result }
 {
-    let top = Place::Top("fs");
-    let root_place = Place::Key(&top, "root");
-    let root = wanted_table(alloc, &root_place, member(fs, "root"), absent)?;
+    let root = wanted_table(alloc, &Place::Path("fs.root"), member(fs, "root"), absent)?;
     let root = root_of(alloc, root)?;
-    let place = Place::Key(&top, "mounts");
+    let place = Place::Path("fs.mounts");
     match wanted_list(alloc, &place, member(fs, "mounts"))? {
         Some(items) => mount_items(alloc, &place, root, items),
         None => {
