@@ -22,3 +22,11 @@ pub refuses : {A : Type 0} (P : A → Type 0) (whole : Option ManifestFault) (r 
 refuses P whole r fault is refused =
     let p = err_from_is_err_and r is in
     subst (λ x. MatchResult x P (Stops whole)) (sym p.1) (subst (Stops whole) (sym p.2) (inr refused))
+
+or_none : (o : Option ManifestFault) → option_or o None ≡ o
+or_none None = refl
+or_none (Some f) = refl
+
+-- the form of a field, and then its items
+pub form_and_items : {A : Type 0} (P : A → Type 0) (form items : Option ManifestFault) (r : Result A ManifestFault) → form ≡ None → Checks items P r → Checks (option_or form (option_or items None)) P r
+form_and_items P form items r none checked = subst (λ w. Checks w P r) (sym (rw none (or_none items))) checked

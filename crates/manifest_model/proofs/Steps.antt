@@ -8,12 +8,20 @@ use Rattle.toml.specs.declared.value.Value.{Value}
 use Rattle.toml.proofs.Views.{items_view-drop}
 use Rattle.manifest_model.specs.declared.entries.Trusted.{Trusted}
 use Rattle.manifest_model.specs.declared.entries.Mount.{Mount}
-use Rattle.manifest_model.specs.declared.places.Place.{Place, Item, the_lemmas}
+use Rattle.manifest_model.specs.declared.places.Place.{Place, Path, Key, Item, the_lemmas}
 use Rattle.manifest_model.specs.declared.fault.ManifestFault.{ManifestFault}
-use Rattle.manifest_model.specs.Places.{place_text, at_item}
-use Rattle.manifest_model.specs.Trusting.{item_of, items_of, items_refusal, item_refusal}
+use Rattle.manifest_model.specs.Places.{place_text, at_key, at_item}
+use Rattle.manifest_model.specs.Trusting.{item_of, items_of, items_refusal, item_refusal, own_refusal, sum_in, two_sums, entries_of}
+use Rattle.manifest_model.specs.Indexing.{clash, entry_sum}
+use Rattle.manifest_model.proofs.Entered.{entry_sum-entries}
 use Rattle.manifest_model.specs.Mounting.{mount_of, mounts_of, mounts_refusal, mount_refusal}
 use Rattle.manifest_model.specs.Listed.{allowed_uri, allowed_uris, allowed_items_refusal, allowed_item_refusal}
+
+pub place_text-Path : (keys : Bor (List ℕ)) → place_text (Path keys) ≡ keys.now
+place_text-Path keys = search (rules, the_lemmas)
+
+pub place_text-Key : (outer : Bor Place) (key : Bor (List ℕ)) → place_text (Key outer key) ≡ at_key (place_text outer.now) key.now
+place_text-Key outer key = search (rules, the_lemmas)
 
 pub place_text-Item : (outer : Bor Place) (k : ℕ) → place_text (Item outer k) ≡ at_item (place_text outer.now) k
 place_text-Item outer k = search (rules, the_lemmas)
@@ -57,3 +65,24 @@ items_more vs k v l is = ap (λ ws. items_of (items_view ws)) (taken_at vs k v l
 pub items_next : (before : List Trusted) (place : List ℕ) (vs : List Value) (k : ℕ) (v : Value) → k < length vs → v ≡ get_or vs k v
     → items_refusal before place k (items_view (drop k vs)) ≡ option_or (item_refusal before (at_item place k) (view v)) (items_refusal (before ++ item_of (view v) ∷ []) place (k + 1) (items_view (drop (k + 1) vs)))
 items_next before place vs k v l is = ap (items_refusal before place k) (items_at vs k v l is)
+
+-- the item at a place is refused by itself
+pub own_refused : (before : List Trusted) (place : List ℕ) (vs : List Value) (k : ℕ) (v : Value) (fault : ManifestFault) → k < length vs → v ≡ get_or vs k v → own_refusal (at_item place k) (view v) ≡ Some fault
+    → items_refusal before place k (items_view (drop k vs)) ≡ Some fault
+own_refused before place vs k v fault l is refused = items_next before place vs k v l is ∙ rw refused refl
+
+-- it has another sum than an item before it
+pub sum_refused : (before : List Trusted) (place : List ℕ) (vs : List Value) (k : ℕ) (v : Value) (t : Trusted) (es : List Trusted) (fault : ManifestFault) → k < length vs → v ≡ get_or vs k v → own_refusal (at_item place k) (view v) ≡ None
+    → t ≡ item_of (view v) → es ≡ entries_of before → clash (entry_sum t.name es) t ≡ Some fault → items_refusal before place k (items_view (drop k vs)) ≡ Some fault
+sum_refused before place vs k v t es fault l is none read entries refused =
+    let sums : entry_sum (item_of (view v)).name es ≡ sum_in (item_of (view v)).name before = ap (entry_sum (item_of (view v)).name) entries ∙ entry_sum-entries (item_of (view v)).name before in
+    let two : two_sums before (item_of (view v)) ≡ Some fault = sym (ap (λ s. clash s (item_of (view v))) sums) ∙ (rw read at refused) in
+    items_next before place vs k v l is ∙ rw (none, two) refl
+
+-- it is an entry, or joins one
+pub items_step : (before : List Trusted) (place : List ℕ) (vs : List Value) (k : ℕ) (v : Value) (t : Trusted) (es : List Trusted) → k < length vs → v ≡ get_or vs k v → own_refusal (at_item place k) (view v) ≡ None
+    → t ≡ item_of (view v) → es ≡ entries_of before → clash (entry_sum t.name es) t ≡ None → items_refusal before place k (items_view (drop k vs)) ≡ items_refusal (before ++ item_of (view v) ∷ []) place (k + 1) (items_view (drop (k + 1) vs))
+items_step before place vs k v t es l is none read entries one =
+    let sums : entry_sum (item_of (view v)).name es ≡ sum_in (item_of (view v)).name before = ap (entry_sum (item_of (view v)).name) entries ∙ entry_sum-entries (item_of (view v)).name before in
+    let two : two_sums before (item_of (view v)) ≡ None = sym (ap (λ s. clash s (item_of (view v))) sums) ∙ (rw read at one) in
+    items_next before place vs k v l is ∙ rw (none, two) refl

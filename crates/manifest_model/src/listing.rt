@@ -1,15 +1,14 @@
 // All that a table lists.
-ghost use Rattle.std.specs.Prelude.{◌≡◌, [], codes, option_map, map, ⊤};
-ghost use Rattle.toml.specs.Data.{as_str, get_member, no_members};
+ghost use Rattle.std.specs.Prelude.{◌≡◌, ◌⊎◌, MatchResult, ⊤};
+ghost use Rattle.toml.specs.Data.{no_members};
 ghost use Rattle.toml.specs.View.{view, array_view, table_view};
 ghost use Rattle.manifest_model.specs.Places.{place_text, Checks};
-ghost use Rattle.manifest_model.specs.Listed.{section, known_policy, policy_named, policy_refusal, policy_of, allowed_item_refusal, allowed_uri, allowed_items_refusal, allowed_uris, allowed_refusal, allowed_of, key_refusal, keys_refusal, keying_refusal, refusal};
-ghost use Rattle.manifest_model.specs.Fields.{or_else};
-ghost use Rattle.manifest_model.specs.Reading.{IsTaken};
+ghost use Rattle.manifest_model.specs.Listed.{policy_refusal, policy_of, allowed_item_refusal, allowed_uri, allowed_items_refusal, allowed_uris, allowed_refusal, allowed_of, key_refusal, keys_refusal, keying_refusal, refusal, IsTextOf, IsNoText};
+ghost use Rattle.manifest_model.specs.Reading.{IsTaken, key_at};
 
 use crate::entries::{Mount, Policy, Trusted};
 use crate::fault::ManifestFault;
-use crate::fields::{bytes_of, member, text_in, wanted_list, wanted_table, wanted_text};
+use crate::fields::{bytes_of, member, text_in, text_or, wanted_list, wanted_table};
 use crate::mounting::mounts_of;
 use crate::names::normal_name;
 use crate::places::Place;
@@ -26,8 +25,8 @@ fn policy_of(alloc: Global, sgx: &Table) -> Result<Policy, ManifestFault>
     ensures { Checks (policy_refusal (table_view sgx.now)) (λ policy. policy ≡ policy_of (table_view sgx.now)) result }
 {
     let place = Place::Path("sgx.file_check_policy");
-    let text = wanted_text(alloc, &place, member(sgx, "file_check_policy"))?;
-    match text.unwrap_or("strict") {
+    let text = text_or(alloc, &place, member(sgx, "file_check_policy"), "strict")?;
+    match text {
         "strict" => Ok(Policy::Strict),
         "allow_all_but_log" => Ok(Policy::AllowAllButLog),
         text => {
@@ -87,6 +86,17 @@ fn check_key(alloc: Global, place: &Place<'_>, name: &str, value: &Value) -> Res
     }
 }
 
+// Checks each key of a table of keys.
+fn check_each(alloc: Global, place: &Place<'_>, keys: &Table) -> Result<(), ManifestFault>
+    ensures { Checks (keys_refusal (place_text place.now) (table_view keys.now)) (λ _. ⊤) result }
+{
+    for (name, value) in keys.iter() {
+        let name = name.as_str();
+        check_key(alloc, &Place::Key(place, name), name, value)?;
+    }
+    Ok(())
+}
+
 // Checks the keys of the table `fs`.
 #[tactic(auto, unfolding(crate::specs::Listed::keying_refusal))]
 fn check_keys(alloc: Global, fs: &Table, absent: &Table) -> Result<(), ManifestFault>
@@ -95,11 +105,7 @@ fn check_keys(alloc: Global, fs: &Table, absent: &Table) -> Result<(), ManifestF
 {
     let place = Place::Path("fs.insecure__keys");
     let keys = wanted_table(alloc, &place, member(fs, "insecure__keys"), absent)?;
-    for (name, value) in keys.iter() {
-        let name = name.as_str();
-        check_key(alloc, &Place::Key(&place, name), name, value)?;
-    }
-    Ok(())
+    check_each(alloc, &place, keys)
 }
 
 /// What is taken from a table; keys are looked up in the table itself.
@@ -131,4 +137,24 @@ pub(crate) fn take(alloc: Global, table: &Table) -> Result<Taken, ManifestFault>
         allowed,
         mounts,
     })
+}
+
+/// The table of a TOML text in UTF-8.
+pub(crate) fn table_of(alloc: Global, bytes: &[u8]) -> Result<Table, ManifestFault>
+    ensures { MatchResult result (λ made. IsTextOf bytes.now (table_view made)) (λ fault. (fault ≡ ManifestFault.Memory) ⊎ (IsNoText bytes.now × (fault ≡ ManifestFault.NotToml))) }
+{
+    match toml::table_from_slice(alloc, bytes) {
+        Ok(table) => Ok(table),
+        Err(e) if e.is_memory() => Err(ManifestFault::Memory),
+        Err(_) => Err(ManifestFault::NotToml),
+    }
+}
+
+/// The key of a name in a table.
+pub(crate) fn key_in(table: &Table, name: &str) -> Option<[u8; 16]>
+    ensures { result ≡ key_at name.now (table_view table.now) }
+{
+    let keys = member(table, "fs")?.get("insecure__keys")?;
+    let digits = keys.get(name)?.as_str()?;
+    bytes_of::<16>(digits)
 }

@@ -3,13 +3,13 @@ ghost use Rattle.std.specs.Prelude.{◌≡◌, ◌<◌, ◌⊎◌, ℕ, List, Re
 
 use crate::entries::{Mount, Policy, Trusted};
 use crate::fault::ManifestFault;
-use crate::fields::{bytes_of, member};
-use crate::listing::{Taken, take};
+use crate::listing::{Taken, key_in, table_of, take};
 use crate::summing::with_trusted;
 use pf_io::{Memory, Text};
 use std::alloc::Global;
 use std::marker::Model;
 use toml::Table;
+use toml::ser::Error as PrintError;
 
 /// A manifest, which contracts see as its table and what is listed of it.
 #[derive(Drop)]
@@ -69,18 +69,21 @@ impl Manifest {
         }
     }
 
+    // The manifest of bytes.
+    fn read_whole(alloc: Global, bytes: &[u8]) -> Result<Manifest, ManifestFault>
+        ensures { (result ≡ Err ManifestFault.Memory) ⊎ ReadsAs bytes.now result }
+    {
+        let table = table_of(alloc, bytes)?;
+        let taken = take(alloc, &table)?;
+        Ok(Manifest::of(table, taken))
+    }
+
     /// Reads a manifest: a TOML text in UTF-8. The first refusal in the order of the profile decides.
     pub fn read(alloc: Global, bytes: &[u8]) -> Result<Manifest, ManifestFault>
         ensures outcome { (result ≡ Err ManifestFault.Memory) ⊎ ReadsAs bytes.now result }
         ensures no_other { (outcome : Result Seen Fault) → ReadsAs bytes.now outcome → (result ≡ Err ManifestFault.Memory) ⊎ (result ≡ outcome) }
     {
-        let table = match toml::table_from_slice(alloc, bytes) {
-            Ok(table) => table,
-            Err(e) if e.is_memory() => return Err(ManifestFault::Memory),
-            Err(_) => return Err(ManifestFault::NotToml),
-        };
-        let taken = take(alloc, &table)?;
-        Ok(Manifest::of(table, taken))
+        Manifest::read_whole(alloc, bytes)
     }
 
     /// What is done with a file that is in neither list.
@@ -141,8 +144,7 @@ impl Manifest {
     pub fn key(&self, name: &str) -> Option<[u8; 16]>
         ensures { result ≡ lookup (bytes_eq name.now) self.now.lists.keys }
     {
-        let keys = member(&self.table, "fs")?.get("insecure__keys")?;
-        bytes_of::<16>(keys.get(name)?.as_str()?)
+        key_in(&self.table, name)
     }
 
     /// The manifest with all sums, one for each trusted file in their order; a listed one stays.
@@ -163,7 +165,8 @@ impl Manifest {
     {
         match toml::table_to_string(alloc, &self.table) {
             Ok(text) => Ok(Text::from(text)),
-            Err(_) => Err(Memory),
+            Err(PrintError::OutOfMemory) => Err(Memory),
+            Err(PrintError::DateInvalid) => unreachable!(),
         }
     }
 }

@@ -28,8 +28,8 @@ fn summed_items(alloc: Global, entries: &[Trusted], sums: &[[u8; 32]]) -> Result
     ensures { IfOk result (λ items. array_view items ≡ summed_items entries.now sums.now) }
 {
     let mut items = Array::new(alloc);
-    for (entry, sum) in entries.iter().zip(sums) {
-        items.push(summed_item(alloc, entry.uri.as_str(), sum)?)?;
+    for (k, entry) in entries.iter().enumerate() {
+        items.push(summed_item(alloc, entry.uri.as_str(), &sums[k])?)?;
     }
     Ok(items)
 }

@@ -141,7 +141,7 @@ fn trusted_items(
 }
 
 /// The trusted files of the table `sgx`.
-#[tactic(auto, unfolding(crate::specs::Listed::trusted_refusal, crate::specs::Listed::trusted_of, crate::specs::Trusting::entries_of))]
+#[tactic(auto, unfolding(crate::specs::Listed::trusted_refusal, crate::specs::Listed::trusted_of))]
 pub(crate) fn trusted_of(alloc: Global, sgx: &Table) -> Result<Vec<Trusted>, ManifestFault>
     ensures { Checks (trusted_refusal (table_view sgx.now)) (λ entries. entries.items ≡ trusted_of (table_view sgx.now)) result }
 {

@@ -13,5 +13,5 @@ loop-k-preserved c =
     let none : mount_refusal (at_item (place_text c.args.place.now) k) (view v) ≡ None = rw place_text-Item at c.in_ok-mount_item.ensures.0 in
     record {
       refused = c.loop-k.invariant.refused ∙ mounts_next (place_text c.args.place.now) vs k v c.loop-k-test.true c.item-item.is none;
-      mounts = c.in_ok-push.ensures.items ∙ rw (c.loop-k.invariant.mounts, c.in_ok-mount_item.ensures.1) (ap (λ ms. c.args.root ∷ ms) (sym (mounts_more vs k v c.loop-k-test.true c.item-item.is)));
+      mounts = c.in_ok-push-2.ensures.items ∙ rw (c.loop-k.invariant.mounts, c.in_ok-mount_item.ensures.1) (ap (λ ms. c.args.root ∷ ms) (sym (mounts_more vs k v c.loop-k-test.true c.item-item.is)));
     }
