@@ -3,3 +3,4 @@ pub mod Checking
 pub mod Indexed
 pub mod Entered
 pub mod Steps
+pub mod Normal

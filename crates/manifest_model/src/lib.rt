@@ -4,6 +4,7 @@
 mod entries;
 mod fault;
 mod fields;
+mod laws;
 mod listing;
 mod manifest;
 mod mounting;

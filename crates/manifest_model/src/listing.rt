@@ -87,7 +87,11 @@ fn check_key(alloc: Global, place: &Place<'_>, name: &str, value: &Value) -> Res
 }
 
 // Checks each key of a table of keys.
-fn check_each(alloc: Global, place: &Place<'_>, keys: &Table) -> Result<(), ManifestFault>
+fn check_each<'a>(
+    alloc: Global,
+    place: &'a Place<'a>,
+    keys: &'a Table,
+) -> Result<(), ManifestFault>
     ensures { Checks (keys_refusal (place_text place.now) (table_view keys.now)) (λ _. ⊤) result }
 {
     for (name, value) in keys.iter() {
