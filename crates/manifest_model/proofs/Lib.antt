@@ -4,3 +4,4 @@ pub mod Indexed
 pub mod Entered
 pub mod Steps
 pub mod Normal
+pub mod Accepted
