@@ -5,3 +5,5 @@ pub mod Entered
 pub mod Steps
 pub mod Normal
 pub mod Accepted
+pub mod Deciding
+pub mod SumLists

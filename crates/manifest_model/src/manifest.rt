@@ -4,7 +4,7 @@ ghost use Rattle.std.specs.Prelude.{◌≡◌, ◌<◌, ◌⊎◌, ℕ, List, Re
 use crate::entries::{Mount, Policy, Trusted};
 use crate::fault::ManifestFault;
 use crate::listing::{Taken, key_in, table_of, take};
-use crate::summing::with_trusted;
+use crate::summing::with_sums_of;
 use pf_io::{Memory, Text};
 use std::alloc::Global;
 use std::marker::Model;
@@ -44,7 +44,7 @@ impl Manifest {
     ghost use Rattle.manifest_model.specs.Listed.{Seen, ReadsAs, IsTextOf, refusal, lists_of};
     ghost use Rattle.manifest_model.specs.Reading.{IsTaken};
     ghost use Rattle.toml.specs.View.{table_view};
-    ghost use Rattle.manifest_model.specs.Summed.{FitSums, summed};
+    ghost use Rattle.manifest_model.specs.Summed.{FitSums, with_trusted, summed_items};
     ghost use Rattle.manifest_model.specs.declared.fault.ManifestFault.{ManifestFault as Fault};
 
     // The manifest of a table, and of what is taken from it.
@@ -150,9 +150,10 @@ impl Manifest {
     /// The manifest with all sums, one for each trusted file in their order; a listed one stays.
     pub fn with_sums(&self, alloc: Global, sums: &[[u8; 32]]) -> Result<Manifest, Memory>
         requires { FitSums self.now.lists.trusted sums.now }
-        ensures { IfOk result (λ made. made ≡ summed self.now sums.now) }
+        ensures whole { IfOk result (λ made. made.«table» ≡ with_trusted (summed_items self.now.lists.trusted sums.now) self.now.«table») }
+        ensures lists { IfOk result (λ made. made.lists ≡ lists_of made.«table») }
     {
-        let table = with_trusted(alloc, &self.table, self.trusted.as_slice(), sums)?;
+        let table = with_sums_of(alloc, &self.table, self.trusted.as_slice(), sums)?;
         match take(alloc, &table) {
             Ok(taken) => Ok(Manifest::of(table, taken)),
             Err(_) => Err(Memory),

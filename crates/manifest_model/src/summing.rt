@@ -45,7 +45,7 @@ fn replaced(alloc: Global, table: &Table, key: &str, value: Value) -> Result<Tab
 }
 
 /// A copy of a table with a list of the entries and their sums in place of its trusted files, where it has them.
-pub(crate) fn with_trusted(
+pub(crate) fn with_sums_of(
     alloc: Global,
     table: &Table,
     entries: &[Trusted],
