@@ -187,8 +187,9 @@ found_key name place (member key d ms) e =
     let (text, bytes, is_text, is_bytes) = digits_there (at_key place key) key d first in
     let more = found_key name place ms rest in
     elim (same_name name key) [
-    Yes b s ↦ rw (compared name key (get_member name ms) d, b, is_text, is_bytes) refl
-    | No b s ↦ rw (compared name key (get_member name ms) d, b) more ]
+      | Yes b s ↦ rw (compared name key (get_member name ms) d, b, is_text, is_bytes) refl
+      | No b s ↦ rw (compared name key (get_member name ms) d, b) more
+    ]
 
 table_of : (d : Data) → is_some (as_table d) ≡ true → (ms : Members) × (d ≡ table ms)
 table_of (string s) h = cc

@@ -18,7 +18,7 @@ pub fails : {A : Type 0} (P : A → Type 0) (part whole : Option ManifestFault) 
     → IsErrAnd r (λ y. y ≡ fault) → Stops part fault → Checks whole P r
 fails P part whole r fault first is stops =
     let p = err_from_is_err_and r is in
-    subst (Checks whole P) (sym p.1 ) (subst (Stops whole) (sym p.2) (stops_whole part whole fault first stops))
+    subst (Checks whole P) (sym p.1) (subst (Stops whole) (sym p.2) (stops_whole part whole fault first stops))
 
 -- the same where the check is the whole
 pub refuses : {A : Type 0} (P : A → Type 0) (whole : Option ManifestFault) (r : Result A ManifestFault) (fault : ManifestFault) → IsErrAnd r (λ y. y ≡ fault) → whole ≡ Some fault → MatchResult r P (Stops whole)

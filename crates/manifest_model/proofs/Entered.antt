@@ -38,15 +38,17 @@ pub count-firsts : (name : List ℕ) (ts : List Trusted) → count name (firsts 
 count-firsts name [] = refl
 count-firsts name (t ∷ ts) =
     elim (same_name name t.name) [
-    Yes b s ↦ let own : count name (filter (is_other t) (firsts ts)) ≡ 0 = rw s (count-own t (firsts ts)) in rw (b, own) refl
-    | No b s ↦ rw (b, count-others t name (firsts ts) b) (count-firsts name ts) ]
+      | Yes b s ↦ let own : count name (filter (is_other t) (firsts ts)) ≡ 0 = rw s (count-own t (firsts ts)) in rw (b, own) refl
+      | No b s ↦ rw (b, count-others t name (firsts ts) b) (count-firsts name ts)
+    ]
 
 pub sum_in-none : (name : List ℕ) (ts : List Trusted) → has name ts ≡ false → sum_in name ts ≡ None
 sum_in-none name [] h = refl
 sum_in-none name (t ∷ ts) h =
     elim (same_name name t.name) [
-    Yes b s ↦ let e : true ≡ false = rw b at h in cc
-    | No b s ↦ let rest : has name ts ≡ false = rw b at h in rw b (sum_in-none name ts rest) ]
+      | Yes b s ↦ let e : true ≡ false = rw b at h in cc
+      | No b s ↦ let rest : has name ts ≡ false = rw b at h in rw b (sum_in-none name ts rest)
+    ]
 
 option_or-None : (o : Option (List ℕ)) → option_or o None ≡ o
 option_or-None None = refl
@@ -61,8 +63,9 @@ pub sum_in-last : (name : List ℕ) (ts : List Trusted) (t : Trusted) → sum_in
 sum_in-last name [] t = elim (same_name name t.name) [ Yes b s ↦ rw b (option_or-None t.sum) | No b s ↦ rw b refl ]
 sum_in-last name (u ∷ ts) t =
     elim (same_name name u.name) [
-    Yes b s ↦ rw (b, sum_in-last name ts t) (sym (option_or-assoc u.sum (sum_in name ts) _))
-    | No b s ↦ rw b (sum_in-last name ts t) ]
+      | Yes b s ↦ rw (b, sum_in-last name ts t) (sym (option_or-assoc u.sum (sum_in name ts) _))
+      | No b s ↦ rw b (sum_in-last name ts t)
+    ]
 
 -- an item of another name changes no entry, one of its name joins it
 summed-other : (all : List Trusted) (t u : Trusted) → bytes_eq t.name u.name ≡ false → summed_by (all ++ t ∷ []) u ≡ summed_by all u
@@ -79,48 +82,53 @@ summed-none : (all : List Trusted) (t : Trusted) (us : List Trusted) → count t
 summed-none all t [] h = refl
 summed-none all t (u ∷ us) h =
     elim (same_name t.name u.name) [
-    Yes b s ↦ let e : suc (count t.name us) ≡ 0 = rw b at h in cc
-    | No b s ↦ let rest : count t.name us ≡ 0 = rw b at h in rw (summed-other all t u b, summed-none all t us rest) refl ]
+      | Yes b s ↦ let e : suc (count t.name us) ≡ 0 = rw b at h in cc
+      | No b s ↦ let rest : count t.name us ≡ 0 = rw b at h in rw (summed-other all t u b, summed-none all t us rest) refl
+    ]
 
 added-none : (all : List Trusted) (t : Trusted) (us : List Trusted) → count t.name us ≡ 0 → added (map (summed_by all) us) t ≡ map (summed_by all) us ++ t ∷ []
 added-none all t [] h = refl
 added-none all t (u ∷ us) h =
     elim (same_name t.name u.name) [
-    Yes b s ↦ let e : suc (count t.name us) ≡ 0 = rw b at h in cc
-    | No b s ↦ let rest : count t.name us ≡ 0 = rw b at h in rw b (ap (λ es. summed_by all u ∷ es) (added-none all t us rest)) ]
+      | Yes b s ↦ let e : suc (count t.name us) ≡ 0 = rw b at h in cc
+      | No b s ↦ let rest : count t.name us ≡ 0 = rw b at h in rw b (ap (λ es. summed_by all u ∷ es) (added-none all t us rest))
+    ]
 
 added-once : (all : List Trusted) (t : Trusted) (us : List Trusted) → count t.name us ≡ 1 → added (map (summed_by all) us) t ≡ map (summed_by (all ++ t ∷ [])) us
 added-once all t [] h = cc
 added-once all t (u ∷ us) h =
     elim (same_name t.name u.name) [
-    Yes b s ↦ let e : suc (count t.name us) ≡ 1 = rw b at h in let rest : count t.name us ≡ 0 = cc in rw (b, summed-same all t u b, summed-none all t us rest) refl
-    | No b s ↦ let rest : count t.name us ≡ 1 = rw b at h in rw (b, summed-other all t u b) (ap (λ es. summed_by all u ∷ es) (added-once all t us rest)) ]
+      | Yes b s ↦ let e : suc (count t.name us) ≡ 1 = rw b at h in let rest : count t.name us ≡ 0 = cc in rw (b, summed-same all t u b, summed-none all t us rest) refl
+      | No b s ↦ let rest : count t.name us ≡ 1 = rw b at h in rw (b, summed-other all t u b) (ap (λ es. summed_by all u ∷ es) (added-once all t us rest))
+    ]
 
 filter-last : (u t : Trusted) (us : List Trusted) → filter (is_other u) (us ++ t ∷ []) ≡ cond (is_other u t) (filter (is_other u) us ++ t ∷ []) (filter (is_other u) us)
 filter-last u t [] = refl
 filter-last u t (v ∷ us) =
     elim (same_name u.name v.name) [
-    Yes b s ↦ rw b (filter-last u t us)
-    | No b s ↦ rw (b, filter-last u t us) (elim (same_name u.name t.name) [ Yes c r ↦ rw c refl | No c r ↦ rw c refl ]) ]
+      | Yes b s ↦ rw b (filter-last u t us)
+      | No b s ↦ rw (b, filter-last u t us) (elim (same_name u.name t.name) [ Yes c r ↦ rw c refl | No c r ↦ rw c refl ])
+    ]
 
 pub firsts-last : (ts : List Trusted) (t : Trusted) → firsts (ts ++ t ∷ []) ≡ cond (has t.name ts) (firsts ts) (firsts ts ++ t ∷ [])
 firsts-last [] t = refl
 firsts-last (u ∷ ts) t =
     elim (same_name t.name u.name) [
-    Yes b s ↦
-      let c : bytes_eq u.name t.name ≡ true = bytes_eq_comm u.name t.name ∙ b in
-      rw b (ap (λ us. u ∷ us) (ap (filter (is_other u)) (firsts-last ts t) ∙ dropped u t (firsts ts) (has t.name ts) c))
-    | No b s ↦
-      let c : bytes_eq u.name t.name ≡ false = bytes_eq_comm u.name t.name ∙ b in
-      rw b (ap (λ us. u ∷ us) (ap (filter (is_other u)) (firsts-last ts t)) ∙ kept u t (firsts ts) (has t.name ts) c) ]
-    where
-      dropped : (u t : Trusted) (us : List Trusted) (h : Bool) → bytes_eq u.name t.name ≡ true → filter (is_other u) (cond h us (us ++ t ∷ [])) ≡ filter (is_other u) us
-      dropped u t us true c = refl
-      dropped u t us false c = filter-last u t us ∙ rw c refl
+      | Yes b s ↦
+          let c : bytes_eq u.name t.name ≡ true = bytes_eq_comm u.name t.name ∙ b in
+          rw b (ap (λ us. u ∷ us) (ap (filter (is_other u)) (firsts-last ts t) ∙ dropped u t (firsts ts) (has t.name ts) c))
+      | No b s ↦
+          let c : bytes_eq u.name t.name ≡ false = bytes_eq_comm u.name t.name ∙ b in
+          rw b (ap (λ us. u ∷ us) (ap (filter (is_other u)) (firsts-last ts t)) ∙ kept u t (firsts ts) (has t.name ts) c)
+    ]
+  where
+    dropped : (u t : Trusted) (us : List Trusted) (h : Bool) → bytes_eq u.name t.name ≡ true → filter (is_other u) (cond h us (us ++ t ∷ [])) ≡ filter (is_other u) us
+    dropped u t us true c = refl
+    dropped u t us false c = filter-last u t us ∙ rw c refl
 
-      kept : (u t : Trusted) (us : List Trusted) (h : Bool) → bytes_eq u.name t.name ≡ false → u ∷ filter (is_other u) (cond h us (us ++ t ∷ [])) ≡ cond h (u ∷ filter (is_other u) us) (u ∷ (filter (is_other u) us ++ t ∷ []))
-      kept u t us true c = refl
-      kept u t us false c = ap (λ vs. u ∷ vs) (filter-last u t us ∙ rw c refl)
+    kept : (u t : Trusted) (us : List Trusted) (h : Bool) → bytes_eq u.name t.name ≡ false → u ∷ filter (is_other u) (cond h us (us ++ t ∷ [])) ≡ cond h (u ∷ filter (is_other u) us) (u ∷ (filter (is_other u) us ++ t ∷ []))
+    kept u t us true c = refl
+    kept u t us false c = ap (λ vs. u ∷ vs) (filter-last u t us ∙ rw c refl)
 
 -- the entries with one more item
 pub added-entries : (ts : List Trusted) (t : Trusted) → added (entries_of ts) t ≡ entries_of (ts ++ t ∷ [])
@@ -147,8 +155,9 @@ entry_sum-firsts : (all : List Trusted) (name : List ℕ) (ts : List Trusted) �
 entry_sum-firsts all name [] = refl
 entry_sum-firsts all name (t ∷ ts) =
     elim (same_name name t.name) [
-    Yes b s ↦ rw b (ap (λ n. sum_in n all) (sym s))
-    | No b s ↦ rw (b, entry_sum-others all t name (firsts ts) b) (entry_sum-firsts all name ts) ]
+      | Yes b s ↦ rw b (ap (λ n. sum_in n all) (sym s))
+      | No b s ↦ rw (b, entry_sum-others all t name (firsts ts) b) (entry_sum-firsts all name ts)
+    ]
 
 pub entry_sum-entries : (name : List ℕ) (ts : List Trusted) → entry_sum name (entries_of ts) ≡ sum_in name ts
 unfolding entries_of
@@ -173,8 +182,9 @@ named-firsts : (name : List ℕ) (ts : List Trusted) → named name (firsts ts) 
 named-firsts name [] = refl
 named-firsts name (t ∷ ts) =
     elim (same_name name t.name) [
-    Yes b s ↦ let own : named name (filter (is_other t) (firsts ts)) ≡ [] = rw s (named-own t (firsts ts)) in rw (b, own) refl
-    | No b s ↦ rw (b, named-others t name (firsts ts) b) (named-firsts name ts) ]
+      | Yes b s ↦ let own : named name (filter (is_other t) (firsts ts)) ≡ [] = rw s (named-own t (firsts ts)) in rw (b, own) refl
+      | No b s ↦ rw (b, named-others t name (firsts ts) b) (named-firsts name ts)
+    ]
 
 named-summed : (all : List Trusted) (name : List ℕ) (us : List Trusted) → named name (map (summed_by all) us) ≡ map (summed_by all) (named name us)
 named-summed all name [] = refl

@@ -33,48 +33,55 @@ pub within : (name : List ℕ) (es : List Trusted) (at : ℕ) → place_of name 
 within name [] at e = cc
 within name (x ∷ es) at e =
     elim (same_name name x.name) [
-    Yes b s ↦ let z : Some 0 ≡ Some at = rw b at e in let k : 0 ≡ at = cc in omega (arith, k)
-    | No b s ↦ let m : option_map suc (place_of name es) ≡ Some at = rw b at e in let (k, found, next) = suc_of_some (place_of name es) at m in omega (arith, within name es k found, next) ]
+      | Yes b s ↦ let z : Some 0 ≡ Some at = rw b at e in let k : 0 ≡ at = cc in omega (arith, k)
+      | No b s ↦ let m : option_map suc (place_of name es) ≡ Some at = rw b at e in let (k, found, next) = suc_of_some (place_of name es) at m in omega (arith, within name es k found, next)
+    ]
 
 pub sum_at : (name : List ℕ) (es : List Trusted) (at : ℕ) (d : Trusted) → place_of name es ≡ Some at → (get_or es at d).sum ≡ entry_sum name es
 sum_at name [] at d e = cc
 sum_at name (x ∷ es) at d e =
     elim (same_name name x.name) [
-    Yes b s ↦ let z : Some 0 ≡ Some at = rw b at e in let k : 0 ≡ at = cc in rw (← k, b) refl
-    | No b s ↦ let m : option_map suc (place_of name es) ≡ Some at = rw b at e in let (k, found, next) = suc_of_some (place_of name es) at m in rw (next, b) (sum_at name es k d found) ]
+      | Yes b s ↦ let z : Some 0 ≡ Some at = rw b at e in let k : 0 ≡ at = cc in rw (← k, b) refl
+      | No b s ↦ let m : option_map suc (place_of name es) ≡ Some at = rw b at e in let (k, found, next) = suc_of_some (place_of name es) at m in rw (next, b) (sum_at name es k d found)
+    ]
 
 pub set_at : (t : Trusted) (es : List Trusted) (at : ℕ) (d : Trusted) → place_of t.name es ≡ Some at → set es at (joined (get_or es at d) t) ≡ added es t
 set_at t [] at d e = cc
 set_at t (x ∷ es) at d e =
     elim (same_name t.name x.name) [
-    Yes b s ↦ let z : Some 0 ≡ Some at = rw b at e in let k : 0 ≡ at = cc in rw (← k, b) refl
-    | No b s ↦ let m : option_map suc (place_of t.name es) ≡ Some at = rw b at e in let (k, found, next) = suc_of_some (place_of t.name es) at m in rw (next, b) (ap (λ ts. x ∷ ts) (set_at t es k d found)) ]
+      | Yes b s ↦ let z : Some 0 ≡ Some at = rw b at e in let k : 0 ≡ at = cc in rw (← k, b) refl
+      | No b s ↦ let m : option_map suc (place_of t.name es) ≡ Some at = rw b at e in let (k, found, next) = suc_of_some (place_of t.name es) at m in rw (next, b) (ap (λ ts. x ∷ ts) (set_at t es k d found))
+    ]
 
 pub places_stay : (t : Trusted) (es : List Trusted) (at : ℕ) → place_of t.name es ≡ Some at → (q : List ℕ) → place_of q (added es t) ≡ place_of q es
 places_stay t [] at e q = cc
 places_stay t (x ∷ es) at e q =
     elim (same_name t.name x.name) [
-    Yes b s ↦ rw b refl
-    | No b s ↦ let m : option_map suc (place_of t.name es) ≡ Some at = rw b at e in let (k, found, next) = suc_of_some (place_of t.name es) at m in rw b (rw (places_stay t es k found q) refl) ]
+      | Yes b s ↦ rw b refl
+      | No b s ↦ let m : option_map suc (place_of t.name es) ≡ Some at = rw b at e in let (k, found, next) = suc_of_some (place_of t.name es) at m in rw b (rw (places_stay t es k found q) refl)
+    ]
 
 pub no_entry : (t : Trusted) (es : List Trusted) → place_of t.name es ≡ None → (entry_sum t.name es ≡ None) × (added es t ≡ es ++ t ∷ [])
 no_entry t [] e = (refl, refl)
 no_entry t (x ∷ es) e =
     elim (same_name t.name x.name) [
-    Yes b s ↦ let z : Some 0 ≡ None = rw b at e in cc
-    | No b s ↦ let m : option_map suc (place_of t.name es) ≡ None = rw b at e in let rest = no_entry t es (suc_of_none _ m) in (rw b rest.0, rw b (ap (λ ts. x ∷ ts) rest.1)) ]
+      | Yes b s ↦ let z : Some 0 ≡ None = rw b at e in cc
+      | No b s ↦ let m : option_map suc (place_of t.name es) ≡ None = rw b at e in let rest = no_entry t es (suc_of_none _ m) in (rw b rest.0, rw b (ap (λ ts. x ∷ ts) rest.1))
+    ]
 
 pub place_last : (t : Trusted) (es : List Trusted) → place_of t.name es ≡ None → (q : List ℕ) → place_of q (es ++ t ∷ []) ≡ cond (bytes_eq t.name q) (Some (length es)) (place_of q es)
 place_last t [] e q = rw (bytes_eq_comm t.name q) refl
 place_last t (x ∷ es) e q =
     elim (same_name t.name x.name) [
-    Yes b s ↦ let z : Some 0 ≡ None = rw b at e in cc
-    | No b s ↦
-      let m : option_map suc (place_of t.name es) ≡ None = rw b at e in
-      let rest = place_last t es (suc_of_none _ m) q in
-      elim (same_name t.name q) [
-      Yes c same ↦ let other : bytes_eq q x.name ≡ false = rw (← same) b in rw (c, other, rest, c) refl
-      | No c differ ↦ rw (c, rest, c) refl ] ]
+      | Yes b s ↦ let z : Some 0 ≡ None = rw b at e in cc
+      | No b s ↦
+          let m : option_map suc (place_of t.name es) ≡ None = rw b at e in
+          let rest = place_last t es (suc_of_none _ m) q in
+          elim (same_name t.name q) [
+            | Yes c same ↦ let other : bytes_eq q x.name ≡ false = rw (← same) b in rw (c, other, rest, c) refl
+            | No c differ ↦ rw (c, rest, c) refl
+          ]
+    ]
 
 -- an item joined to the entry of its name, in place
 pub in_place : (t : Trusted) (es : List Trusted) (at : ℕ) (i m : Trusted) (sum : Option (List ℕ)) → place_of t.name es ≡ Some at → i ≡ get_or es at i → m ≡ get_or es at m → clash i.sum t ≡ None → sum ≡ option_or i.sum t.sum

@@ -48,8 +48,9 @@ stack_above [] h = refl
 stack_above (p ∷ ps) h =
     let (a, more) = and_parts (bytes_eq p ABOVE) (all_above ps) h in
     elim (same_name p ABOVE) [
-    Yes b s ↦ rw (above_not_plain p s, a, more) refl
-    | No b s ↦ let e : true ≡ false = sym a ∙ b in cc ]
+      | Yes b s ↦ rw (above_not_plain p s, a, more) refl
+      | No b s ↦ let e : true ≡ false = sym a ∙ b in cc
+    ]
 
 -- a stack without its last part
 below : (absolute : Bool) (p : List ℕ) (ps : List (List ℕ)) → is_stack absolute (p ∷ ps) ≡ true → is_stack absolute ps ≡ true
@@ -65,12 +66,14 @@ on_above true [] h = refl
 on_above false [] h = refl
 on_above true (last ∷ kept) h =
     elim (same_name last ABOVE) [
-    Yes b s ↦ let (plain, rest) = and_parts (is_plain last) (is_stack true kept) h in let e : true ≡ false = sym plain ∙ above_not_plain last s in cc
-    | No b s ↦ rw b (below true last kept h) ]
+      | Yes b s ↦ let (plain, rest) = and_parts (is_plain last) (is_stack true kept) h in let e : true ≡ false = sym plain ∙ above_not_plain last s in cc
+      | No b s ↦ rw b (below true last kept h)
+    ]
 on_above false (last ∷ kept) h =
     elim (same_name last ABOVE) [
-    Yes b s ↦ let k : (bytes_eq last ABOVE && all_above kept) ≡ true = rw (above_not_plain last s) at h in rw b k
-    | No b s ↦ rw b (below false last kept h) ]
+      | Yes b s ↦ let k : (bytes_eq last ABOVE && all_above kept) ≡ true = rw (above_not_plain last s) at h in rw b k
+      | No b s ↦ rw b (below false last kept h)
+    ]
 
 onto_plain : (absolute : Bool) (kept : List (List ℕ)) (part : List ℕ) → is_plain part ≡ true → is_stack absolute kept ≡ true → is_stack absolute (part ∷ kept) ≡ true
 onto_plain true kept part plain h = both (is_plain part) (is_stack true kept) plain h
@@ -83,8 +86,9 @@ go-stack absolute kept part h = by_here (is_here part) refl
     by_here true e = rw e h
     by_here false e =
         elim (same_name part ABOVE) [
-        Yes b s ↦ rw (e, b) (on_above absolute kept h)
-        | No b s ↦ rw (e, b) (onto_plain absolute kept part (plain_from part e b) h) ]
+          | Yes b s ↦ rw (e, b) (on_above absolute kept h)
+          | No b s ↦ rw (e, b) (onto_plain absolute kept part (plain_from part e b) h)
+        ]
 
 fold-stack : (absolute : Bool) (ps kept : List (List ℕ)) → is_stack absolute kept ≡ true → is_stack absolute (fold (go absolute) kept ps) ≡ true
 fold-stack absolute [] kept h = h
@@ -108,8 +112,9 @@ again false p kept h = by_plain (is_plain p) refl
         let k : (bytes_eq p ABOVE && all_above kept) ≡ true = rw e at h in
         let (a, rest) = and_parts (bytes_eq p ABOVE) (all_above kept) k in
         elim (same_name p ABOVE) [
-        Yes b s ↦ rw s (go_onto_above kept rest)
-        | No b s ↦ let f : true ≡ false = sym a ∙ b in cc ]
+          | Yes b s ↦ rw s (go_onto_above kept rest)
+          | No b s ↦ let f : true ≡ false = sym a ∙ b in cc
+        ]
 
 refold : (absolute : Bool) (stack : List (List ℕ)) → is_stack absolute stack ≡ true → fold (go absolute) [] (reverse stack) ≡ stack
 refold absolute [] h = refl
@@ -134,8 +139,9 @@ parts_split : (bytes : List ℕ) → list_all is_part (parts bytes) ≡ true
 parts_split [] = refl
 parts_split (byte ∷ bytes) =
     elim (tell (byte == SLASH)) [
-    inl e ↦ rw e (parts_split bytes)
-    | inr e ↦ rw e (onto_first-parts byte (parts bytes) e (parts_split bytes)) ]
+      | inl e ↦ rw e (parts_split bytes)
+      | inr e ↦ rw e (onto_first-parts byte (parts bytes) e (parts_split bytes))
+    ]
 
 on_above-parts : (absolute : Bool) (kept : List (List ℕ)) → list_all is_part kept ≡ true → list_all is_part (go_above absolute kept) ≡ true
 on_above-parts true [] h = refl
@@ -204,12 +210,13 @@ climbs-plain : (ps : List (List ℕ)) (p : List ℕ) → climbs ps ≡ true → 
 climbs-plain [] p h plain = let (here, above) = plain_parts p plain in rw (above, here) refl
 climbs-plain (q ∷ ps) p h plain =
     elim (tell (bytes_eq q ABOVE)) [
-    inl e ↦ let k : climbs ps ≡ true = rw e at h in rw e (climbs-plain ps p k plain)
-    | inr e ↦
-      let k : ((not (is_here q) && true) && list_all is_plain ps) ≡ true = rw e at h in
-      let (first, rest) = and_parts (not (is_here q) && true) (list_all is_plain ps) k in
-      let more : list_all is_plain (ps ++ p ∷ []) ≡ true = list_all-append is_plain ps (p ∷ []) ∙ rw rest (both (is_plain p) true plain refl) in
-      rw (e, more) (both (not (is_here q) && true) true first refl) ]
+      | inl e ↦ let k : climbs ps ≡ true = rw e at h in rw e (climbs-plain ps p k plain)
+      | inr e ↦
+          let k : ((not (is_here q) && true) && list_all is_plain ps) ≡ true = rw e at h in
+          let (first, rest) = and_parts (not (is_here q) && true) (list_all is_plain ps) k in
+          let more : list_all is_plain (ps ++ p ∷ []) ≡ true = list_all-append is_plain ps (p ∷ []) ∙ rw rest (both (is_plain p) true plain refl) in
+          rw (e, more) (both (not (is_here q) && true) true first refl)
+    ]
 
 all_of_above : (ps : List (List ℕ)) → all_above ps ≡ true → list_all (λ p. bytes_eq p ABOVE) ps ≡ true
 all_of_above [] h = refl
@@ -220,13 +227,15 @@ climbs-stack [] h = refl
 climbs-stack (p ∷ stack) h =
     let last : climbs (reverse stack ++ p ∷ []) ≡ true =
     elim (tell (is_plain p)) [
-    inl e ↦ climbs-plain (reverse stack) p (climbs-stack stack (below false p stack h)) e
-    | inr e ↦
-      let k : (bytes_eq p ABOVE && all_above stack) ≡ true = rw e at h in
-      let (first, rest) = and_parts (bytes_eq p ABOVE) (all_above stack) k in
-      elim (same_name p ABOVE) [
-      Yes b s ↦ rw s (climbs-above (reverse stack) (all-reverse (λ q. bytes_eq q ABOVE) stack (all_of_above stack rest)))
-      | No b s ↦ let f : true ≡ false = sym first ∙ b in cc ] ] in
+      | inl e ↦ climbs-plain (reverse stack) p (climbs-stack stack (below false p stack h)) e
+      | inr e ↦
+          let k : (bytes_eq p ABOVE && all_above stack) ≡ true = rw e at h in
+          let (first, rest) = and_parts (bytes_eq p ABOVE) (all_above stack) k in
+          elim (same_name p ABOVE) [
+            | Yes b s ↦ rw s (climbs-above (reverse stack) (all-reverse (λ q. bytes_eq q ABOVE) stack (all_of_above stack rest)))
+            | No b s ↦ let f : true ≡ false = sym first ∙ b in cc
+          ]
+    ] in
     ap climbs (reverse-append (p ∷ []) stack) ∙ last
 
 plain-stack : (stack : List (List ℕ)) → is_stack true stack ≡ true → list_all is_plain stack ≡ true
@@ -252,12 +261,13 @@ not_empty p h = elim (tell (bytes_eq p [])) [ inl e ↦ let f : true ≡ false =
 some_byte : (p : List ℕ) (ps : List (List ℕ)) → climbs (p ∷ ps) ≡ true → bytes_eq p [] ≡ false
 some_byte p ps h =
     elim (same_name p ABOVE) [
-    Yes b s ↦ rw s refl
-    | No b s ↦
-      let k : ((not (is_here p) && true) && list_all is_plain ps) ≡ true = rw b at h in
-      let (first, rest) = and_parts (not (is_here p) && true) (list_all is_plain ps) k in
-      let (plain, t) = and_parts (not (is_here p)) true first in
-      not_empty p (not_yes (is_here p) plain) ]
+      | Yes b s ↦ rw s refl
+      | No b s ↦
+          let k : ((not (is_here p) && true) && list_all is_plain ps) ≡ true = rw b at h in
+          let (first, rest) = and_parts (not (is_here p) && true) (list_all is_plain ps) k in
+          let (plain, t) = and_parts (not (is_here p)) true first in
+          not_empty p (not_yes (is_here p) plain)
+    ]
 
 absolute_as : (absolute : Bool) (ks : List (List ℕ)) → are_normal absolute ks ≡ true → list_all is_part ks ≡ true → is_absolute (name_of absolute ks) ≡ absolute
 absolute_as true ks h k = refl

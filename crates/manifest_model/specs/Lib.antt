@@ -9,3 +9,4 @@ pub mod Listed
 pub mod Coding
 pub mod Reading
 pub mod Summed
+pub mod Examples

@@ -2,6 +2,7 @@
 #![tactic(auto)]
 
 mod entries;
+pub mod examples;
 mod fault;
 mod fields;
 mod laws;

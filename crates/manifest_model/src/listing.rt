@@ -73,7 +73,12 @@ fn allowed_of(alloc: Global, sgx: &Table) -> Result<Vec<Text>, ManifestFault>
 }
 
 // Each key is a string of 32 hexadecimal digits.
-fn check_key(alloc: Global, place: &Place<'_>, name: &str, value: &Value) -> Result<(), ManifestFault>
+fn check_key(
+    alloc: Global,
+    place: &Place<'_>,
+    name: &str,
+    value: &Value,
+) -> Result<(), ManifestFault>
     ensures { Checks (key_refusal (place_text place.now) name.now (view value.now)) (λ _. ⊤) result }
 {
     let digits = text_in(alloc, place, value)?;
@@ -87,11 +92,7 @@ fn check_key(alloc: Global, place: &Place<'_>, name: &str, value: &Value) -> Res
 }
 
 // Checks each key of a table of keys.
-fn check_each<'a>(
-    alloc: Global,
-    place: &'a Place<'a>,
-    keys: &'a Table,
-) -> Result<(), ManifestFault>
+fn check_each<'a>(alloc: Global, place: &'a Place<'a>, keys: &'a Table) -> Result<(), ManifestFault>
     ensures { Checks (keys_refusal (place_text place.now) (table_view keys.now)) (λ _. ⊤) result }
 {
     for (name, value) in keys.iter() {

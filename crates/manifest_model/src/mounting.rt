@@ -123,7 +123,12 @@ fn mount_item(alloc: Global, place: &Place<'_>, item: &Value) -> Result<Mount, M
     ensures { Checks (mount_refusal (place_text place.now) (view item.now)) (λ mount. mount ≡ mount_of (view item.now)) result }
 {
     need_table(alloc, place, item)?;
-    let kind = text_or(alloc, &Place::Key(place, "type"), item.get("type"), "chroot")?;
+    let kind = text_or(
+        alloc,
+        &Place::Key(place, "type"),
+        item.get("type"),
+        "chroot",
+    )?;
     let path = path_in(alloc, &Place::Key(place, "path"), item.get("path"))?;
     let name = source_in(alloc, kind, &Place::Key(place, "uri"), item.get("uri"))?;
     let key_place = Place::Key(place, "key_name");
@@ -138,7 +143,12 @@ fn root_of(alloc: Global, root: &Table) -> Result<Mount, ManifestFault>
 {
     let kind_place = Place::Path("fs.root.type");
     let kind = kind_of(text_or(alloc, &kind_place, member(root, "type"), "chroot")?);
-    let uri = text_or(alloc, &Place::Path("fs.root.uri"), member(root, "uri"), "file:.")?;
+    let uri = text_or(
+        alloc,
+        &Place::Path("fs.root.uri"),
+        member(root, "uri"),
+        "file:.",
+    )?;
     let name = file_of(alloc, kind, uri)?;
     Ok(mount(alloc, kind, "/", name, "default")?)
 }

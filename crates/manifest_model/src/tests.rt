@@ -114,14 +114,17 @@ fn reads_the_realistic_manifest(rt: HostRuntime) -> Result<(), Fail> {
     let alloc = rt.alloc();
     let manifest = manifest(&rt, alloc, REALISTIC);
     let shown = show(alloc, &manifest)?;
-    assert_eq!(rt; shown.as_str(), "strict
+    assert_eq!(rt;
+        shown.as_str(),
+        "strict
 trusted file:/opt/gramine/libsysdb.so /opt/gramine/libsysdb.so none
 trusted file:app/hello app/hello ba7816bf8f01cfea414140de5dae2223b00361a396177a9cb410ff61f20015ad
 allowed file:app/notes
 mount chroot / . default
 mount chroot /lib /opt/gramine default
 mount chroot /app app default
-mount encrypted /data data disk");
+mount encrypted /data data disk"
+    );
     let key = [0, 1, 2, 3, 4, 5, 6, 7, 8, 9, 10, 11, 12, 13, 14, 15];
     assert!(rt; manifest.key("disk") == Some(key));
     assert!(rt; manifest.key("default").is_none());
@@ -132,27 +135,42 @@ mount encrypted /data data disk");
 fn lists_without_tables_are_empty(rt: HostRuntime) -> Result<(), Fail> {
     let alloc = rt.alloc();
     let empty = manifest(&rt, alloc, "");
-    assert_eq!(rt; show(alloc, &empty)?.as_str(), "strict\nmount chroot / . default");
-    let other = manifest(&rt, alloc, "sgx.file_check_policy = \"allow_all_but_log\"
+    assert_eq!(rt;
+        show(alloc, &empty)?.as_str(),
+        "strict\nmount chroot / . default"
+    );
+    let other = manifest(
+        &rt,
+        alloc,
+        "sgx.file_check_policy = \"allow_all_but_log\"
 fs.root = { type = \"tmpfs\", uri = \"dev:tty\", key_name = \"x\" }
-fs.mounts = [ { path = \"/a//b/../c/\", type = \"tmpfs\" } ]");
-    assert_eq!(rt; show(alloc, &other)?.as_str(), "allow_all_but_log\nmount other / none default\nmount other /a/c none default");
+fs.mounts = [ { path = \"/a//b/../c/\", type = \"tmpfs\" } ]",
+    );
+    assert_eq!(rt;
+        show(alloc, &other)?.as_str(),
+        "allow_all_but_log\nmount other / none default\nmount other /a/c none default"
+    );
     Ok(())
 }
 
 #[test]
 fn entries_are_one_for_each_normal_uri(rt: HostRuntime) -> Result<(), Fail> {
     let alloc = rt.alloc();
-    let text = format!(in alloc; "sgx.trusted_files = [ \"file:a/../b\", \"file:c\", {{ uri = \"file:./b\", sha256 = \"{ABC}\" }}, \"file:b\" ]
-sgx.allowed_files = [ \"file:./x\", \"file:x\" ]")?;
+    let text = format!(in alloc;
+        "sgx.trusted_files = [ \"file:a/../b\", \"file:c\", {{ uri = \"file:./b\", sha256 = \"{ABC}\" }}, \"file:b\" ]
+sgx.allowed_files = [ \"file:./x\", \"file:x\" ]"
+    )?;
     let manifest = manifest(&rt, alloc, text.as_str());
     let shown = show(alloc, &manifest)?;
-    assert_eq!(rt; shown.as_str(), "strict
+    assert_eq!(rt;
+        shown.as_str(),
+        "strict
 trusted file:a/../b b ba7816bf8f01cfea414140de5dae2223b00361a396177a9cb410ff61f20015ad
 trusted file:c c none
 allowed file:x
 allowed file:x
-mount chroot / . default");
+mount chroot / . default"
+    );
     Ok(())
 }
 
@@ -169,26 +187,59 @@ fn refuses_at_the_first_place(rt: HostRuntime) -> Result<(), Fail> {
         ("sgx.file_check_policy = 1", "field sgx.file_check_policy"),
         ("sgx.file_check_policy = \"all\"", "policy all"),
         ("sgx.trusted_files = \"file:a\"", "field sgx.trusted_files"),
-        ("sgx.trusted_files = [ \"file:a\", 1 ]", "field sgx.trusted_files[1]"),
-        ("sgx.trusted_files = [ { sha256 = 1 } ]", "field sgx.trusted_files[0].uri"),
-        ("sgx.trusted_files = [ { uri = \"dev:a\", sha256 = 1 } ]", "uri dev:a"),
-        ("sgx.trusted_files = [ { uri = \"file:a\", sha256 = 1 } ]", "field sgx.trusted_files[0].sha256"),
-        ("sgx.trusted_files = [ { uri = \"file:a\", sha256 = \"00\" } ]", "sum file:a"),
+        (
+            "sgx.trusted_files = [ \"file:a\", 1 ]",
+            "field sgx.trusted_files[1]",
+        ),
+        (
+            "sgx.trusted_files = [ { sha256 = 1 } ]",
+            "field sgx.trusted_files[0].uri",
+        ),
+        (
+            "sgx.trusted_files = [ { uri = \"dev:a\", sha256 = 1 } ]",
+            "uri dev:a",
+        ),
+        (
+            "sgx.trusted_files = [ { uri = \"file:a\", sha256 = 1 } ]",
+            "field sgx.trusted_files[0].sha256",
+        ),
+        (
+            "sgx.trusted_files = [ { uri = \"file:a\", sha256 = \"00\" } ]",
+            "sum file:a",
+        ),
         ("sgx.trusted_files = [ \"file:a/\" ]", "uri file:a/"),
         ("sgx.trusted_files = [ \"file:\" ]", "uri file:"),
-        ("sgx.allowed_files = [ \"file:a\", 1 ]", "field sgx.allowed_files[1]"),
+        (
+            "sgx.allowed_files = [ \"file:a\", 1 ]",
+            "field sgx.allowed_files[1]",
+        ),
         ("sgx.allowed_files = [ \"a\" ]", "uri a"),
         ("fs.root = 1", "field fs.root"),
         ("fs.root.type = 1", "field fs.root.type"),
         ("fs.root.uri = \"file:\"", "uri file:"),
         ("fs.mounts = [ 1 ]", "field fs.mounts[0]"),
-        ("fs.mounts = [ { path = \"a\", uri = \"file:a\" } ]", "field fs.mounts[0].path"),
-        ("fs.mounts = [ { path = \"/a\" } ]", "field fs.mounts[0].uri"),
-        ("fs.mounts = [ { path = \"/a\", uri = \"file:\" } ]", "uri file:"),
-        ("fs.mounts = [ { path = \"/a\", uri = \"file:a\", key_name = 1 } ]", "field fs.mounts[0].key_name"),
+        (
+            "fs.mounts = [ { path = \"a\", uri = \"file:a\" } ]",
+            "field fs.mounts[0].path",
+        ),
+        (
+            "fs.mounts = [ { path = \"/a\" } ]",
+            "field fs.mounts[0].uri",
+        ),
+        (
+            "fs.mounts = [ { path = \"/a\", uri = \"file:\" } ]",
+            "uri file:",
+        ),
+        (
+            "fs.mounts = [ { path = \"/a\", uri = \"file:a\", key_name = 1 } ]",
+            "field fs.mounts[0].key_name",
+        ),
         ("fs.insecure__keys = 1", "field fs.insecure__keys"),
         ("fs.insecure__keys.a = 1", "field fs.insecure__keys.a"),
-        ("fs.insecure__keys.b = \"1\"\nfs.insecure__keys.a = \"2\"", "key a"),
+        (
+            "fs.insecure__keys.b = \"1\"\nfs.insecure__keys.a = \"2\"",
+            "key a",
+        ),
     ] {
         assert_eq!(rt; said(alloc, text)?.as_str(), refusal, "{text}");
     }
@@ -198,8 +249,14 @@ fn refuses_at_the_first_place(rt: HostRuntime) -> Result<(), Fail> {
 #[test]
 fn two_sums_are_refused(rt: HostRuntime) -> Result<(), Fail> {
     let alloc = rt.alloc();
-    let text = format!(in alloc; "sgx.trusted_files = [ \"file:a\", {{ uri = \"file:./a\", sha256 = \"{ABC}\" }}, {{ uri = \"file:b/../a\", sha256 = \"00{}\" }} ]", &ABC[2..])?;
-    assert_eq!(rt; said(alloc, text.as_str())?.as_str(), "two sums file:b/../a");
+    let text = format!(in alloc;
+        "sgx.trusted_files = [ \"file:a\", {{ uri = \"file:./a\", sha256 = \"{ABC}\" }}, {{ uri = \"file:b/../a\", sha256 = \"00{}\" }} ]",
+        &ABC[2..]
+    )?;
+    assert_eq!(rt;
+        said(alloc, text.as_str())?.as_str(),
+        "two sums file:b/../a"
+    );
     Ok(())
 }
 
@@ -244,8 +301,14 @@ fn values_stand_at_most_32_deep(rt: HostRuntime) -> Result<(), Fail> {
     assert_eq!(rt; said(alloc, nested(alloc, 32)?.as_str())?.as_str(), "ok");
     let mut place = String::from_str(alloc, "field a")?;
     place.push_str(repeated(alloc, "[0]", 32)?.as_str())?;
-    assert_eq!(rt; said(alloc, nested(alloc, 33)?.as_str())?.as_str(), place.as_str());
-    assert_eq!(rt; said(alloc, nested(alloc, 100_000)?.as_str())?.as_str(), "not toml");
+    assert_eq!(rt;
+        said(alloc, nested(alloc, 33)?.as_str())?.as_str(),
+        place.as_str()
+    );
+    assert_eq!(rt;
+        said(alloc, nested(alloc, 100_000)?.as_str())?.as_str(),
+        "not toml"
+    );
     let mut path = repeated(alloc, "a.", 32)?;
     path.push_str("a = 1")?;
     let mut deep = String::from_str(alloc, "field a")?;
@@ -279,5 +342,26 @@ fn a_list_of_30000_entries_is_read(rt: HostRuntime) -> Result<(), Fail> {
     text.push_str("]")?;
     let manifest = manifest(&rt, alloc, text.as_str());
     assert_eq!(rt; manifest.trusted_len(), 30_000);
+    Ok(())
+}
+
+#[test]
+fn a_manifest_with_sums_is_printed_and_read_again(rt: HostRuntime) -> Result<(), Fail> {
+    let alloc = rt.alloc();
+    let read = manifest(&rt, alloc, REALISTIC);
+    let Some(sum) = read.trusted(1).sum else {
+        panic!(rt; "no sum");
+    };
+    let summed = read.with_sums(alloc, &[[0xab; 32], sum])?;
+    let text = summed.print(alloc)?;
+    let again = manifest(&rt, alloc, text.as_str());
+    assert_eq!(rt;
+        show(alloc, &again)?.as_str(),
+        show(alloc, &summed)?.as_str()
+    );
+    let first = again.trusted(0);
+    assert!(rt; first.sum == Some([0xab; 32]));
+    assert_eq!(rt; first.uri.as_str(), "file:/opt/gramine/libsysdb.so");
+    assert!(rt; again.key("disk").is_some());
     Ok(())
 }

@@ -34,11 +34,7 @@ pub(crate) fn file_in(alloc: Global, uri: &str) -> Result<&str, ManifestFault>
 }
 
 // The sum that a text spells, where there is a text.
-fn sum_in(
-    alloc: Global,
-    uri: &str,
-    text: Option<&str>,
-) -> Result<Option<[u8; 32]>, ManifestFault>
+fn sum_in(alloc: Global, uri: &str, text: Option<&str>) -> Result<Option<[u8; 32]>, ManifestFault>
     ensures { Checks (sum_refusal uri.now (option_map (λ t. t.now) text.entry)) (λ sum. sum ≡ sum_of (option_map (λ t. t.now) text.entry)) result }
 {
     let Some(text) = text else {

@@ -39,5 +39,5 @@ returns-in_ok-push-in-None c =
       ap (λ s. clash s c.args.item) no_sum,
       c.in_ok-push-in-None.ensures.items ∙ sym last,
       λ q. rw key at (btree_map_updates_text (string_bytes c.in_ok-name-in-None.name) c.args.index.now c.insert.new.self _ c.in_ok-insert-in-None.ensures.updates q)
-      ∙ rw (len, c.requires q) (sym (place_last c.args.item c.args.entries.now.items absent q)) ∙ sym (ap (place_of q) c.in_ok-push-in-None.ensures.items),
+          ∙ rw (len, c.requires q) (sym (place_last c.args.item c.args.entries.now.items absent q)) ∙ sym (ap (place_of q) c.in_ok-push-in-None.ensures.items),
     )
