@@ -1,4 +1,5 @@
-use Rattle.std.proofs.Common.{refl}
+use Rattle.std.proofs.Common.{refl, lit<}
+use Rattle.std.proofs.lemmas.Fmt.{decimal_digit}
 use Rattle.hex.proofs.OnLiterals.{hex_on_literals}
 use Rattle.manifest_model.specs.Names.{normal, normal_parts, kept_of, file_name, is_name}
 use Rattle.manifest_model.specs.Trusting.{own_refusal, item_of}
@@ -11,12 +12,12 @@ unfolding hex_on_literals normal normal_parts kept_of file_name is_name own_refu
 returns c = record {
   deepest = refl;
   too_deep = refl;
-  inside = refl;
+  inside = rw (decimal_digit 0 (lit< tt)) refl;
   no_section = refl;
   policy = refl;
-  no_uri = refl;
+  no_uri = rw (decimal_digit 0 (lit< tt)) refl;
   no_file = refl;
-  no_path = refl;
+  no_path = rw (decimal_digit 0 (lit< tt)) refl;
   key = refl;
   nothing = refl;
 }
