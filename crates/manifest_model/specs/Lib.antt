@@ -1,0 +1,11 @@
+pub mod Names
+pub mod Places
+pub mod Walk
+pub mod Fields
+pub mod Trusting
+pub mod Indexing
+pub mod Mounting
+pub mod Listed
+pub mod Coding
+pub mod Reading
+pub mod Summed

@@ -1,0 +1,21 @@
+//! The manifest profile: trusted and allowed files, mounts, keys and the policy of a TOML table.
+#![tactic(auto)]
+
+mod entries;
+mod fault;
+mod fields;
+mod listing;
+mod manifest;
+mod mounting;
+mod names;
+mod places;
+mod summing;
+#[cfg(test)]
+mod tests;
+mod trusting;
+mod walk;
+
+pub use entries::{Mount, MountKind, Policy, Trusted};
+pub use fault::ManifestFault;
+pub use manifest::Manifest;
+pub use names::normal_name;

@@ -1,0 +1,66 @@
+// A table with the sums of its trusted files.
+ghost use Rattle.std.specs.Prelude.{◌≡◌, IfOk, IsSome};
+ghost use Rattle.toml.specs.Data.{get_member};
+ghost use Rattle.toml.specs.View.{view, array_view, table_view};
+ghost use Rattle.manifest_model.specs.Summed.{FitSums, replaced, summed_item, summed_items, with_trusted};
+
+use crate::entries::Trusted;
+use crate::fields::member;
+use pf_io::Memory;
+use std::alloc::Global;
+use toml::Table;
+use toml::value::{Array, Value};
+
+// A table of a uri and a sum.
+fn summed_item(alloc: Global, uri: &str, sum: &[u8; 32]) -> Result<Value, Memory>
+    ensures { IfOk result (λ item. view item ≡ summed_item uri.now sum.now) }
+{
+    let digits = hex::encode(alloc, &sum[..])?;
+    let mut fields = Table::new(alloc);
+    fields.insert(String::from_str(alloc, "sha256")?, Value::String(digits))?;
+    fields.insert(String::from_str(alloc, "uri")?, Value::string(alloc, uri)?)?;
+    Ok(Value::Table(fields))
+}
+
+// One for each entry.
+fn summed_items(alloc: Global, entries: &[Trusted], sums: &[[u8; 32]]) -> Result<Array, Memory>
+    requires { FitSums entries.now sums.now }
+    ensures { IfOk result (λ items. array_view items ≡ summed_items entries.now sums.now) }
+{
+    let mut items = Array::new(alloc);
+    for (entry, sum) in entries.iter().zip(sums) {
+        items.push(summed_item(alloc, entry.uri.as_str(), sum)?)?;
+    }
+    Ok(items)
+}
+
+// A copy of a table, with another value at a key that it has.
+fn replaced(alloc: Global, table: &Table, key: &str, value: Value) -> Result<Table, Memory>
+    requires { IsSome (get_member key.now (table_view table.now)) }
+    ensures { IfOk result (λ made. table_view made ≡ replaced key.now (view value) (table_view table.now)) }
+{
+    let mut made = table.clone()?;
+    made.insert(String::from_str(alloc, key)?, value)?;
+    Ok(made)
+}
+
+/// A copy of a table with a list of the entries and their sums in place of its trusted files, where it has them.
+pub(crate) fn with_trusted(
+    alloc: Global,
+    table: &Table,
+    entries: &[Trusted],
+    sums: &[[u8; 32]],
+) -> Result<Table, Memory>
+    requires { FitSums entries.now sums.now }
+    ensures { IfOk result (λ made. table_view made ≡ with_trusted (summed_items entries.now sums.now) (table_view table.now)) }
+{
+    let Some(Value::Table(sgx)) = member(table, "sgx") else {
+        return Ok(table.clone()?);
+    };
+    if member(sgx, "trusted_files").is_none() {
+        return Ok(table.clone()?);
+    }
+    let items = summed_items(alloc, entries, sums)?;
+    let sgx = replaced(alloc, sgx, "trusted_files", Value::Array(items))?;
+    replaced(alloc, table, "sgx", Value::Table(sgx))
+}
