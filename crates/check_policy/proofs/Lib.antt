@@ -1,0 +1,4 @@
+pub mod Parting
+pub mod Bettering
+pub mod Giving
+pub mod Deciding

@@ -1,0 +1,5 @@
+pub mod Places
+pub mod Seeking
+pub mod Served
+pub mod Giving
+pub mod Verdicts

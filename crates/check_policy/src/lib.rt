@@ -1,0 +1,11 @@
+//! Where a path of a manifest leads, and what the manifest says of a file.
+#![tactic(auto)]
+
+mod place;
+mod resolving;
+mod seeking;
+mod verdict;
+
+pub use place::{Place, ResolveFault};
+pub use resolving::{normal, resolve};
+pub use verdict::{Verdict};
