@@ -2,3 +2,4 @@ pub mod Parting
 pub mod Bettering
 pub mod Giving
 pub mod Deciding
+pub mod Judging

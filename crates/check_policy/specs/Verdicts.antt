@@ -16,16 +16,20 @@ HasUri uri entry = uri ≡ uri_of entry.name
 abbrev pub has_uri : List ℕ → Trusted → Bool
 has_uri uri entry = bytes_eq uri (uri_of entry.name)
 
+-- the sum of a trusted entry with that normal uri
+abbrev pub listed_sum : List ℕ → Trusted → Option (List ℕ)
+listed_sum uri entry = if has_uri uri entry then entry.sum else None
+
 -- the first sum that a trusted entry with that normal uri has
 abbrev pub sum_for : List ℕ → List Trusted → Option (List ℕ)
 sum_for uri [] = None
-sum_for uri (entry ∷ entries) = if has_uri uri entry then option_or entry.sum (sum_for uri entries) else sum_for uri entries
+sum_for uri (entry ∷ entries) = option_or (listed_sum uri entry) (sum_for uri entries)
 
 -- The verdict on a uri as it is given, by the first case that holds: trusted with a sum, trusted without one, allowed,
 -- or in neither list, where the policy decides.
-pub data Decides (lists : Lists) (uri : List ℕ) (verdict : Verdict) : Type 0 where
-  WithSum : (sum : List ℕ) → sum_for uri lists.trusted ≡ Some sum → verdict ≡ verdicts.Trusted sum → Decides lists uri verdict
-  WithoutSum : Any (HasUri uri) lists.trusted → sum_for uri lists.trusted ≡ None → verdict ≡ verdicts.NoSum → Decides lists uri verdict
-  IsAllowed : ¬ Any (HasUri uri) lists.trusted → Contains lists.allowed uri → verdict ≡ verdicts.Allowed → Decides lists uri verdict
-  IsLogged : ¬ Any (HasUri uri) lists.trusted → ¬ Contains lists.allowed uri → lists.policy ≡ AllowAllButLog → verdict ≡ verdicts.Logged → Decides lists uri verdict
-  IsDenied : ¬ Any (HasUri uri) lists.trusted → ¬ Contains lists.allowed uri → lists.policy ≡ Strict → verdict ≡ verdicts.Denied → Decides lists uri verdict
+pub data IsVerdict (lists : Lists) (uri : List ℕ) (verdict : Verdict) : Type 0 where
+  WithSum : (sum : List ℕ) → sum_for uri lists.trusted ≡ Some sum → verdict ≡ verdicts.Trusted sum → IsVerdict lists uri verdict
+  WithoutSum : Any (HasUri uri) lists.trusted → sum_for uri lists.trusted ≡ None → verdict ≡ verdicts.NoSum → IsVerdict lists uri verdict
+  IsAllowed : ¬ Any (HasUri uri) lists.trusted → Contains lists.allowed uri → verdict ≡ verdicts.Allowed → IsVerdict lists uri verdict
+  IsLogged : ¬ Any (HasUri uri) lists.trusted → ¬ Contains lists.allowed uri → lists.policy ≡ AllowAllButLog → verdict ≡ verdicts.Logged → IsVerdict lists uri verdict
+  IsDenied : ¬ Any (HasUri uri) lists.trusted → ¬ Contains lists.allowed uri → lists.policy ≡ Strict → verdict ≡ verdicts.Denied → IsVerdict lists uri verdict

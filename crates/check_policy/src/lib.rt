@@ -8,4 +8,4 @@ mod verdict;
 
 pub use place::{Place, ResolveFault};
 pub use resolving::{normal, resolve};
-pub use verdict::{Verdict};
+pub use verdict::{Verdict, decide};
