@@ -4,6 +4,8 @@
 mod place;
 mod resolving;
 mod seeking;
+#[cfg(test)]
+mod tests;
 mod verdict;
 
 pub use place::{Place, ResolveFault};
