@@ -56,6 +56,9 @@ path_is_normal path text is e = rw e (record { same = normal-normal path is.abso
 same_parts : (path text : List ℕ) → IsPath path → text ≡ normal path → normal_parts text ≡ normal_parts path
 same_parts path text is e = ap normal_parts e ∙ normal_parts-normal path is.absolute
 
+parts_alike : (path other : List ℕ) → IsPath path → IsPath other → normal path ≡ normal other → normal_parts path ≡ normal_parts other
+parts_alike path other is is' e = sym (normal_parts-normal path is.absolute) ∙ ap normal_parts e ∙ normal_parts-normal other is'.absolute
+
 served : (lists : Lists) (path : List ℕ) (mount : Mount) (parts : List (List ℕ)) (result : Result Place ResolveFault) → IsPath path → Serves lists.mounts (normal_parts path) mount parts
     → (result ≡ Err faults.Memory) ⊎ Gives lists.keys mount parts result → (result ≡ Err faults.Memory) ⊎ Resolves lists path result
 served lists path mount parts result is serves (inl e) = inl e
@@ -68,3 +71,9 @@ by_mount lists path text mount rest result is e found given =
 
 pub by_none : (lists : Lists) (path text : List ℕ) → IsPath path → text ≡ normal path → NoneServes lists.mounts (normal_parts text) → Resolves lists path (Ok places.Nothing)
 by_none lists path text is e none = Unserved is (subst (NoneServes lists.mounts) (same_parts path text is e) none) refl
+
+-- paths with one normal form have one outcome
+pub same_normal : (lists : Lists) (path other : List ℕ) (outcome : Result Place ResolveFault) → IsPath path → IsPath other → normal path ≡ normal other → Resolves lists path outcome → Resolves lists other outcome
+same_normal lists path other outcome is is' e (NoPath x f) = absurd (x is)
+same_normal lists path other outcome is is' e (ByMount y mount rest serves gives) = ByMount is' mount rest (subst (λ ps. Serves lists.mounts ps mount rest) (parts_alike path other is is' e) serves) gives
+same_normal lists path other outcome is is' e (Unserved y none f) = Unserved is' (subst (NoneServes lists.mounts) (parts_alike path other is is' e) none) f

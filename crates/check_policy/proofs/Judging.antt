@@ -14,6 +14,7 @@ use Rattle.manifest_model.specs.Names.{uri_of}
 use Rattle.manifest_model.specs.Listed.{Lists}
 use Rattle.check_policy.specs.declared.verdict.Verdict.{Verdict}
 use Rattle.check_policy.specs.declared.verdict.Verdict.TheVariants as verdicts
+use Rattle.check_policy.specs.Laws.{IsByCases}
 use Rattle.check_policy.specs.Verdicts.{HasUri, has_uri, listed_sum, sum_for, IsVerdict, WithSum, WithoutSum, IsAllowed, IsLogged, IsDenied}
 
 -- the steps of a search
@@ -126,3 +127,48 @@ module _ (lists : Lists) (uri : List ℕ) where
 
   pub is_denied : list_any (has_uri uri) lists.trusted ≡ false → list_any (bytes_eq uri) lists.allowed ≡ false → lists.policy ≡ Strict → IsVerdict lists uri verdicts.Denied
   is_denied l a p = IsDenied (not_listed uri lists.trusted l) (not_allowed uri lists.allowed a) p refl
+
+  -- what each verdict tells
+  trusted_tells : (verdict : Verdict) (sum : List ℕ) → IsVerdict lists uri verdict → verdict ≡ verdicts.Trusted sum → sum_for uri lists.trusted ≡ Some sum
+  trusted_tells verdict sum (WithSum other s e) f = let same : other ≡ sum = cc in s ∙ ap Some same
+  trusted_tells verdict sum (WithoutSum l s e) f = absurd (cc)
+  trusted_tells verdict sum (IsAllowed l a e) f = absurd (cc)
+  trusted_tells verdict sum (IsLogged l a p e) f = absurd (cc)
+  trusted_tells verdict sum (IsDenied l a p e) f = absurd (cc)
+
+  no_sum_tells : (verdict : Verdict) → IsVerdict lists uri verdict → verdict ≡ verdicts.NoSum → Any (HasUri uri) lists.trusted × (sum_for uri lists.trusted ≡ None)
+  no_sum_tells verdict (WithSum sum s e) f = absurd (cc)
+  no_sum_tells verdict (WithoutSum l s e) f = (l, s)
+  no_sum_tells verdict (IsAllowed l a e) f = absurd (cc)
+  no_sum_tells verdict (IsLogged l a p e) f = absurd (cc)
+  no_sum_tells verdict (IsDenied l a p e) f = absurd (cc)
+
+  allowed_tells : (verdict : Verdict) → IsVerdict lists uri verdict → verdict ≡ verdicts.Allowed → (¬ Any (HasUri uri) lists.trusted) × Contains lists.allowed uri
+  allowed_tells verdict (WithSum sum s e) f = absurd (cc)
+  allowed_tells verdict (WithoutSum l s e) f = absurd (cc)
+  allowed_tells verdict (IsAllowed l a e) f = (l, a)
+  allowed_tells verdict (IsLogged l a p e) f = absurd (cc)
+  allowed_tells verdict (IsDenied l a p e) f = absurd (cc)
+
+  logged_tells : (verdict : Verdict) → IsVerdict lists uri verdict → verdict ≡ verdicts.Logged → (¬ Any (HasUri uri) lists.trusted) × (¬ Contains lists.allowed uri) × (lists.policy ≡ AllowAllButLog)
+  logged_tells verdict (WithSum sum s e) f = absurd (cc)
+  logged_tells verdict (WithoutSum l s e) f = absurd (cc)
+  logged_tells verdict (IsAllowed l a e) f = absurd (cc)
+  logged_tells verdict (IsLogged l a p e) f = (l, a, p)
+  logged_tells verdict (IsDenied l a p e) f = absurd (cc)
+
+  denied_tells : (verdict : Verdict) → IsVerdict lists uri verdict → verdict ≡ verdicts.Denied → (¬ Any (HasUri uri) lists.trusted) × (¬ Contains lists.allowed uri) × (lists.policy ≡ Strict)
+  denied_tells verdict (WithSum sum s e) f = absurd (cc)
+  denied_tells verdict (WithoutSum l s e) f = absurd (cc)
+  denied_tells verdict (IsAllowed l a e) f = absurd (cc)
+  denied_tells verdict (IsLogged l a p e) f = absurd (cc)
+  denied_tells verdict (IsDenied l a p e) f = (l, a, p)
+
+  pub by_cases : (verdict : Verdict) → IsVerdict lists uri verdict → IsByCases lists uri verdict
+  by_cases verdict is = record {
+    trusted = λ sum. (trusted_tells verdict sum is, λ s. verdict_one verdict (verdicts.Trusted sum) is (WithSum sum s refl));
+    no_sum = (no_sum_tells verdict is, λ t. verdict_one verdict verdicts.NoSum is (WithoutSum t.0 t.1 refl));
+    allowed = (allowed_tells verdict is, λ t. verdict_one verdict verdicts.Allowed is (IsAllowed t.0 t.1 refl));
+    logged = (logged_tells verdict is, λ t. verdict_one verdict verdicts.Logged is (IsLogged t.0 t.1 t.2 refl));
+    denied = (denied_tells verdict is, λ t. verdict_one verdict verdicts.Denied is (IsDenied t.0 t.1 t.2 refl));
+  }

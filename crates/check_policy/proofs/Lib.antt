@@ -3,3 +3,4 @@ pub mod Bettering
 pub mod Giving
 pub mod Deciding
 pub mod Judging
+pub mod Existing

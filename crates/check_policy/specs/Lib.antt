@@ -3,3 +3,4 @@ pub mod Seeking
 pub mod Served
 pub mod Giving
 pub mod Verdicts
+pub mod Laws
