@@ -1,13 +1,15 @@
 //! What the definitions of places and verdicts say together.
 ghost use Rattle.std.specs.Prelude.{◌≡◌, ℕ, List, Contains, Result, codes};
 ghost use Rattle.manifest_model.specs.declared.entries.Mount.{Mount};
-ghost use Rattle.manifest_model.specs.Names.{normal, normal_parts};
+ghost use Rattle.manifest_model.specs.declared.entries.Trusted.{Trusted};
+ghost use Rattle.manifest_model.specs.Names.{normal, normal_parts, uri_of};
 ghost use Rattle.manifest_model.specs.Listed.{Lists};
+ghost use Rattle.manifest_model.specs.Trusting.{entries_of};
 ghost use Rattle.check_policy.specs.declared.place.Place.{Place};
 ghost use Rattle.check_policy.specs.declared.place.ResolveFault.{ResolveFault};
 ghost use Rattle.check_policy.specs.declared.verdict.Verdict.{Verdict};
 ghost use Rattle.check_policy.specs.Places.{IsPath, Serves, Resolves};
-ghost use Rattle.check_policy.specs.Verdicts.{IsVerdict};
+ghost use Rattle.check_policy.specs.Verdicts.{sum_for, IsVerdict};
 ghost use Rattle.check_policy.specs.Laws.{IsByCases};
 
 /// Each text has one outcome as a path.
@@ -35,4 +37,9 @@ pub fn uris_have_one_verdict()
 /// Each verdict comes exactly under its condition.
 pub fn verdicts_come_by_cases()
     ensures { (lists : Lists) (uri : List ℕ) (verdict : Verdict) → IsVerdict lists uri verdict → IsByCases lists uri verdict }
+{}
+
+/// Among what the items of a list give, the sum of an entry is the one that decides on its uri.
+pub fn listed_sums_decide()
+    ensures { (items : List Trusted) (entry : Trusted) → Contains (entries_of items) entry → sum_for (uri_of entry.name) (entries_of items) ≡ entry.sum }
 {}
