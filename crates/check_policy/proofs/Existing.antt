@@ -5,6 +5,7 @@ use Rattle.std.specs.List.{slice_get, list_all, fold}
 use Rattle.std.proofs.lemmas.Bool.{false≢true}
 use Rattle.std.proofs.lemmas.Bool.Decides.{Decides-and, Decides-by_and, Decides-not, Decides-eqb, Decides-like, nat_tests}
 use Rattle.std.proofs.lemmas.Slice.Eq.{bytes_eq-Decides}
+use Rattle.std.proofs.lemmas.List.{append_cancel_left}
 use Rattle.std.proofs.lemmas.Option.{slice_get-get_or}
 use Rattle.pf_io.specs.Names.{IsName, LONGEST, SLASH}
 use Rattle.manifest_model.specs.declared.entries.Mount.{Mount}
@@ -134,3 +135,14 @@ root_serves mounts root path has at = by (a_mount_or_none mounts (normal_parts p
       let listed : slice_get mounts has.0 ≡ Some root = slice_get-get_or mounts has.0 root has.1 ∙ ap Some has.2 in
       let nothing : parts_of root ≡ [] = ap normal_parts at ∙ root_parts in
       absurd (none has.0 root listed (record { rest = normal_parts path; whole = ap (λ qs. qs ++ normal_parts path) (sym nothing) }))
+
+-- what a search from the front picks is what serves
+pub serves_picked : (mounts : List Mount) (ps : List (List ℕ)) (mount : Mount) (rest : List (List ℕ)) → fold (pick ps) None mounts ≡ Some (mount, rest) → ps ≡ parts_of mount ++ rest → Serves mounts ps mount rest
+serves_picked mounts ps mount rest e whole =
+    let best : IsBest mounts ps (0 + length mounts) (Some (mount, behind rest)) = subst (λ f. IsBest mounts ps (0 + length mounts) (texts f)) e (pick_all mounts ps 0 mounts None refl (none_yet mounts ps)) in
+    let found = whole_some mounts ps (0 + length mounts) mount (behind rest) (omega arith) best in
+    let same : found.rest ≡ rest = append_cancel_left (parts_of mount) found.rest rest (sym found.serves.begins ∙ whole) in
+    subst (Serves mounts ps mount) same found.serves
+
+pub is_path : (path : List ℕ) → path_test path ≡ true → IsPath path
+is_path path e = (path_decides path).0 e

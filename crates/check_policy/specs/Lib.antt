@@ -4,3 +4,4 @@ pub mod Served
 pub mod Giving
 pub mod Verdicts
 pub mod Laws
+pub mod Examples

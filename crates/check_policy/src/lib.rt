@@ -1,6 +1,7 @@
 //! Where a path of a manifest leads, and what the manifest says of a file.
 #![tactic(auto)]
 
+pub mod examples;
 mod laws;
 mod place;
 mod resolving;
