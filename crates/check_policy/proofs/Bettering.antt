@@ -1,12 +1,11 @@
 -- The search for the last mount with the most parts.
-use Rattle.std.proofs.Common.{◌≡◌, ◌∙◌, ℕ, zero, suc, ◌+◌, ◌<◌, ◌≤◌, List, [], ◌∷◌, ◌++◌, length, length-append, Option, Some, None, refl, sym, ap, subst, arith, below_more}
+use Rattle.std.proofs.Common.{◌≡◌, ◌∙◌, ℕ, suc, ◌+◌, ◌<◌, ◌≤◌, List, [], ◌∷◌, ◌++◌, length, length-append, Option, Some, None, sym, ap, subst, arith, below_more}
 use Rattle.std.specs.List.{slice_get}
 use Rattle.std.proofs.lemmas.Option.{slice_get_within}
 use Rattle.manifest_model.specs.declared.entries.Mount.{Mount}
 use Rattle.manifest_model.specs.Names.{behind}
 use Rattle.check_policy.specs.Places.{parts_of, depth, Begins, NoneServes}
 use Rattle.check_policy.specs.Seeking.{Leaves, IsBest, Missing, Found, IsServing}
-use Rattle.check_policy.proofs.Parting.{behind-append}
 
 length-behind : (p : List ℕ) (ps : List (List ℕ)) → length (behind (p ∷ ps)) ≡ suc (length p + length (behind ps))
 length-behind p ps = ap suc (length-append p (behind ps))
@@ -34,15 +33,15 @@ module _ (mounts : List Mount) (ps : List (List ℕ)) (n : ℕ) (mount : Mount) 
 
   deeper : (found : Mount) (text rest : List ℕ) → Leaves (parts_of found) ps text → Leaves (parts_of mount) ps rest → length text < length rest → depth mount < depth found
   deeper found text rest a b l =
-    let cut : parts_of found ++ a.rest ≡ parts_of mount ++ b.rest = sym a.whole ∙ b.whole in
-    let most : depth found ≤ depth mount → length rest ≤ length text = λ d. rw (a.written, b.written) (no_longer (parts_of found) (parts_of mount) a.rest b.rest cut d) in
-    grind (arith, most, l)
+      let cut : parts_of found ++ a.rest ≡ parts_of mount ++ b.rest = sym a.whole ∙ b.whole in
+      let most : depth found ≤ depth mount → length rest ≤ length text = λ d. rw (a.written, b.written) (no_longer (parts_of found) (parts_of mount) a.rest b.rest cut d) in
+      grind (arith, most, l)
 
   as_deep : (found : Mount) (text rest : List ℕ) → Leaves (parts_of found) ps text → Leaves (parts_of mount) ps rest → length rest ≤ length text → depth found ≤ depth mount
   as_deep found text rest a b l =
-    let cut : parts_of mount ++ b.rest ≡ parts_of found ++ a.rest = sym b.whole ∙ a.whole in
-    let less : depth mount < depth found → length text < length rest = λ d. rw (a.written, b.written) (shorter (parts_of mount) (parts_of found) b.rest a.rest cut d) in
-    grind (arith, less, l)
+      let cut : parts_of mount ++ b.rest ≡ parts_of found ++ a.rest = sym b.whole ∙ a.whole in
+      let less : depth mount < depth found → length text < length rest = λ d. rw (a.written, b.written) (shorter (parts_of mount) (parts_of found) b.rest a.rest cut d) in
+      grind (arith, less, l)
 
   -- a further mount that does not begin the path
   pub step_none : (found : Option (Mount × List ℕ)) → (Begins (parts_of mount) ps → ⊥) → IsBest mounts ps n found → IsBest mounts ps (n + 1) found
@@ -85,7 +84,9 @@ module _ (mounts : List Mount) (ps : List (List ℕ)) where
   whole_some n mount text all (Found place at leaves most last) = record {
     rest = leaves.rest;
     serves = record {
-      place = place; listed = at; begins = leaves.whole;
+      place = place;
+      listed = at;
+      begins = leaves.whole;
       most = λ k other is begins. most k (omega (arith, all, slice_get_within mounts k other is)) other is begins;
       last = λ k other is begins same. last k (omega (arith, all, slice_get_within mounts k other is)) other is begins same;
     };

@@ -1,5 +1,5 @@
 -- A path has an outcome.
-use Rattle.std.proofs.Common.{◌≡◌, ◌≢◌, ◌∙◌, ◌⊎◌, inl, inr, ℕ, zero, suc, ◌+◌, ◌<◌, ◌≤◌, nat_le, nat_lt, ◌==◌, Bool, true, false, not, ◌&&◌, cond, All, Contains, List, [], ◌∷◌, ◌++◌, length, drop, bytes_eq, Option, Some, None, option_map, Result, Ok, Err, refl, sym, ap, subst, arith, rules}
+use Rattle.std.proofs.Common.{◌≡◌, ◌≢◌, ◌∙◌, ◌⊎◌, inl, inr, ℕ, zero, suc, ◌+◌, ◌≤◌, nat_le, nat_lt, ◌==◌, Bool, true, false, not, ◌&&◌, cond, All, Contains, List, [], ◌∷◌, ◌++◌, length, drop, bytes_eq, Option, Some, None, option_map, Result, Ok, Err, refl, sym, ap, subst, arith}
 use Rattle.std.specs.Bool.{Decides}
 use Rattle.std.specs.List.{slice_get, list_all, fold}
 use Rattle.std.proofs.lemmas.Bool.{false≢true}
@@ -7,7 +7,7 @@ use Rattle.std.proofs.lemmas.Bool.Decides.{Decides-and, Decides-by_and, Decides-
 use Rattle.std.proofs.lemmas.Slice.Eq.{bytes_eq-Decides}
 use Rattle.std.proofs.lemmas.List.{append_cancel_left}
 use Rattle.std.proofs.lemmas.Option.{slice_get-get_or}
-use Rattle.pf_io.specs.Names.{IsName, LONGEST, SLASH}
+use Rattle.pf_io.specs.Names.{LONGEST, SLASH}
 use Rattle.manifest_model.specs.declared.entries.Mount.{Mount}
 use Rattle.manifest_model.specs.Names.{is_absolute, normal_parts, behind}
 use Rattle.manifest_model.specs.Listed.{Lists}
@@ -15,8 +15,8 @@ use Rattle.check_policy.specs.declared.place.Place.{Place}
 use Rattle.check_policy.specs.declared.place.Place.TheVariants as places
 use Rattle.check_policy.specs.declared.place.ResolveFault.{ResolveFault}
 use Rattle.check_policy.specs.declared.place.ResolveFault.TheVariants as faults
-use Rattle.check_policy.specs.Places.{IsPath, parts_of, Begins, Serves, NoneServes, Gives, Resolves, NoPath, ByMount, Unserved}
-use Rattle.check_policy.specs.Seeking.{Leaves, IsBest, IsServing}
+use Rattle.check_policy.specs.Places.{IsPath, parts_of, Begins, Serves, NoneServes, Resolves, NoPath, ByMount, Unserved}
+use Rattle.check_policy.specs.Seeking.{IsBest}
 use Rattle.check_policy.proofs.Parting.{root_parts}
 use Rattle.check_policy.proofs.Bettering.{step_none, step_keep, step_first, step_take, none_yet, whole_none, whole_some}
 use Rattle.check_policy.proofs.Giving.{gives_some}
@@ -98,10 +98,10 @@ module _ (mounts : List Mount) (ps : List (List ℕ)) where
   pub pick_all : (n : ℕ) (others : List Mount) (found : Pick) → drop n mounts ≡ others → IsBest mounts ps n (texts found) → IsBest mounts ps (n + length others) (texts (fold (pick ps) found others))
   pick_all n [] found d best = let same : n ≡ n + 0 = omega arith in subst (λ k. IsBest mounts ps k (texts found)) same best
   pick_all n (mount ∷ others) found d best =
-    let at = at_drop mounts n mount others d in
-    let same : n + 1 + length others ≡ n + suc (length others) = omega arith in
-    subst (λ k. IsBest mounts ps k (texts (fold (pick ps) (pick ps found mount) others))) same
-    (pick_all (n + 1) others (pick ps found mount) at.1 (pick_step n mount found (rest_of (parts_of mount) ps) at.0 refl best))
+      let at = at_drop mounts n mount others d in
+      let same : n + 1 + length others ≡ n + suc (length others) = omega arith in
+      subst (λ k. IsBest mounts ps k (texts (fold (pick ps) (pick ps found mount) others))) same
+      (pick_all (n + 1) others (pick ps found mount) at.1 (pick_step n mount found (rest_of (parts_of mount) ps) at.0 refl best))
 
   abbrev picked : Pick
   picked = fold (pick ps) None mounts

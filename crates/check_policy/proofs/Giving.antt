@@ -1,12 +1,12 @@
 -- What a mount gives, as a function.
-use Rattle.std.proofs.Common.{◌≡◌, ◌∙◌, ◌⊎◌, inl, inr, ℕ, ◌<◌, ◌≤◌, nat_le, Bool, true, false, cond, List, ◌++◌, length, bytes_eq, Option, Some, None, Result, Ok, Err, refl, sym, ap, subst, arith}
+use Rattle.std.proofs.Common.{◌≡◌, ◌∙◌, ◌⊎◌, inl, inr, ℕ, ◌<◌, ◌≤◌, nat_le, Bool, true, false, List, length, bytes_eq, Option, Some, None, Result, Ok, Err, refl, sym, ap, arith}
 use Rattle.std.specs.Map.{lookup}
 use Rattle.std.proofs.lemmas.Bool.Decides.{nat_tests}
 use Rattle.pf_io.specs.Names.{LONGEST}
 use Rattle.manifest_model.specs.declared.entries.Mount.{Mount}
 use Rattle.manifest_model.specs.declared.entries.MountKind.{MountKind}
 use Rattle.manifest_model.specs.declared.entries.MountKind.TheVariants.{Chroot, Encrypted, Other}
-use Rattle.manifest_model.specs.Names.{uri_of, normal, behind}
+use Rattle.manifest_model.specs.Names.{uri_of}
 use Rattle.check_policy.specs.declared.place.Place.{Place}
 use Rattle.check_policy.specs.declared.place.Place.TheVariants as places
 use Rattle.check_policy.specs.declared.place.ResolveFault.{ResolveFault}

@@ -1,6 +1,6 @@
 -- The parts of absolute names in normal form, and their texts.
 use Rattle.std.proofs.Common.{◌≡◌, ◌≢◌, ◌∙◌, ℕ, ◌==◌, Bool, true, false, cond, List, [], ◌∷◌, ◌++◌, reverse, append-nil, append_assoc, refl, sym, ap, subst, bytes_eq}
-use Rattle.std.specs.List.{AllByRecursion, slice_split, onto_first, fold, join_with_byte}
+use Rattle.std.specs.List.{AllByRecursion, onto_first, fold, join_with_byte}
 use Rattle.std.proofs.lemmas.Bool.{false≢true}
 use Rattle.std.proofs.lemmas.List.{reverse-append, reverse-reverse, append_cancel_left}
 use Rattle.pf_io.specs.Names.{SLASH}

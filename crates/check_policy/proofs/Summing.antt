@@ -8,7 +8,7 @@ use Rattle.std.proofs.lemmas.Slice.Eq.{bytes_eq-Decides}
 use Rattle.manifest_model.specs.declared.entries.Trusted.{Trusted}
 use Rattle.manifest_model.specs.Names.{uri_of}
 use Rattle.manifest_model.specs.Trusting.{sum_in, summed_by, firsts, entries_of}
-use Rattle.check_policy.specs.Verdicts.{has_uri, listed_sum, sum_for}
+use Rattle.check_policy.specs.Verdicts.{has_uri, sum_for}
 
 -- each entry has the sum that belongs to its name
 abbrev SumsBy : (List ℕ → Option (List ℕ)) → List Trusted → Type 0
@@ -30,7 +30,7 @@ module _ (sum : List ℕ → Option (List ℕ)) (name : List ℕ) where
   none_step : (e : Trusted) (others : Option (List ℕ)) (has : Bool) → has_uri (uri_of name) e ≡ has → e.sum ≡ sum e.name → sum name ≡ None → others ≡ None → option_or (cond has e.sum None) others ≡ None
   none_step e others false is s none rest = rest
   none_step e others true is s none rest =
-    let nothing : e.sum ≡ None = s ∙ ap sum (sym (same_name name e is)) ∙ none in rw (nothing, rest) refl
+      let nothing : e.sum ≡ None = s ∙ ap sum (sym (same_name name e is)) ∙ none in rw (nothing, rest) refl
 
   sum_none : (entries : List Trusted) → SumsBy sum entries → sum name ≡ None → sum_for (uri_of name) entries ≡ None
   sum_none [] each none = refl
@@ -39,12 +39,12 @@ module _ (sum : List ℕ → Option (List ℕ)) (name : List ℕ) where
   some_step : (s : List ℕ) (e : Trusted) (others : Option (List ℕ)) (has there : Bool) → has_uri (uri_of name) e ≡ has → e.sum ≡ sum e.name → sum name ≡ Some s → (there ≡ true → others ≡ Some s) → (has || there) ≡ true → option_or (cond has e.sum None) others ≡ Some s
   some_step s e others false there is of some rest any = rest any
   some_step s e others true there is of some rest any =
-    let found : e.sum ≡ Some s = of ∙ ap sum (sym (same_name name e is)) ∙ some in rw found refl
+      let found : e.sum ≡ Some s = of ∙ ap sum (sym (same_name name e is)) ∙ some in rw found refl
 
   sum_some : (s : List ℕ) (entries : List Trusted) → SumsBy sum entries → sum name ≡ Some s → list_any (has_uri (uri_of name)) entries ≡ true → sum_for (uri_of name) entries ≡ Some s
   sum_some s [] each some any = absurd (cc)
   sum_some s (e ∷ entries) each some any =
-    some_step s e (sum_for (uri_of name) entries) (has_uri (uri_of name) e) (list_any (has_uri (uri_of name)) entries) refl each.0 some (sum_some s entries each.1 some) any
+      some_step s e (sum_for (uri_of name) entries) (has_uri (uri_of name) e) (list_any (has_uri (uri_of name)) entries) refl each.0 some (sum_some s entries each.1 some) any
 
   by_name : (entries : List Trusted) (found : Option (List ℕ)) → sum name ≡ found → SumsBy sum entries → list_any (has_uri (uri_of name)) entries ≡ true → sum_for (uri_of name) entries ≡ found
   by_name entries None e each any = sum_none entries each e

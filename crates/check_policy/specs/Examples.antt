@@ -1,13 +1,10 @@
 -- What a realistic manifest lists, and where its paths lead.
-use Rattle.std.specs.Prelude.{ℕ, List, [], ◌∷◌, Some, None, Ok, Err, codes}
+use Rattle.std.specs.Prelude.{ℕ, List, [], ◌∷◌, Some, None, Ok, codes}
 use Rattle.manifest_model.specs.declared.entries.Policy.TheVariants.{Strict, AllowAllButLog}
-use Rattle.manifest_model.specs.declared.entries.Trusted.{Trusted}
 use Rattle.manifest_model.specs.declared.entries.Mount.{Mount}
 use Rattle.manifest_model.specs.declared.entries.MountKind.TheVariants.{Chroot, Encrypted}
 use Rattle.manifest_model.specs.Listed.{Lists}
-use Rattle.check_policy.specs.declared.place.Place.{Place}
 use Rattle.check_policy.specs.declared.place.Place.TheVariants as places
-use Rattle.check_policy.specs.declared.place.ResolveFault.TheVariants as faults
 use Rattle.check_policy.specs.declared.verdict.Verdict.TheVariants as verdicts
 use Rattle.check_policy.specs.Places.{Resolves}
 use Rattle.check_policy.specs.Verdicts.{IsVerdict}

@@ -4,7 +4,7 @@ use Rattle.manifest_model.specs.declared.entries.Policy.TheVariants.{Strict, All
 use Rattle.manifest_model.specs.Listed.{Lists}
 use Rattle.check_policy.specs.declared.verdict.Verdict.{Verdict}
 use Rattle.check_policy.specs.declared.verdict.Verdict.TheVariants as verdicts
-use Rattle.check_policy.specs.Verdicts.{HasUri, sum_for, IsVerdict}
+use Rattle.check_policy.specs.Verdicts.{HasUri, sum_for}
 
 -- each verdict comes exactly under its condition
 pub record IsByCases (lists : Lists) (uri : List ℕ) (verdict : Verdict) : Type 0 where

@@ -1,9 +1,9 @@
 -- The search for the mount that serves a path.
-use Rattle.std.specs.Prelude.{◌≡◌, ◌⊎◌, ℕ, ◌<◌, ◌≤◌, ◌==◌, Bool, true, List, [], ◌∷◌, ◌++◌, Option, Some, None, option_map}
+use Rattle.std.specs.Prelude.{◌≡◌, ℕ, ◌<◌, ◌≤◌, ◌==◌, Bool, true, List, [], ◌∷◌, ◌++◌, Option, Some, None}
 use Rattle.pf_io.specs.Names.{SLASH}
 use Rattle.std.specs.List.{slice_get}
 use Rattle.manifest_model.specs.declared.entries.Mount.{Mount}
-use Rattle.manifest_model.specs.Names.{is_absolute, normal, normal_parts, behind}
+use Rattle.manifest_model.specs.Names.{is_absolute, normal, behind}
 use Rattle.check_policy.specs.Places.{parts_of, depth, Begins, Serves}
 
 -- an absolute name in normal form

@@ -1,8 +1,7 @@
 -- What a manifest says of a file of the host.
-use Rattle.std.specs.Prelude.{◌≡◌, ◌↔◌, ℕ, Bool, if◌then◌else◌, List, [], ◌∷◌, Any, Contains, bytes_eq, Option, Some, None}
+use Rattle.std.specs.Prelude.{◌≡◌, ℕ, Bool, if◌then◌else◌, List, [], ◌∷◌, Any, Contains, bytes_eq, Option, Some, None}
 use Rattle.std.specs.Option.{option_or}
 use Rattle.manifest_model.specs.declared.entries.Trusted.{Trusted}
-use Rattle.manifest_model.specs.declared.entries.Policy.{Policy}
 use Rattle.manifest_model.specs.declared.entries.Policy.TheVariants.{Strict, AllowAllButLog}
 use Rattle.manifest_model.specs.Names.{uri_of}
 use Rattle.manifest_model.specs.Listed.{Lists}

@@ -10,7 +10,10 @@ mod seeking;
 mod tests;
 mod verdict;
 
-pub use laws::{listed_sums_decide, mounts_with_a_root_serve, normal_forms_decide, paths_have_one_outcome, uris_have_one_verdict, verdicts_come_by_cases};
+pub use laws::{
+    listed_sums_decide, mounts_with_a_root_serve, normal_forms_decide, paths_have_one_outcome,
+    uris_have_one_verdict, verdicts_come_by_cases,
+};
 pub use place::{Place, ResolveFault};
 pub use resolving::{normal, resolve};
 pub use verdict::{Verdict, decide};

@@ -160,17 +160,29 @@ fn names_have_at_most_512_bytes_before_a_key_is_sought(rt: HostRuntime) -> Resul
     let manifest = read(&rt, alloc, MOUNTS);
     let longest = repeated(alloc, "/", 511)?;
     let path = format!(in alloc; "{longest}a")?;
-    assert_eq!(rt; led(alloc, &manifest, path.as_str())?.as_str(), "file:/above as /above");
+    assert_eq!(rt;
+        led(alloc, &manifest, path.as_str())?.as_str(),
+        "file:/above as /above"
+    );
     let path = format!(in alloc; "{longest}/a")?;
     assert_eq!(rt; led(alloc, &manifest, path.as_str())?.as_str(), "bad path");
     let name = repeated(alloc, "x", 505)?;
     for (mount, place) in [("/a/b/", "file:second/"), ("/l/", "no key default")] {
         let path = format!(in alloc; "{mount}{name}")?;
-        assert!(rt; led(alloc, &manifest, path.as_str())?.as_str().starts_with(place), "{mount}");
+        assert!(rt;
+            led(alloc, &manifest, path.as_str())?
+                .as_str()
+                .starts_with(place),
+            "{mount}"
+        );
     }
     for mount in ["/a/b/", "/l/"] {
         let path = format!(in alloc; "{mount}x{name}")?;
-        assert_eq!(rt; led(alloc, &manifest, path.as_str())?.as_str(), "bad path", "{mount}");
+        assert_eq!(rt;
+            led(alloc, &manifest, path.as_str())?.as_str(),
+            "bad path",
+            "{mount}"
+        );
     }
     Ok(())
 }

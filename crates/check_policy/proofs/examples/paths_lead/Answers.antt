@@ -1,7 +1,7 @@
-use Rattle.std.proofs.Common.{◌≡◌, ℕ, List, [], ◌∷◌, refl, codes, lit≤}
+use Rattle.std.proofs.Common.{[], ◌∷◌, refl, codes, lit≤}
 use Rattle.manifest_model.specs.Names.{normal, normal_parts, kept_of}
 use Rattle.check_policy.specs.Examples.{realistic, root, lib, app, data_folder, disk_key}
-use Rattle.check_policy.specs.Places.{Resolves, ByMount, IsHostFile, IsProtected}
+use Rattle.check_policy.specs.Places.{ByMount, IsHostFile, IsProtected}
 use Rattle.check_policy.proofs.Existing.{is_path, serves_picked}
 use Rattle.check_policy.proofs.examples.paths_lead.Goals as goal
 

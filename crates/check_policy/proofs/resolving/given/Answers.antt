@@ -1,4 +1,4 @@
-use Rattle.std.proofs.Common.{◌≡◌, ◌∙◌, ◌++◌, ℕ, List, bytes_eq, sym, ap, subst, Some}
+use Rattle.std.proofs.Common.{◌∙◌, ◌++◌, bytes_eq, sym, ap, subst, Some}
 use Rattle.std.specs.Map.{lookup}
 use Rattle.manifest_model.specs.Names.{normal, behind}
 use Rattle.check_policy.specs.Giving.{GivesFile, GivesProtected}

@@ -14,7 +14,7 @@ pub returns-in-Some-clause-no_other : goal.returns-in-Some-clause-no_other
 returns-in-Some-clause-no_other c =
     no_other c.args.manifest.now.lists c.args.path.now c.given.result
     (by_mount c.args.manifest.now.lists c.args.path.now c.as_str.result.now c.in-Some.found.mount.now c.in-Some.found.rest.now c.given.result
-     (c.is_path.ensures.0 c.if-not-is_path.false) (c.as_str.ensures ∙ c.in_ok-path.ensures) c.in-Some.ensures c.given.ensures)
+    (c.is_path.ensures.0 c.if-not-is_path.false) (c.as_str.ensures ∙ c.in_ok-path.ensures) c.in-Some.ensures c.given.ensures)
 
 pub returns-clause-outcome : goal.returns-clause-outcome
 returns-clause-outcome c =

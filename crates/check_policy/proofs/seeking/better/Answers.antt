@@ -28,8 +28,8 @@ returns-in_default-found c = λ mounts n at best.
     let rest = c.in-Some.rest.now in
     let leaves : Leaves (parts_of c.args.mount.now) ps rest = subst (λ path. Leaves (normal_parts path) ps rest) c.as_str.ensures c.in-Some.ensures in
     elim c.in_default-found.branch [
-      in_default-found-via-in-Some-found+else-other-rest w ↦
-        (let other = w.in-Some-found.other in
-         step_take mounts ps n c.args.mount.now at other.mount.now other.rest.now rest leaves w.if-other-rest.false (subst (λ f. IsBest mounts ps n (seen f)) w.in-Some-found.is best))
-    | in_default-found-via-in_default-found w ↦ step_first mounts ps n c.args.mount.now at rest leaves (subst (λ f. IsBest mounts ps n (seen f)) (is_none c.args.found w.in_default-found.not-Some) best)
+      | in_default-found-via-in-Some-found+else-other-rest w ↦
+          (let other = w.in-Some-found.other in
+          step_take mounts ps n c.args.mount.now at other.mount.now other.rest.now rest leaves w.if-other-rest.false (subst (λ f. IsBest mounts ps n (seen f)) w.in-Some-found.is best))
+      | in_default-found-via-in_default-found w ↦ step_first mounts ps n c.args.mount.now at rest leaves (subst (λ f. IsBest mounts ps n (seen f)) (is_none c.args.found w.in_default-found.not-Some) best)
     ]

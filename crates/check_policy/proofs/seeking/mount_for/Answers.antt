@@ -1,4 +1,4 @@
-use Rattle.std.proofs.Common.{◌≡◌, ◌≤◌, ℕ, List, length, Option, Some, None, MatchOption, arith}
+use Rattle.std.proofs.Common.{◌≤◌, ℕ, List, length, Option, Some, None, MatchOption, arith}
 use Rattle.manifest_model.specs.declared.entries.Mount.{Mount}
 use Rattle.manifest_model.specs.Names.{normal_parts}
 use Rattle.check_policy.specs.declared.seeking.Serving.{Serving}

@@ -1,5 +1,5 @@
-use Rattle.std.proofs.Common.{◌≡◌, ◌∙◌, ℕ, List, ap, sym, ◌++◌, refl}
-use Rattle.manifest_model.specs.Names.{behind, normal_parts}
+use Rattle.std.proofs.Common.{◌∙◌, ap, sym, ◌++◌}
+use Rattle.manifest_model.specs.Names.{normal_parts}
 use Rattle.check_policy.proofs.Parting.{normal_parts_are, leaves_of_text, no_text_no_begin, no_edge_no_begin}
 use Rattle.check_policy.proofs.seeking.rest_behind.Goals as goal
 
