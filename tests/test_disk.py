@@ -137,6 +137,15 @@ def test_a_file_is_written_and_synced_through_one_handle():
     same((written, unsynced), (2, set()), "writes")
 
 
+def test_a_file_gets_no_closed_streams_number():
+    closed = ["sh", "-c", 'exec <&- >&- 2>&-; exec "$@"', "sh", *ENCRYPT]
+    ran, lines = traced(closed)
+    same((ran.status, decrypt().out), (0, b"content"), str(ran))
+    calls = [line for line in lines if line.startswith(("flock(", "pwrite64("))]
+    low = [line for line in calls if int(line.split("(")[1].split(",")[0]) < 3]
+    same((len(calls) >= 4, low), (True, []), "calls on files")
+
+
 def test_after_a_failed_sync_a_file_is_not_changed():
     if not os.access(PF_IO_TESTS, os.X_OK):
         raise Skip(f"{PF_IO_TESTS} is not built")

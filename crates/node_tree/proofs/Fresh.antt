@@ -1,17 +1,19 @@
 -- A tree of a sheet's metadata stands on the sheet.
-use Rattle.std.proofs.Common.{◌≡◌, ℕ, ◌<◌, List, [], length, slice_index, ap, ap₂, ◌∙◌, sym, arith}
+use Rattle.std.proofs.Common.{◌≡◌, ℕ, ◌+◌, ◌<◌, List, [], ◌∷◌, length, replicate, slice_index, refl, ap, ap₂, ◌∙◌, sym, arith, subst}
 use Rattle.std.specs.Prelude.{Contains}
 use Rattle.std.proofs.lemmas.Option.{none-some}
 use Rattle.node_layout.specs.declared.metadata.MetaSecret.{MetaSecret}
+use Rattle.node_layout.specs.Metadata.{IsMetaText}
 use Rattle.node_layout.proofs.Texts.{fields_same}
 use Rattle.node_layout.specs.Places.{data_place, data_count, node_count}
 use Rattle.node_layout.proofs.Numbers.{data_live}
 use Rattle.node_tree.specs.Content.{first_text, data_text, bytes_of}
-use Rattle.node_tree.specs.Sheet.{Sheet, IsLinked, plain_in, root_of, meta_of}
+use Rattle.node_tree.specs.Sheet.{Node, Sheet, IsLinked, plain_in, root_of, meta_of}
 use Rattle.node_tree.specs.State.{TreeState}
 use Rattle.node_tree.specs.Backing.{Backs, IsMetaOf, now}
 use Rattle.node_tree.specs.Reading.{IsOfFile}
 use Rattle.node_tree.specs.Inside.{plains}
+use Rattle.node_tree.specs.Marks.{marked}
 use Rattle.node_tree.proofs.Bytes.{content_is, first_padding, data_padding}
 use Rattle.node_tree.proofs.Standing.{data_within, node_there, plain_in-there, meta_is_text}
 use Rattle.node_tree.specs.declared.nodes.HeldNode.{HeldNode}
@@ -60,6 +62,26 @@ fresh_of_file meta file = record { each = λ k plain held. absurd (none-some pla
 
 -- the fields of a new tree
 pub fresh_is : (meta : MetaSecret) (base : ℕ) (nodes : List (ℕ × HeldNode)) → base ≡ node_count meta.size → nodes ≡ []
-    → ◌≡◌ {A = TreeState} (record { size = meta.size; first = meta.first; root_key = meta.root_key; root_tag = meta.root_tag; base = base; held = plains nodes; dirty = [] }) (fresh meta)
+    → ◌≡◌ {A = TreeState} (record { size = meta.size; first = meta.first; root_key = meta.root_key; root_tag = meta.root_tag; base = base; held = plains nodes; dirty = marked nodes }) (fresh meta)
 fresh_is meta base nodes same none =
-    ap₂ (λ (b : ℕ) (es : List (ℕ × HeldNode)). let t : TreeState = record { size = meta.size; first = meta.first; root_key = meta.root_key; root_tag = meta.root_tag; base = b; held = plains es; dirty = [] } in t) same none
+    ap₂ (λ (b : ℕ) (es : List (ℕ × HeldNode)). let t : TreeState = record { size = meta.size; first = meta.first; root_key = meta.root_key; root_tag = meta.root_tag; base = b; held = plains es; dirty = marked es } in t) same none
+
+-- the metadata of an empty content
+abbrev pub empty_meta : List ℕ → MetaSecret
+empty_meta path = record { path = path; size = 0; root_key = replicate 16 0; root_tag = replicate 16 0; first = replicate 3072 0 }
+
+no_nodes : (nodes : List Node) → 1 + length nodes ≡ 1 → root_of nodes ≡ (replicate 16 0, replicate 16 0)
+no_nodes [] is = refl
+no_nodes (node ∷ nodes) is = absurd (omega arith)
+
+empty_text : first_text [] ≡ replicate 3072 0
+empty_text = refl
+
+pub empty_is_meta : (sheet : Sheet) → IsLinked sheet → sheet.content ≡ [] → IsMetaOf sheet (empty_meta sheet.path)
+empty_is_meta sheet linked empty =
+    let size : length sheet.content ≡ 0 = ap length empty in
+    let root = no_nodes sheet.nodes (linked.all_nodes ∙ ap node_count size) in
+    let first : first_text sheet.content ≡ replicate 3072 0 = ap first_text empty ∙ empty_text in
+    subst (λ (f : List ℕ). IsMetaText (meta_of sheet) sheet.path 0 (replicate 16 0) (replicate 16 0) f) first
+    (subst (λ (r : List ℕ × List ℕ). IsMetaText (meta_of sheet) sheet.path 0 r.0 r.1 (first_text sheet.content)) root
+    (subst (λ (n : ℕ). IsMetaText (meta_of sheet) sheet.path n (root_of sheet.nodes).0 (root_of sheet.nodes).1 (first_text sheet.content)) size (meta_is_text sheet linked)))

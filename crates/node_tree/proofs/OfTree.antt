@@ -1,6 +1,8 @@
 -- A read of a tree, from its fields.
 use Rattle.std.proofs.Common.{◌≡◌, inl, ℕ, ◌+◌, ◌<◌, ◌≤◌, slice_index, List, [], ◌++◌, length, take, drop, refl, ap, ◌∙◌, sym, arith, subst, is_some, Option, Some, None, Result, Ok, Err}
 use Rattle.std.specs.Option.{option_map}
+use Rattle.std.specs.Prelude.{Contains}
+use Rattle.std.specs.List.Sorted.{IsStrictlyIncreasing}
 use Rattle.std.specs.Ordering.{nat_cmp}
 use Rattle.std.specs.BTreeMap.{BTreeMap, get}
 use Rattle.std.proofs.lemmas.List.{take_at, length-append, length-drop}
@@ -9,21 +11,23 @@ use Rattle.node_tree.specs.Content.{bytes_of}
 use Rattle.node_tree.specs.Touched.{AreTouched, Meets}
 use Rattle.node_tree.specs.Opened.{AtNodes, At, IsAt, Given}
 use Rattle.node_tree.specs.Nodes.{plain_at, kept_plain}
-use Rattle.node_tree.specs.State.{TreeState, held_at, readable, plain_or, AreBlocks, IsSound}
+use Rattle.node_tree.specs.State.{TreeState, held_at, readable, plain_or, AreBlocks, MOST_DIRTY}
 use Rattle.node_tree.specs.Fetching.{CountsReads, Fetches, missing_of}
-use Rattle.node_tree.specs.Reading.{Reads, ReadsFew, DamageComes}
-use Rattle.node_tree.specs.Inside.{state_of}
-use Rattle.node_layout.specs.Places.{data_place}
+use Rattle.node_tree.specs.Reading.{KeepsFields, Reads, ReadsFew, DamageComes}
+use Rattle.node_tree.specs.Inside.{state_of, IsWell}
+use Rattle.node_tree.specs.Marks.{marked, KeepsMarks}
+use Rattle.node_layout.specs.Places.{data_place, parent_of}
 use Rattle.node_tree.specs.declared.fault.TreeFault.{TreeFault}
 use Rattle.node_tree.specs.declared.fault.TreeFault.TheVariants as faults
 use Rattle.node_tree.proofs.Opening.{opened_block}
 use Rattle.node_tree.specs.declared.nodes.HeldNode.{HeldNode}
 use Rattle.node_tree.specs.declared.tree.Tree.TheInside.{Inside}
 use Rattle.node_tree.proofs.Order.{place_of}
+use Rattle.node_tree.proofs.Marking.{same_marked}
 use Rattle.node_tree.proofs.Ends.{same_held, reads_none, reads_ok, reads_failed, few_reads}
 
 module _ (name : Name) (at : ℕ) (inside : Inside) (nodes : BTreeMap ℕ HeldNode) (old : TreeState) (is : state_of inside ≡ old) (before after : HostState) (numbers : List ℕ) (count room : ℕ)
-    (count_is : count ≡ readable (state_of inside) at room) (touched : AreTouched at (at + count) numbers) where
+    (count_is : count ≡ readable (state_of inside) at room) (touched : AreTouched at (at + count) numbers) (rest : KeepsFields (state_of inside) (state_of (record inside { nodes = nodes }))) where
   states : {T : Type 0} (r : Result T TreeFault) → Fetches r name numbers (plain_at inside.nodes) (plain_at nodes) inside.root before after
       → Fetches r name numbers (held_at (state_of inside)) (held_at (state_of (record inside { nodes = nodes }))) inside.root before after
   states r fetches =
@@ -36,7 +40,7 @@ module _ (name : Name) (at : ℕ) (inside : Inside) (nodes : BTreeMap ℕ HeldNo
       let here : count ≡ readable (state_of inside) at (length buffer) = count_is ∙ ap (readable (state_of inside) at) (sym long) in
       subst (λ (t : TreeState). Reads r name at buffer t (state_of (record inside { nodes = nodes })) before after) is
       (subst (λ (x : Result ℕ TreeFault). Reads x name at buffer (state_of inside) (state_of (record inside { nodes = nodes })) before after) (sym fails)
-      (reads_failed name at (state_of inside) (state_of (record inside { nodes = nodes })) before after refl numbers fault buffer
+      (reads_failed name at (state_of inside) (state_of (record inside { nodes = nodes })) before after rest numbers fault buffer
       (subst (λ (n : ℕ). AreTouched at (at + n) numbers) here touched) (states (Err fault) fetches)))
 
   pub tree_ok : {T : Type 0} (value : T) (buffer : List ℕ) → length buffer ≡ room → take count buffer ≡ bytes_of inside.first (kept_plain nodes) at count
@@ -46,7 +50,7 @@ module _ (name : Name) (at : ℕ) (inside : Inside) (nodes : BTreeMap ℕ HeldNo
       let same : bytes_of inside.first (kept_plain nodes) at count ≡ bytes_of inside.first (λ k. plain_or (held_at (state_of (record inside { nodes = nodes })) k) []) at count =
       ap (λ (f : ℕ → Option (List ℕ)). bytes_of inside.first (λ k. plain_or (f k) []) at count) (same_held nodes) in
       subst (λ (t : TreeState). Reads (Ok count) name at buffer t (state_of (record inside { nodes = nodes })) before after) is
-      (reads_ok name at (state_of inside) (state_of (record inside { nodes = nodes })) before after refl numbers value buffer count here touched (states (Ok value) fetches) (bytes ∙ same))
+      (reads_ok name at (state_of inside) (state_of (record inside { nodes = nodes })) before after rest numbers value buffer count here touched (states (Ok value) fetches) (bytes ∙ same))
 
   pub tree_few : CountsReads (length (missing_of (plain_at inside.nodes) numbers)) before after → ReadsFew at room old before after
   tree_few few =
@@ -69,15 +73,34 @@ data_held at count n d numbers held same touched all meets =
     let place = place_of numbers (data_place d) ((touched.exactly (data_place d)).1 (d, there, inl refl)) in
     subst (λ (k : ℕ). IsAt held k) place.2 (all place.0 place.1)
 
+-- only the held nodes changed where the marks stay
+pub kept_fields : (inside : Inside) (nodes : BTreeMap ℕ HeldNode) → IsWell inside → KeepsMarks inside.nodes nodes → KeepsFields (state_of inside) (state_of (record inside { nodes = nodes }))
+kept_fields inside nodes well keeps = ap (λ (dirty : List ℕ). record (state_of inside) { dirty = dirty }) (same_marked inside.nodes nodes keeps well.ordered)
+
 -- what holds of a tree holds once nodes came
-pub sound_then : {T : Type 0} (r : Result T TreeFault) (name : Name) (numbers : List ℕ) (inside : Inside) (nodes : BTreeMap ℕ HeldNode) (before after : HostState) → IsSound (state_of inside)
-    → Fetches r name numbers (plain_at inside.nodes) (plain_at nodes) inside.root before after → IsSound (state_of (record inside { nodes = nodes }))
-sound_then r name numbers inside nodes before after sound fetches = record {
-  small = sound.small;
-  blocks =
-      subst (λ (f : ℕ → Option (List ℕ)). AreBlocks (At f)) (same_held nodes)
-      (λ k plain there. opened_block (At (plain_at inside.nodes)) (Given name fetches.these) inside.root (subst (λ (f : ℕ → Option (List ℕ)). AreBlocks (At f)) (sym (same_held inside.nodes)) sound.blocks) k plain (fetches.fetched.came k plain there));
-}
+pub well_then : {T : Type 0} (r : Result T TreeFault) (name : Name) (numbers : List ℕ) (inside : Inside) (nodes : BTreeMap ℕ HeldNode) (before after : HostState) → IsWell inside → KeepsMarks inside.nodes nodes
+    → Fetches r name numbers (plain_at inside.nodes) (plain_at nodes) inside.root before after → IsWell (record inside { nodes = nodes })
+well_then r name numbers inside nodes before after well keeps fetches =
+    let sound = well.sound in
+    let is = same_marked inside.nodes nodes keeps well.ordered in
+    let was : (k : ℕ) → Contains (marked nodes.entries) k → Contains (marked inside.nodes.entries) k = λ k there. subst (λ (l : List ℕ). Contains l k) is there in
+    record {
+      sound = record {
+        small = sound.small;
+        blocks =
+            subst (λ (f : ℕ → Option (List ℕ)). AreBlocks (At f)) (same_held nodes)
+            (λ k plain there. opened_block (At (plain_at inside.nodes)) (Given name fetches.these) inside.root (subst (λ (f : ℕ → Option (List ℕ)). AreBlocks (At f)) (sym (same_held inside.nodes)) sound.blocks) k plain (fetches.fetched.came k plain there));
+        rising = subst (λ (l : List ℕ). IsStrictlyIncreasing l) (sym is) sound.rising;
+        low = λ k there. sound.low k (was k there);
+        live = λ k there. sound.live k (was k there);
+        dirty_held = λ k there.
+            let h = subst (λ (f : ℕ → Option (List ℕ)). IsAt (At f) k) (sym (same_held inside.nodes)) (sound.dirty_held k (was k there)) in
+            subst (λ (f : ℕ → Option (List ℕ)). IsAt (At f) k) (same_held nodes) (h.0, fetches.fetched.kept k h.0 h.1);
+        dirty_parents = λ k there two. subst (λ (l : List ℕ). Contains l (parent_of k)) (sym is) (sound.dirty_parents k (was k there) two);
+        few = subst (λ (l : List ℕ). length l ≤ MOST_DIRTY) (sym is) sound.few;
+      };
+      ordered = keeps.ordered well.ordered;
+    }
 
 -- why a read met a damage
 pub damage_comes : (result : Result ℕ TreeFault) (name : Name) (at : ℕ) (buffer : List ℕ) (old new : TreeState) (before after : HostState) → Reads result name at buffer old new before after → DamageComes result name at (length buffer) old before after

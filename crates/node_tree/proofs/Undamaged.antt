@@ -15,7 +15,7 @@ use Rattle.node_tree.proofs.Giving.{file_block, file_gives}
 use Rattle.node_tree.proofs.Unforging.{stays_backed}
 
 module _ (user : List ℕ) (files : Files) (name : Name) (sheet : Sheet) (these : List Answer) (user_length : length user ≡ 16) (all : AllByRecursion (IsAnswerOf files) these) (stands : Stands (contents (files name)) user sheet) where
-  none_foreign : (k : ℕ) → IsForeign sheet (Given name these) k → ⊥
+  pub none_foreign : (k : ℕ) → IsForeign sheet (Given name these) k → ⊥
   none_foreign k foreign = foreign.other (file_block files name these all k foreign.block foreign.gave ∙ block_is sheet stands.linked (contents (files name)) user user_length stands k foreign.node foreign.there)
 
   undamaged : (result : Result ℕ TreeFault) → DamageIsForeign result sheet (Given name these) → IsUndamaged result

@@ -1,6 +1,9 @@
 -- What contracts see of a tree's fields.
-use Rattle.std.specs.Prelude.{ℕ, [], List, map}
-use Rattle.node_tree.specs.State.{TreeState}
+use Rattle.std.specs.Prelude.{ℕ, List, map}
+use Rattle.std.specs.Ordering.{nat_cmp}
+use Rattle.std.specs.BTreeMap.{IsOrdered}
+use Rattle.node_tree.specs.State.{TreeState, IsSound}
+use Rattle.node_tree.specs.Marks.{marked}
 use Rattle.node_tree.specs.declared.nodes.HeldNode.{HeldNode}
 use Rattle.node_tree.specs.declared.tree.Tree.TheInside.{Inside}
 
@@ -16,5 +19,10 @@ state_of tree = record {
   root_tag = tree.root.1;
   base = tree.base;
   held = plains tree.nodes.entries;
-  dirty = [];
+  dirty = marked tree.nodes.entries;
 }
+
+-- what holds of each tree and of its nodes
+pub record IsWell (tree : Inside) : Type 0 where
+  pub sound : IsSound (state_of tree)
+  pub ordered : IsOrdered nat_cmp tree.nodes

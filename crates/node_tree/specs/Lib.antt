@@ -12,5 +12,10 @@ pub mod Fetching
 pub mod Backing
 pub mod Standing
 pub mod Reading
+pub mod Marks
+pub mod Applying
+pub mod Stepping
+pub mod Putting
+pub mod Zeroing
 pub mod Inside
 pub mod Copying

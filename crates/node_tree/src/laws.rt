@@ -5,6 +5,7 @@ ghost use Rattle.node_tree.specs.Parts.{OnePart, OnePieces};
 ghost use Rattle.node_tree.specs.Unforged.{EachUnforgedGives, EachFileGives};
 ghost use Rattle.node_tree.specs.Standing.{EachStandingFile, EachSmallSheet};
 ghost use Rattle.node_tree.specs.Reading.{OneEnding};
+ghost use Rattle.node_tree.specs.Stepping.{SteppedStaysBacked};
 
 /// A file stands for at most one path, nonce and content under a user's key.
 pub fn file_stands_for_one()
@@ -45,4 +46,9 @@ pub fn file_is_given()
 /// The same answers lead two reads of a tree to one end, where no call of the host failed and memory was there.
 pub fn reads_are_decided()
     ensures { OneEnding }
+{}
+
+/// A tree that a sheet backs is backed by it after a step, and its content is stepped.
+pub fn steps_stay_backed()
+    ensures { SteppedStaysBacked }
 {}

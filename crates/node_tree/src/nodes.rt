@@ -1,9 +1,11 @@
 //! The nodes that a tree keeps, and the fetching of those that it lacks.
-ghost use Rattle.std.specs.Prelude.{◌≡◌, ◌⊎◌, ◌^◌, ◌<◌, ◌≤◌, ◌==◌, ℕ, List, [], ◌∷◌, All, length, OnOk, OnErr, IfErr, if◌then◌else◌, Some};
+ghost use Rattle.std.specs.Prelude.{◌≡◌, ◌⊎◌, ◌^◌, ◌<◌, ◌≤◌, ◌==◌, ℕ, List, [], ◌∷◌, All, length, OnOk, OnErr, IfErr, if◌then◌else◌, Some, false};
 ghost use Rattle.std.specs.List.Sorted.{IsStrictlyIncreasing};
+ghost use Rattle.pf_io.specs.Host.{CountsRead};
 ghost use Rattle.node_layout.specs.Places.{parent_of};
 ghost use Rattle.node_tree.specs.Opened.{IsAt};
 ghost use Rattle.node_tree.specs.Nodes.{Keeps, plain_at};
+ghost use Rattle.node_tree.specs.Marks.{KeepsMarks, marked_at};
 ghost use Rattle.node_tree.specs.Fetching.{Asking, NodeEnds, HasEntry, AreRooted, Fetches, missing_of};
 
 use crate::fault::TreeFault;
@@ -12,11 +14,11 @@ use node_layout::{Damage, Kind, entry, parent_of, slot_of};
 use pf_io::Host;
 use std::collections::BTreeMap;
 
-/// A node that is kept: the key that it was opened under, and its plain text.
+/// A node that is kept: its plain text, and whether it is dirty, that is, was changed since the last sealing.
 #[derive(Drop)]
 pub(crate) struct HeldNode {
-    pub key: [u8; 16],
     pub plain: [u8; 4096],
+    pub dirty: bool,
 }
 
 fn damaged(node: u64, kind: Kind) -> TreeFault
@@ -35,6 +37,7 @@ fn open_node<H: Host>(
 ) -> Result<[u8; 4096], TreeFault>
     requires { number < 2 ^ 30 }
     ensures asking { Asking result 1 (H.state host.old) (H.state host.new) }
+    ensures counts { CountsRead 4096 (H.state host.old) (H.state host.new) }
     ensures ends { NodeEnds result name.now number (key.now, tag.now) (H.state host.old) (H.state host.new) }
 {
     let mut block = [0; 4096];
@@ -67,18 +70,22 @@ fn entry_of(
     }
 }
 
-// Keeps a node.
-fn keep(
+// Keeps a node that is not dirty.
+pub(crate) fn keep(
     nodes: &mut BTreeMap<u64, HeldNode>,
     number: u64,
-    key: [u8; 16],
     plain: [u8; 4096],
 ) -> Result<(), TreeFault>
     ensures ok { OnOk result ((k : ℕ) → plain_at nodes.new k ≡ (if k == number then Some plain else plain_at nodes.old k)) }
     ensures err { OnErr result ((k : ℕ) → plain_at nodes.new k ≡ plain_at nodes.old k) }
+    ensures marks { marked_at nodes.old number ≡ false → KeepsMarks nodes.old nodes.new }
     ensures memory { IfErr result (λ fault. fault ≡ TreeFault.Memory) }
 {
-    match nodes.insert(number, HeldNode { key, plain }) {
+    let node = HeldNode {
+        plain,
+        dirty: false,
+    };
+    match nodes.insert(number, node) {
         Ok(_) => Ok(()),
         Err(_) => Err(TreeFault::Memory),
     }
@@ -96,13 +103,14 @@ fn fetch<H: Host>(
     requires known { (number ≡ 1) ⊎ ((2 ≤ number) × IsAt (Keeps nodes.old) (parent_of number)) }
     ensures asking { Asking result (length (missing_of (plain_at nodes.old) (number ∷ []))) (H.state host.old) (H.state host.new) }
     ensures fetches { Fetches result name.now (number ∷ []) (plain_at nodes.old) (plain_at nodes.new) root.now (H.state host.old) (H.state host.new) }
+    ensures marks { KeepsMarks nodes.old nodes.new }
 {
     if nodes.contains_key(&number) {
         return Ok(());
     }
     let (key, tag) = entry_of(nodes, root, number);
     let plain = open_node(host, name, number, &key, &tag)?;
-    keep(nodes, number, key, plain)
+    keep(nodes, number, plain)
 }
 
 // Fetches those of some nodes that are not kept, in order.
@@ -118,6 +126,7 @@ pub(crate) fn fetch_all<H: Host>(
     requires rising { IsStrictlyIncreasing numbers.now }
     ensures asking { Asking result (length (missing_of (plain_at nodes.old) numbers.now)) (H.state host.old) (H.state host.new) }
     ensures fetches { Fetches result name.now numbers.now (plain_at nodes.old) (plain_at nodes.new) root.now (H.state host.old) (H.state host.new) }
+    ensures marks { KeepsMarks nodes.old nodes.new }
 {
     for number in numbers {
         fetch(nodes, root, host, name, *number)?;

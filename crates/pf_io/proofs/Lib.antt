@@ -4,12 +4,14 @@ pub mod Loans
 pub mod Runs
 pub mod Images
 pub mod Unchanged
-mod Replacing
+mod SideFiles
+mod SideEnds
 mod Exemplified
 mod Stored
 mod Recorded
 mod Stepping
 mod Reading
+mod Sources
 mod Filling
 mod Faulted
 mod Crashed

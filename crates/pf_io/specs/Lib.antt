@@ -11,7 +11,8 @@ pub mod Unchanged
 pub mod Replay
 pub mod Streams
 pub mod Words
-pub mod Replace
+pub mod SideFile
+pub mod SideSteps
 pub mod SplicingProofs
 pub mod Storage
 pub mod SoundProofs

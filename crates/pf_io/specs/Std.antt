@@ -1,8 +1,17 @@
--- Files, writers and the random device of the system.
+-- Files, readers, writers and the random device of the system.
 use Rattle.std.specs.Prelude.{ℕ, List, Option, None}
 use Rattle.pf_io.specs.Host.{HostState}
-use Rattle.pf_io.specs.Streams.{SinkState}
+use Rattle.pf_io.specs.Streams.{SourceState, SinkState}
 use Rattle.pf_io.specs.Words.{WordsState}
+
+-- a reader as a source, with the bytes that it will give where they are known
+pub record StdSourceState : Type 0 where
+  pub faults : ℕ
+  pub taken : ℕ
+  pub remaining : Option (List ℕ)
+
+abbrev pub source_of : StdSourceState → SourceState
+source_of state = record { faults = state.faults; taken = state.taken; left = None }
 
 -- a writer as a sink, with the bytes that the writer holds where they are known
 pub record StdSinkState : Type 0 where

@@ -5,7 +5,7 @@ ghost use Rattle.pf_io.specs.Host.{KeepsRest};
 ghost use Rattle.pf_io.specs.Streams.{CountsTaken, Gives, Takes};
 ghost use Rattle.pf_io.specs.Buffers.{MemSourceState, source_of, IsRead, MemSinkState, sink_of, IsWrite};
 
-use crate::counts::raise;
+use crate::counts::{raise, raise_by};
 use crate::storage::copy_from;
 use crate::{Bytes, Sink, Source, StreamFault};
 use std::alloc::Global;
@@ -68,12 +68,6 @@ fn is_failing(calls: &mut u64, failing: Option<u64>) -> bool
 }
 
 // Adds to a count that stands still at its last value.
-fn raise_by(count: &mut u64, n: usize)
-    ensures { count.new ≡ counted_by n count.old }
-{
-    *count = count.saturating_add(n as u64);
-}
-
 impl Source for MemSource {
     ghost state = { source_of };
 

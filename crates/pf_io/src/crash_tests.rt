@@ -1,5 +1,5 @@
 // Crashes of a host in memory after each call of a script, tried with each tear.
-use crate::{Host, HostFault, MemHost, Tear, replace_by_side_file};
+use crate::{Host, HostFault, MemHost, Tear, write_by_side_file};
 use std::alloc::Global;
 use std::test::Fail;
 
@@ -136,16 +136,25 @@ fn calls_on_absent_names_change_nothing(rt: HostRuntime) -> Result<(), Fail> {
 
 #[test]
 fn a_crash_leaves_the_old_file_or_the_new_one(rt: HostRuntime) -> Result<(), Fail> {
-    for calls in 0..5 {
-        for tear in EACH_TEAR {
-            let mut host = MemHost::new(rt.alloc());
-            host.put("a", b"old")?;
-            host.stop_at(calls);
-            let outcome = replace_by_side_file(&mut host, "a", "a.new", b"newer");
-            assert_eq!(rt; outcome.is_ok(), calls == 4);
-            let want: &[u8] = if calls == 4 { b"newer" } else { b"old" };
-            let host = host.after_crash(tear)?;
-            assert_eq!(rt; host.bytes("a"), Some(want), "{calls} calls, {tear:?}");
+    let long = [b'x'; 40_000];
+    // The bytes, and how many calls write them.
+    let cases: [(&[u8], u64); 3] = [(b"", 3), (b"newer", 4), (&long, 5)];
+    for (bytes, all) in cases {
+        for calls in 0..6 {
+            for tear in EACH_TEAR {
+                let mut host = MemHost::new(rt.alloc());
+                host.put("a", b"old")?;
+                host.stop_at(calls);
+                let outcome = write_by_side_file(&mut host, "a", "a.new", bytes);
+                assert_eq!(rt; outcome.is_ok(), calls >= all);
+                let want = if calls >= all {
+                    bytes
+                } else {
+                    b"old".as_slice()
+                };
+                let host = host.after_crash(tear)?;
+                assert_eq!(rt; host.bytes("a"), Some(want), "{calls} calls, {tear:?}");
+            }
         }
     }
     Ok(())

@@ -5,6 +5,7 @@ ghost use Rattle.pf_io.specs.Words.{TakesWord};
 ghost use Rattle.pf_io.specs.Std.{DeviceState, device_words_of};
 
 use crate::counts::raise;
+use crate::files::beside_streams;
 use crate::{Words, WordsFault};
 use std::fs::{self, File};
 use std::io::{self, ErrorKind, Read};
@@ -67,7 +68,7 @@ fn open_device<R: Files<File = File>>(system: &R) -> io::Result<File> {
     if !fs::metadata(system, DEVICE)?.file_type().is_char_device() {
         return Err(ErrorKind::InvalidInput.into());
     }
-    File::open(system, DEVICE)
+    beside_streams(File::open(system, DEVICE)?)
 }
 
 // Reads 16 bytes of the device; fewer are an error.

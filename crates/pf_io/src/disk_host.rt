@@ -17,7 +17,10 @@ use std::rt::Files;
 // No file is longer, and the system refuses a read that would reach further.
 const LONGEST: u64 = (1 << 63) - 1;
 
-const CHUNK: usize = 4096;
+// A file is read through a buffer of one of these sizes.
+const PAGE: usize = 4096;
+
+const PIECE: usize = 32_768;
 
 /// Real files by name, which tell their counts alone. A file is read and changed through one handle, which keeps other
 /// runs from changing what this one reads, and from reading what it changes. It faults where it cannot tell that, where
@@ -83,20 +86,19 @@ fn file_len<R: Files<File = File>>(
     }
 }
 
-// Reads once, and leaves what is behind the bytes that it read.
-fn read_once(file: &File, at: u64, to: &mut [u8]) -> io::Result<usize>
+// Reads once through a buffer, and leaves what is behind the bytes that it read.
+fn read_once(file: &File, at: u64, to: &mut [u8], buffer: &mut [u8]) -> io::Result<usize>
     ensures { IfOk result (λ n. KeepsRest n to.old to.new) }
 {
-    let mut chunk = [0; CHUNK];
     let reach = LONGEST.saturating_sub(at) as usize;
-    let room = CHUNK.min(to.len()).min(reach);
+    let room = buffer.len().min(to.len()).min(reach);
     if room == 0 {
         return Ok(0);
     }
     for _ in 0..u64::MAX {
-        match file.read_at(&mut chunk[..room], at) {
+        match file.read_at(&mut buffer[..room], at) {
             Ok(n) => {
-                to[..n].copy_from_slice(&chunk[..n]);
+                to[..n].copy_from_slice(&buffer[..n]);
                 return Ok(n);
             }
             Err(error) if error.kind() == ErrorKind::Interrupted => {}
@@ -106,13 +108,24 @@ fn read_once(file: &File, at: u64, to: &mut [u8]) -> io::Result<usize>
     Err(ErrorKind::Interrupted.into())
 }
 
+// Reads through a buffer that has the room, as far as a piece.
+fn read_some(file: &File, at: u64, to: &mut [u8]) -> io::Result<usize>
+    ensures { IfOk result (λ n. KeepsRest n to.old to.new) }
+{
+    if to.len() <= PAGE {
+        read_once(file, at, to, &mut [0; PAGE])
+    } else {
+        read_once(file, at, to, &mut [0; PIECE])
+    }
+}
+
 // Reads until the buffer is full or nothing more comes.
 fn fill(file: &File, at: u64, to: &mut [u8]) -> io::Result<usize>
     ensures { IfOk result (λ n. KeepsRest n to.old to.new) }
 {
     let mut filled = 0;
     for _ in 0..u64::MAX {
-        let n = read_once(file, at.saturating_add(filled as u64), &mut to[filled..])?;
+        let n = read_some(file, at.saturating_add(filled as u64), &mut to[filled..])?;
         if n == 0 {
             break;
         }

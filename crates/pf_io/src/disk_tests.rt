@@ -1,5 +1,8 @@
 use crate::tests::opened;
-use crate::{DeviceWords, DiskHost, Host, HostFault, Sink, StdSink, StreamFault, Text, Words};
+use crate::{
+    DeviceWords, DiskHost, Host, HostFault, Sink, Source, StdSink, StdSource, StreamFault, Text,
+    Words, write_by_side_file,
+};
 use std::alloc::Global;
 use std::fs::{self, File, Permissions};
 use std::os::unix::fs::{MetadataExt, PermissionsExt, symlink};
@@ -93,6 +96,40 @@ fn a_writer_is_a_sink(rt: HostRuntime) -> Result<(), Fail> {
     assert_eq!(rt; StdSink::new(rt.stdout()).write(b""), Ok(()));
     assert_eq!(rt; StdSink::new(rt.stderr()).write(b""), Ok(()));
     fs::remove_file(&rt, path)?;
+    Ok(())
+}
+
+#[test]
+fn a_reader_is_a_source(rt: HostRuntime) -> Result<(), Fail> {
+    let path = passing(&rt, "source")?;
+    let path = path.as_str();
+    fs::write(&rt, path, b"abc")?;
+    let mut source = StdSource::new(File::open(&rt, path)?);
+    let mut to = [9; 2];
+    assert_eq!(rt; (source.read(&mut to), to), (Ok(2), [b'a', b'b']));
+    assert_eq!(rt; (source.read(&mut to), to), (Ok(1), [b'c', b'b']));
+    assert_eq!(rt; (source.read(&mut to), to), (Ok(0), [b'c', b'b']));
+    let mut write_only = StdSource::new(File::create(&rt, path)?);
+    assert_eq!(rt; write_only.read(&mut to), Err(StreamFault));
+    assert_eq!(rt; StdSource::new(rt.stdin()).read(&mut []), Ok(0));
+    fs::remove_file(&rt, path)?;
+    Ok(())
+}
+
+#[test]
+fn real_files_are_written_and_read_in_pieces(rt: HostRuntime) -> Result<(), Fail> {
+    let name = passing(&rt, "pieces")?;
+    let side = passing(&rt, "pieces.new")?;
+    assert!(rt; side.as_str() != name.as_str());
+    let mut host = DiskHost::new(rt.clone()?);
+    let outcome = write_by_side_file(&mut host, name.as_str(), side.as_str(), &[b'x'; 40_000]);
+    assert_eq!(rt; outcome, Ok(()));
+    let mut to = [b'-'; 32_768];
+    assert_eq!(rt; host.read_at(name.as_str(), 1, &mut to), Ok(32_768));
+    assert_eq!(rt; to, [b'x'; 32_768]);
+    assert_eq!(rt; host.read_at(name.as_str(), 32_768, &mut to), Ok(7_232));
+    assert_eq!(rt; host.len(name.as_str()), Ok(Some(40_000)));
+    fs::remove_file(&rt, name.as_str())?;
     Ok(())
 }
 

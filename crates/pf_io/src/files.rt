@@ -1,11 +1,15 @@
 // Files of the system: how they are looked at, opened and locked.
 use std::fs::{self, File, Metadata, OpenOptions, TryLockError};
 use std::io::{self, ErrorKind};
+use std::os::fd::AsRawFd;
 use std::os::unix::fs::{MetadataExt, OpenOptionsExt};
 use std::rt::Files;
 
 // The system's number for a file system that has no locks left to give, as one over a network without them.
 const NO_LOCKS: i32 = 37;
+
+// Standard input, output and error have the numbers below this one.
+const STREAMS: i32 = 3;
 
 /// Which file of the system it is, whatever its names.
 #[derive(Clone, Copy, PartialEq, Eq)]
@@ -102,16 +106,34 @@ fn granted(outcome: Result<(), TryLockError>) -> io::Result<()> {
     }
 }
 
+/// The file under a number that no standard stream has. Where such a stream is closed, the system gives its number to
+/// the next file, and what is written to the stream would go into the file.
+pub(crate) fn beside_streams(file: File) -> io::Result<File> {
+    if file.as_raw_fd() >= STREAMS {
+        return Ok(file);
+    }
+    let other = file.try_clone()?;
+    if other.as_raw_fd() < STREAMS {
+        return Err(ErrorKind::Other.into());
+    }
+    Ok(other)
+}
+
 /// Opens a file that was looked at, and locks it against changes by other runs.
 pub(crate) fn open_to_read<R: Files<File = File>>(system: &R, name: &str) -> io::Result<File> {
-    let file = File::open(system, name)?;
+    let file = beside_streams(File::open(system, name)?)?;
     check_plain(&file.metadata()?)?;
     granted(file.try_lock_shared())?;
     Ok(file)
 }
 
 fn open_both<R: Files<File = File>>(system: &R, name: &str) -> io::Result<File> {
-    OpenOptions::new().read(true).write(true).open(system, name)
+    beside_streams(
+        OpenOptions::new()
+            .read(true)
+            .write(true)
+            .open(system, name)?,
+    )
 }
 
 /// Opens a file that was looked at, and locks it against all other runs. It must still stand at the name then.
@@ -126,7 +148,7 @@ pub(crate) fn open_to_change<R: Files<File = File>>(system: &R, name: &str) -> i
 pub(crate) fn open_new<R: Files<File = File>>(system: &R, name: &str) -> io::Result<File> {
     let mut options = OpenOptions::new();
     options.read(true).write(true).create_new(true).mode(0o600);
-    let file = options.open(system, name)?;
+    let file = beside_streams(options.open(system, name)?)?;
     granted(file.try_lock())?;
     check_name(system, name, id_of(&file.metadata()?))?;
     Ok(file)

@@ -5,7 +5,7 @@ use Rattle.pf_io.proofs.disk_host.fill.Goals as goal
 
 pub loop-preserved : goal.loop-preserved
 loop-preserved c =
-    let part : List ℕ = c.read_once.new.to in
+    let part : List ℕ = c.read_some.new.to in
     let once = c.in_ok-n.ensures in
     let within = c.loop.invariant.within in
     let whole : take (length c.loop.to - c.loop.filled) (drop c.loop.filled c.loop.to) ≡ drop c.loop.filled c.loop.to = take_all _ _ (omega (arith, length-drop c.loop.filled c.loop.to)) in

@@ -1,5 +1,3 @@
-use Rattle.std.proofs.Common.{rules, ◌≡◌, ◌≢◌, ◌↔◌, ℕ, Some, IsTrue, get_or, length, ◌+◌, ◌-◌, ◌*◌, ◌<◌, ◌≤◌, ◌/◌, ◌%◌, Bool, true, false, nat_eq, nat_lt, List, [], ◌∷◌, ◌++◌, slice_set, bit_and, bit_or, Fits, w8, w32, w64, Bor, MutBor}
-use Rattle.pf_io.specs.Numbers.{Spells}
 use Rattle.pf_io.proofs.Numbering.{plain_from_number, utf8_from_number, parses_number}
 use Rattle.pf_io.proofs.numbers.read_number.Goals as goal
 

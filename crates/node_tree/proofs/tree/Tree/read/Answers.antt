@@ -9,7 +9,7 @@ use Rattle.node_tree.specs.Fetching.{Fetches}
 use Rattle.node_tree.specs.Inside.{state_of}
 use Rattle.node_tree.specs.declared.fault.TreeFault.{TreeFault}
 use Rattle.node_tree.proofs.Rooted.{rooted, all_small}
-use Rattle.node_tree.proofs.OfTree.{tree_fails, tree_ok, tree_few, tree_none, front_of, data_held, sound_then, damage_comes}
+use Rattle.node_tree.proofs.OfTree.{tree_fails, tree_ok, tree_few, tree_none, front_of, data_held, kept_fields, well_then, damage_comes}
 use Rattle.node_tree.proofs.Unforging.{backed_read}
 use Rattle.node_tree.proofs.OfFile.{honest_read}
 use Rattle.node_tree.proofs.Undamaged.{standing_read}
@@ -34,7 +34,7 @@ returns-then-count-eq0-clause-standing g c =
 
 pub fetch_all-requires-clause-high : goal.fetch_all-requires-clause-high
 fetch_all-requires-clause-high g c =
-    let le : c.args.at + c.readable-count.result ≤ 2 ^ 40 = omega (arith, c.readable-count.ensures, c.self.invariant.small) in
+    let le : c.args.at + c.readable-count.result ≤ 2 ^ 40 = omega (arith, c.readable-count.ensures, c.self.invariant.sound.small) in
     subst (λ (l : List ℕ). All (λ k. k < 2 ^ 30) l) (sym c.deref.ensures.0) (all_small c.args.at (c.args.at + c.readable-count.result) c.touched-numbers.result.items le c.touched-numbers.ensures)
 
 pub fetch_all-requires-clause-rooted : goal.fetch_all-requires-clause-rooted
@@ -47,7 +47,7 @@ returns-in_err-fetch_all-clause-reads g c =
     let before = g.H.Host.state c.args.host.now in
     let after = g.H.Host.state c.fetch_all.new.host in
     let touched = subst (λ (l : List ℕ). AreTouched c.args.at (c.args.at + c.readable-count.result) l) (sym c.deref.ensures.0) c.touched-numbers.ensures in
-    tree_fails c.args.name.now c.args.at c.self.inside c.fetch_all.new.nodes c.args.self.now c.self.view_is before after c.deref.result.now c.readable-count.result (length c.args.to.now) c.readable-count.ensures touched
+    tree_fails c.args.name.now c.args.at c.self.inside c.fetch_all.new.nodes c.args.self.now c.self.view_is before after c.deref.result.now c.readable-count.result (length c.args.to.now) c.readable-count.ensures touched (kept_fields c.self.inside c.fetch_all.new.nodes c.self.invariant c.in_err-fetch_all.ensures.marks)
     c.from_residual.result p.0 c.args.to.now p.1 refl
     (subst (λ (x : TreeFault). Fetches (Err x) c.args.name.now c.deref.result.now (plain_at c.self.inside.nodes) (plain_at c.fetch_all.new.nodes) c.self.inside.root before after) (sym p.2) c.in_err-fetch_all.ensures.fetches)
 
@@ -55,7 +55,7 @@ pub returns-in_err-fetch_all-clause-few : goal.returns-in_err-fetch_all-clause-f
 returns-in_err-fetch_all-clause-few g c =
     let touched = subst (λ (l : List ℕ). AreTouched c.args.at (c.args.at + c.readable-count.result) l) (sym c.deref.ensures.0) c.touched-numbers.ensures in
     tree_few c.args.name.now c.args.at c.self.inside c.fetch_all.new.nodes c.args.self.now c.self.view_is (g.H.Host.state c.args.host.now) (g.H.Host.state c.fetch_all.new.host)
-    c.deref.result.now c.readable-count.result (length c.args.to.now) c.readable-count.ensures touched c.in_err-fetch_all.ensures.asking.counts
+    c.deref.result.now c.readable-count.result (length c.args.to.now) c.readable-count.ensures touched (kept_fields c.self.inside c.fetch_all.new.nodes c.self.invariant c.in_err-fetch_all.ensures.marks) c.in_err-fetch_all.ensures.asking.counts
 
 pub returns-in_err-fetch_all-clause-damage : goal.returns-in_err-fetch_all-clause-damage
 returns-in_err-fetch_all-clause-damage g c =
@@ -91,14 +91,14 @@ returns-clause-reads g c =
     let long : length c.copy_out.new.to ≡ c.readable-count.result = c.copy_out.auto.to ∙ front in
     let parts = front_of c.readable-count.result c.copy_out.new.to c.args.to.now long short in
     tree_ok c.args.name.now c.args.at c.self.inside c.fetch_all.new.nodes c.args.self.now c.self.view_is (g.H.Host.state c.args.host.now) (g.H.Host.state c.fetch_all.new.host)
-    c.deref.result.now c.readable-count.result (length c.args.to.now) c.readable-count.ensures touched tt (c.copy_out.new.to ++ drop c.readable-count.result c.args.to.now) parts.1
+    c.deref.result.now c.readable-count.result (length c.args.to.now) c.readable-count.ensures touched (kept_fields c.self.inside c.fetch_all.new.nodes c.self.invariant c.in_ok-fetch_all.ensures.marks) tt (c.copy_out.new.to ++ drop c.readable-count.result c.args.to.now) parts.1
     (parts.0 ∙ c.copy_out.ensures ∙ ap (λ (n : ℕ). bytes_of c.self.inside.first (kept_plain c.fetch_all.new.nodes) c.args.at n) front) c.in_ok-fetch_all.ensures.fetches
 
 pub returns-clause-few : goal.returns-clause-few
 returns-clause-few g c =
     let touched = subst (λ (l : List ℕ). AreTouched c.args.at (c.args.at + c.readable-count.result) l) (sym c.deref.ensures.0) c.touched-numbers.ensures in
     tree_few c.args.name.now c.args.at c.self.inside c.fetch_all.new.nodes c.args.self.now c.self.view_is (g.H.Host.state c.args.host.now) (g.H.Host.state c.fetch_all.new.host)
-    c.deref.result.now c.readable-count.result (length c.args.to.now) c.readable-count.ensures touched c.in_ok-fetch_all.ensures.asking.counts
+    c.deref.result.now c.readable-count.result (length c.args.to.now) c.readable-count.ensures touched (kept_fields c.self.inside c.fetch_all.new.nodes c.self.invariant c.in_ok-fetch_all.ensures.marks) c.in_ok-fetch_all.ensures.asking.counts
 
 pub returns-clause-backed : goal.returns-clause-backed
 returns-clause-backed g c =
@@ -117,10 +117,10 @@ returns-clause-standing g c =
 
 pub invariant_of-self : goal.invariant_of-self
 invariant_of-self g c =
-    sound_then {T = Unit {0}} (Err c.in_err-fetch_all.field-0.0) c.args.name.now c.deref.result.now c.self.inside c.fetch_all.new.nodes (g.H.Host.state c.args.host.now) (g.H.Host.state c.fetch_all.new.host) c.self.invariant
+    well_then {T = Unit {0}} (Err c.in_err-fetch_all.field-0.0) c.args.name.now c.deref.result.now c.self.inside c.fetch_all.new.nodes (g.H.Host.state c.args.host.now) (g.H.Host.state c.fetch_all.new.host) c.self.invariant c.in_err-fetch_all.ensures.marks
     c.in_err-fetch_all.ensures.fetches
 
 pub invariant_of-self-2 : goal.invariant_of-self-2
 invariant_of-self-2 g c =
-    sound_then {T = Unit {0}} (Ok tt) c.args.name.now c.deref.result.now c.self.inside c.fetch_all.new.nodes (g.H.Host.state c.args.host.now) (g.H.Host.state c.fetch_all.new.host) c.self.invariant
+    well_then {T = Unit {0}} (Ok tt) c.args.name.now c.deref.result.now c.self.inside c.fetch_all.new.nodes (g.H.Host.state c.args.host.now) (g.H.Host.state c.fetch_all.new.host) c.self.invariant c.in_ok-fetch_all.ensures.marks
     c.in_ok-fetch_all.ensures.fetches
