@@ -1,1 +1,9 @@
 pub mod Naming
+pub mod Checking
+pub mod Indexed
+pub mod Entered
+pub mod Steps
+pub mod Normal
+pub mod Accepted
+pub mod Deciding
+pub mod SumLists

@@ -1,5 +1,5 @@
 -- Entries that grow by one item after another, and an index of them by name.
-use Rattle.std.specs.Prelude.{◌≡◌, ℕ, if◌then◌else◌, List, [], ◌∷◌, position, Option, Some, None, bytes_eq, String}
+use Rattle.std.specs.Prelude.{◌≡◌, ℕ, suc, if◌then◌else◌, List, [], ◌∷◌, Option, Some, None, option_map, bytes_eq, String}
 use Rattle.std.specs.Option.{option_or}
 use Rattle.std.specs.BTreeMap.{BTreeMap, get_by_text}
 use Rattle.std.specs.declared.alloc.Global.{Global}
@@ -21,8 +21,14 @@ abbrev pub added : List Trusted → Trusted → List Trusted
 added [] t = t ∷ []
 added (e ∷ es) t = if bytes_eq t.name e.name then joined e t ∷ es else e ∷ added es t
 
+-- the place of the first entry of a name, and its sum
 abbrev pub place_of : List ℕ → List Trusted → Option ℕ
-place_of name es = position (λ e. bytes_eq name e.name) es
+place_of name [] = None
+place_of name (e ∷ es) = if bytes_eq name e.name then Some 0 else option_map suc (place_of name es)
+
+abbrev pub entry_sum : List ℕ → List Trusted → Option (List ℕ)
+entry_sum name [] = None
+entry_sum name (e ∷ es) = if bytes_eq name e.name then e.sum else entry_sum name es
 
 -- the index finds the first entry of each name
 abbrev pub Finds : List Trusted → BTreeMap (String Global) ℕ → Type 0

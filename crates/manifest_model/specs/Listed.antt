@@ -101,14 +101,14 @@ key_digits name text = if is_some (bytes_of 16 text) then None else Some (faults
 abbrev pub key_refusal : List ℕ → List ℕ → Data → Option ManifestFault
 key_refusal place name d = first_of (needs as_str place (Some d) ∷ key_digits name (text_or [] (Some d)) ∷ [])
 
-abbrev pub keys_refusal : Members → Option ManifestFault
-keys_refusal no_members = None
-keys_refusal (member name d ms) = option_or (key_refusal (at_key (codes "fs.insecure__keys") name) name d) (keys_refusal ms)
+abbrev pub keys_refusal : List ℕ → Members → Option ManifestFault
+keys_refusal place no_members = None
+keys_refusal place (member name d ms) = option_or (key_refusal (at_key place name) name d) (keys_refusal place ms)
 
 unfoldable pub keying_refusal : Members → Option ManifestFault
 keying_refusal ms =
     let field = get_member (codes "insecure__keys") ms in
-    first_of (wants as_table (codes "fs.insecure__keys") field ∷ keys_refusal (members_in field) ∷ [])
+    first_of (wants as_table (codes "fs.insecure__keys") field ∷ keys_refusal (codes "fs.insecure__keys") (members_in field) ∷ [])
 
 abbrev pub keys_of : Members → List (List ℕ × List ℕ)
 keys_of no_members = []
@@ -168,8 +168,11 @@ pub record IsTextOf (bytes : List ℕ) (ms : Members) : Type 0 where
   pub utf8 : IsUtf8 bytes
   pub toml : parse_document bytes ≡ Some ms
 
+abbrev pub IsNoText : List ℕ → Type 0
+IsNoText bytes = (ms : Members) → IsTextOf bytes ms → ⊥
+
 -- What bytes are read as: they are no TOML text, or the outcome is that of their table.
 pub data ReadsAs (bytes : List ℕ) (outcome : Result Seen ManifestFault) : Type 0 where
-  NoText : ((ms : Members) → IsTextOf bytes ms → ⊥) → outcome ≡ Err faults.NotToml → ReadsAs bytes outcome
+  NoText : IsNoText bytes → outcome ≡ Err faults.NotToml → ReadsAs bytes outcome
   IsListed : (ms : Members) (lists : Lists) → IsTextOf bytes ms → Listed ms (Ok lists) → outcome ≡ Ok (record { «table» = ms; lists = lists }) → ReadsAs bytes outcome
   IsRefused : (ms : Members) (fault : ManifestFault) → IsTextOf bytes ms → Listed ms (Err fault) → outcome ≡ Err fault → ReadsAs bytes outcome

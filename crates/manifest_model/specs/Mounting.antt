@@ -28,27 +28,27 @@ names_file None = true
 names_file (Some name) = is_name name
 
 -- the uri of a mount of a kind
-abbrev pub source_refusal : MountKind → List ℕ → Option ManifestFault
-source_refusal kind uri = if is_other kind || names_file (file_name uri) then None else Some (faults.BadUri uri)
+abbrev pub file_refusal : MountKind → List ℕ → Option ManifestFault
+file_refusal kind uri = if is_other kind || names_file (file_name uri) then None else Some (faults.BadUri uri)
 
--- the place where a mount's files stand, by an absolute name
-abbrev pub path_refusal : List ℕ → List ℕ → Option ManifestFault
-path_refusal place path = if is_absolute path then None else bad_field place
+-- where the files of a mount stand: an absolute name
+abbrev pub path_refusal : List ℕ → Option Data → Option ManifestFault
+path_refusal place field = first_of (needs as_str place field ∷ (if is_absolute (text_or [] field) then None else bad_field place) ∷ [])
 
-abbrev pub uri_refusal : List ℕ → List ℕ → Option Data → Option ManifestFault
-uri_refusal kind place field = if bytes_eq kind (codes "tmpfs") then wants as_str place field else needs as_str place field
+-- where they come from: a uri, which `tmpfs` does not need
+abbrev pub source_refusal : List ℕ → List ℕ → Option Data → Option ManifestFault
+source_refusal kind place field = first_of (
+    (if bytes_eq kind (codes "tmpfs") then wants as_str place field else needs as_str place field)
+    ∷ file_refusal (kind_of kind) (text_or [] field)
+    ∷ [])
 
 -- why an item of the list of mounts is refused
 unfoldable pub mount_refusal : List ℕ → Data → Option ManifestFault
-mount_refusal place d =
-    let kind = type_text (get (codes "type") d) in
-    first_of (
+mount_refusal place d = first_of (
     needs as_table place (Some d)
     ∷ wants as_str (at_key place (codes "type")) (get (codes "type") d)
-    ∷ needs as_str (at_key place (codes "path")) (get (codes "path") d)
-    ∷ path_refusal (at_key place (codes "path")) (text_or [] (get (codes "path") d))
-    ∷ uri_refusal kind (at_key place (codes "uri")) (get (codes "uri") d)
-    ∷ source_refusal (kind_of kind) (text_or [] (get (codes "uri") d))
+    ∷ path_refusal (at_key place (codes "path")) (get (codes "path") d)
+    ∷ source_refusal (type_text (get (codes "type") d)) (at_key place (codes "uri")) (get (codes "uri") d)
     ∷ wants as_str (at_key place (codes "key_name")) (get (codes "key_name") d)
     ∷ [])
 
@@ -77,7 +77,7 @@ unfoldable pub root_refusal : Members → Option ManifestFault
 root_refusal root = first_of (
     wants as_str (codes "fs.root.type") (get_member (codes "type") root)
     ∷ wants as_str (codes "fs.root.uri") (get_member (codes "uri") root)
-    ∷ source_refusal (kind_of (type_text (get_member (codes "type") root))) (root_uri root)
+    ∷ file_refusal (kind_of (type_text (get_member (codes "type") root))) (root_uri root)
     ∷ [])
 
 -- the mount of the root, at `/`

@@ -25,7 +25,7 @@ first_of (check ∷ checks) = option_or check (first_of checks)
 
 -- the place that the code keeps
 abbrev pub place_step : Place-F (List ℕ) → List ℕ
-place_step (Place-F.Top key) = key.now
+place_step (Place-F.Path keys) = keys.now
 place_step (Place-F.Key outer key) = at_key outer.now key.now
 place_step (Place-F.Item outer k) = at_item outer.now k
 

@@ -3,7 +3,7 @@ ghost use Rattle.std.specs.Prelude.{◌≡◌, Some, option_map, ⊤};
 ghost use Rattle.toml.specs.Data.{as_str, as_array, as_table, get_member, no_members};
 ghost use Rattle.toml.specs.View.{view, array_view, table_view};
 ghost use Rattle.manifest_model.specs.Places.{place_text, Checks};
-ghost use Rattle.manifest_model.specs.Fields.{wants, needs, field_in, members_in, bytes_of, seen_value};
+ghost use Rattle.manifest_model.specs.Fields.{wants, needs, text_or, field_in, members_in, bytes_of, seen_value};
 
 use crate::fault::ManifestFault;
 use crate::places::Place;
@@ -44,6 +44,21 @@ pub(crate) fn wanted_text<'v>(
     match field {
         None => Ok(None),
         Some(value) => Ok(Some(text_in(alloc, place, value)?)),
+    }
+}
+
+/// The text of a field, which must be a string where it is there, or a default.
+pub(crate) fn text_or<'v>(
+    alloc: Global,
+    place: &Place<'_>,
+    field: Option<&'v Value>,
+    default: &'v str,
+) -> Result<&'v str, ManifestFault>
+    ensures { Checks (wants as_str (place_text place.now) (seen_value field.entry)) (λ text. text.now ≡ text_or default.now (seen_value field.entry)) result }
+{
+    match field {
+        None => Ok(default),
+        Some(value) => text_in(alloc, place, value),
     }
 }
 

@@ -4,6 +4,7 @@
 mod entries;
 mod fault;
 mod fields;
+mod laws;
 mod listing;
 mod manifest;
 mod mounting;
@@ -17,5 +18,6 @@ mod walk;
 
 pub use entries::{Mount, MountKind, Policy, Trusted};
 pub use fault::ManifestFault;
+pub use laws::{name_is_normal, table_has_its_outcome};
 pub use manifest::Manifest;
 pub use names::normal_name;

@@ -1,15 +1,14 @@
 // All that a table lists.
-ghost use Rattle.std.specs.Prelude.{◌≡◌, [], codes, option_map, map, ⊤};
-ghost use Rattle.toml.specs.Data.{as_str, get_member, no_members};
+ghost use Rattle.std.specs.Prelude.{◌≡◌, ◌⊎◌, MatchResult, ⊤};
+ghost use Rattle.toml.specs.Data.{no_members};
 ghost use Rattle.toml.specs.View.{view, array_view, table_view};
 ghost use Rattle.manifest_model.specs.Places.{place_text, Checks};
-ghost use Rattle.manifest_model.specs.Listed.{section, known_policy, policy_named, policy_refusal, policy_of, allowed_item_refusal, allowed_uri, allowed_items_refusal, allowed_uris, allowed_refusal, allowed_of, key_refusal, keys_refusal, keying_refusal, refusal};
-ghost use Rattle.manifest_model.specs.Fields.{or_else};
-ghost use Rattle.manifest_model.specs.Reading.{IsTaken};
+ghost use Rattle.manifest_model.specs.Listed.{policy_refusal, policy_of, allowed_item_refusal, allowed_uri, allowed_items_refusal, allowed_uris, allowed_refusal, allowed_of, key_refusal, keys_refusal, keying_refusal, refusal, IsTextOf, IsNoText};
+ghost use Rattle.manifest_model.specs.Reading.{IsTaken, key_at};
 
 use crate::entries::{Mount, Policy, Trusted};
 use crate::fault::ManifestFault;
-use crate::fields::{bytes_of, member, text_in, wanted_list, wanted_table, wanted_text};
+use crate::fields::{bytes_of, member, text_in, text_or, wanted_list, wanted_table};
 use crate::mounting::mounts_of;
 use crate::names::normal_name;
 use crate::places::Place;
@@ -21,12 +20,13 @@ use toml::Table;
 use toml::value::{Array, Value};
 
 // The policy of the table `sgx`.
+#[tactic(auto, unfolding(crate::specs::Listed::policy_refusal, crate::specs::Listed::policy_of))]
 fn policy_of(alloc: Global, sgx: &Table) -> Result<Policy, ManifestFault>
     ensures { Checks (policy_refusal (table_view sgx.now)) (λ policy. policy ≡ policy_of (table_view sgx.now)) result }
 {
-    let place = Place::Key(&Place::Top("sgx"), "file_check_policy");
-    let text = wanted_text(alloc, &place, member(sgx, "file_check_policy"))?;
-    match text.unwrap_or("strict") {
+    let place = Place::Path("sgx.file_check_policy");
+    let text = text_or(alloc, &place, member(sgx, "file_check_policy"), "strict")?;
+    match text {
         "strict" => Ok(Policy::Strict),
         "allow_all_but_log" => Ok(Policy::AllowAllButLog),
         text => {
@@ -37,6 +37,7 @@ fn policy_of(alloc: Global, sgx: &Table) -> Result<Policy, ManifestFault>
 }
 
 // The normal uri of an item of the allowed files.
+#[tactic(auto, unfolding(crate::specs::Listed::allowed_item_refusal, crate::specs::Listed::allowed_uri))]
 fn allowed_item(alloc: Global, place: &Place<'_>, item: &Value) -> Result<Text, ManifestFault>
     ensures { Checks (allowed_item_refusal (place_text place.now) (view item.now)) (λ uri. uri ≡ allowed_uri (view item.now)) result }
 {
@@ -60,10 +61,11 @@ fn allowed_items(
 }
 
 // The allowed files of the table `sgx`.
+#[tactic(auto, unfolding(crate::specs::Listed::allowed_refusal, crate::specs::Listed::allowed_of))]
 fn allowed_of(alloc: Global, sgx: &Table) -> Result<Vec<Text>, ManifestFault>
     ensures { Checks (allowed_refusal (table_view sgx.now)) (λ uris. uris.items ≡ allowed_of (table_view sgx.now)) result }
 {
-    let place = Place::Key(&Place::Top("sgx"), "allowed_files");
+    let place = Place::Path("sgx.allowed_files");
     match wanted_list(alloc, &place, member(sgx, "allowed_files"))? {
         Some(items) => allowed_items(alloc, &place, items),
         None => Ok(Vec::new(alloc)),
@@ -84,18 +86,30 @@ fn check_key(alloc: Global, place: &Place<'_>, name: &str, value: &Value) -> Res
     }
 }
 
+// Checks each key of a table of keys.
+fn check_each<'a>(
+    alloc: Global,
+    place: &'a Place<'a>,
+    keys: &'a Table,
+) -> Result<(), ManifestFault>
+    ensures { Checks (keys_refusal (place_text place.now) (table_view keys.now)) (λ _. ⊤) result }
+{
+    for (name, value) in keys.iter() {
+        let name = name.as_str();
+        check_key(alloc, &Place::Key(place, name), name, value)?;
+    }
+    Ok(())
+}
+
 // Checks the keys of the table `fs`.
+#[tactic(auto, unfolding(crate::specs::Listed::keying_refusal))]
 fn check_keys(alloc: Global, fs: &Table, absent: &Table) -> Result<(), ManifestFault>
     requires { table_view absent.now ≡ no_members }
     ensures { Checks (keying_refusal (table_view fs.now)) (λ _. ⊤) result }
 {
-    let place = Place::Key(&Place::Top("fs"), "insecure__keys");
+    let place = Place::Path("fs.insecure__keys");
     let keys = wanted_table(alloc, &place, member(fs, "insecure__keys"), absent)?;
-    for (name, value) in keys.iter() {
-        let name = name.as_str();
-        check_key(alloc, &Place::Key(&place, name), name, value)?;
-    }
-    Ok(())
+    check_each(alloc, &place, keys)
 }
 
 /// What is taken from a table; keys are looked up in the table itself.
@@ -108,13 +122,14 @@ pub(crate) struct Taken {
 }
 
 /// Takes from a table what it lists.
+#[tactic(auto, unfolding(crate::specs::Listed::refusal))]
 pub(crate) fn take(alloc: Global, table: &Table) -> Result<Taken, ManifestFault>
     ensures { Checks (refusal (table_view table.now)) (λ taken. IsTaken (table_view table.now) taken) result }
 {
     walk_table(alloc, table)?;
     let absent = Table::new(alloc);
-    let sgx = wanted_table(alloc, &Place::Top("sgx"), member(table, "sgx"), &absent)?;
-    let fs = wanted_table(alloc, &Place::Top("fs"), member(table, "fs"), &absent)?;
+    let sgx = wanted_table(alloc, &Place::Path("sgx"), member(table, "sgx"), &absent)?;
+    let fs = wanted_table(alloc, &Place::Path("fs"), member(table, "fs"), &absent)?;
     let policy = policy_of(alloc, sgx)?;
     let trusted = trusted_of(alloc, sgx)?;
     let allowed = allowed_of(alloc, sgx)?;
@@ -126,4 +141,24 @@ pub(crate) fn take(alloc: Global, table: &Table) -> Result<Taken, ManifestFault>
         allowed,
         mounts,
     })
+}
+
+/// The table of a TOML text in UTF-8.
+pub(crate) fn table_of(alloc: Global, bytes: &[u8]) -> Result<Table, ManifestFault>
+    ensures { MatchResult result (λ made. IsTextOf bytes.now (table_view made)) (λ fault. (fault ≡ ManifestFault.Memory) ⊎ (IsNoText bytes.now × (fault ≡ ManifestFault.NotToml))) }
+{
+    match toml::table_from_slice(alloc, bytes) {
+        Ok(table) => Ok(table),
+        Err(e) if e.is_memory() => Err(ManifestFault::Memory),
+        Err(_) => Err(ManifestFault::NotToml),
+    }
+}
+
+/// The key of a name in a table.
+pub(crate) fn key_in(table: &Table, name: &str) -> Option<[u8; 16]>
+    ensures { result ≡ key_at name.now (table_view table.now) }
+{
+    let keys = member(table, "fs")?.get("insecure__keys")?;
+    let digits = keys.get(name)?.as_str()?;
+    bytes_of::<16>(digits)
 }

@@ -3,13 +3,13 @@ ghost use Rattle.std.specs.Prelude.{◌≡◌, ◌<◌, ◌⊎◌, ℕ, List, Re
 
 use crate::entries::{Mount, Policy, Trusted};
 use crate::fault::ManifestFault;
-use crate::fields::{bytes_of, member};
-use crate::listing::{Taken, take};
-use crate::summing::with_trusted;
+use crate::listing::{Taken, key_in, table_of, take};
+use crate::summing::with_sums_of;
 use pf_io::{Memory, Text};
 use std::alloc::Global;
 use std::marker::Model;
 use toml::Table;
+use toml::ser::Error as PrintError;
 
 /// A manifest, which contracts see as its table and what is listed of it.
 #[derive(Drop)]
@@ -44,7 +44,7 @@ impl Manifest {
     ghost use Rattle.manifest_model.specs.Listed.{Seen, ReadsAs, IsTextOf, refusal, lists_of};
     ghost use Rattle.manifest_model.specs.Reading.{IsTaken};
     ghost use Rattle.toml.specs.View.{table_view};
-    ghost use Rattle.manifest_model.specs.Summed.{FitSums, summed};
+    ghost use Rattle.manifest_model.specs.Summed.{FitSums, with_trusted, summed_items};
     ghost use Rattle.manifest_model.specs.declared.fault.ManifestFault.{ManifestFault as Fault};
 
     // The manifest of a table, and of what is taken from it.
@@ -69,18 +69,21 @@ impl Manifest {
         }
     }
 
+    // The manifest of bytes.
+    fn read_whole(alloc: Global, bytes: &[u8]) -> Result<Manifest, ManifestFault>
+        ensures { (result ≡ Err ManifestFault.Memory) ⊎ ReadsAs bytes.now result }
+    {
+        let table = table_of(alloc, bytes)?;
+        let taken = take(alloc, &table)?;
+        Ok(Manifest::of(table, taken))
+    }
+
     /// Reads a manifest: a TOML text in UTF-8. The first refusal in the order of the profile decides.
     pub fn read(alloc: Global, bytes: &[u8]) -> Result<Manifest, ManifestFault>
         ensures outcome { (result ≡ Err ManifestFault.Memory) ⊎ ReadsAs bytes.now result }
         ensures no_other { (outcome : Result Seen Fault) → ReadsAs bytes.now outcome → (result ≡ Err ManifestFault.Memory) ⊎ (result ≡ outcome) }
     {
-        let table = match toml::table_from_slice(alloc, bytes) {
-            Ok(table) => table,
-            Err(e) if e.is_memory() => return Err(ManifestFault::Memory),
-            Err(_) => return Err(ManifestFault::NotToml),
-        };
-        let taken = take(alloc, &table)?;
-        Ok(Manifest::of(table, taken))
+        Manifest::read_whole(alloc, bytes)
     }
 
     /// What is done with a file that is in neither list.
@@ -141,16 +144,16 @@ impl Manifest {
     pub fn key(&self, name: &str) -> Option<[u8; 16]>
         ensures { result ≡ lookup (bytes_eq name.now) self.now.lists.keys }
     {
-        let keys = member(&self.table, "fs")?.get("insecure__keys")?;
-        bytes_of::<16>(keys.get(name)?.as_str()?)
+        key_in(&self.table, name)
     }
 
     /// The manifest with all sums, one for each trusted file in their order; a listed one stays.
     pub fn with_sums(&self, alloc: Global, sums: &[[u8; 32]]) -> Result<Manifest, Memory>
         requires { FitSums self.now.lists.trusted sums.now }
-        ensures { IfOk result (λ made. made ≡ summed self.now sums.now) }
+        ensures whole { IfOk result (λ made. made.«table» ≡ with_trusted (summed_items self.now.lists.trusted sums.now) self.now.«table») }
+        ensures lists { IfOk result (λ made. made.lists ≡ lists_of made.«table») }
     {
-        let table = with_trusted(alloc, &self.table, self.trusted.as_slice(), sums)?;
+        let table = with_sums_of(alloc, &self.table, self.trusted.as_slice(), sums)?;
         match take(alloc, &table) {
             Ok(taken) => Ok(Manifest::of(table, taken)),
             Err(_) => Err(Memory),
@@ -163,7 +166,8 @@ impl Manifest {
     {
         match toml::table_to_string(alloc, &self.table) {
             Ok(text) => Ok(Text::from(text)),
-            Err(_) => Err(Memory),
+            Err(PrintError::OutOfMemory) => Err(Memory),
+            Err(PrintError::DateInvalid) => unreachable!(),
         }
     }
 }

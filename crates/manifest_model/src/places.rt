@@ -9,8 +9,8 @@ use std::alloc::Global;
 /// Where a value stands.
 #[derive(Clone, Copy)]
 pub(crate) enum Place<'a> {
-    /// A key of the top table.
-    Top(&'a str),
+    /// A path of keys, joined by `.`.
+    Path(&'a str),
     /// A key of the table at a place.
     Key(&'a Place<'a>, &'a str),
     /// An item of the list at a place, counted from 0.
@@ -23,7 +23,7 @@ impl Place<'_> {
         ensures { IfOk result (λ text. string_bytes text ≡ place_text self.now) }
     {
         match self {
-            Place::Top(key) => Ok(String::from_str(alloc, key)?),
+            Place::Path(keys) => Ok(String::from_str(alloc, keys)?),
             Place::Key(outer, key) => {
                 let mut text = outer.text(alloc)?;
                 text.push_str(".")?;

@@ -28,8 +28,8 @@ fn summed_items(alloc: Global, entries: &[Trusted], sums: &[[u8; 32]]) -> Result
     ensures { IfOk result (λ items. array_view items ≡ summed_items entries.now sums.now) }
 {
     let mut items = Array::new(alloc);
-    for (entry, sum) in entries.iter().zip(sums) {
-        items.push(summed_item(alloc, entry.uri.as_str(), sum)?)?;
+    for (k, entry) in entries.iter().enumerate() {
+        items.push(summed_item(alloc, entry.uri.as_str(), &sums[k])?)?;
     }
     Ok(items)
 }
@@ -45,7 +45,7 @@ fn replaced(alloc: Global, table: &Table, key: &str, value: Value) -> Result<Tab
 }
 
 /// A copy of a table with a list of the entries and their sums in place of its trusted files, where it has them.
-pub(crate) fn with_trusted(
+pub(crate) fn with_sums_of(
     alloc: Global,
     table: &Table,
     entries: &[Trusted],

@@ -1,13 +1,13 @@
 // The list of trusted files.
-ghost use Rattle.std.specs.Prelude.{◌≡◌, ◌⊎◌, Some, None, [], ℕ, List, codes, option_map, MatchOption, MatchResult, true, false, ⊤};
-ghost use Rattle.std.specs.BTreeMap.{get_by_text};
+ghost use Rattle.std.specs.Prelude.{◌≡◌, Some, None, [], option_map, MatchResult};
+ghost use Rattle.std.specs.Option.{option_or};
 ghost use Rattle.toml.specs.View.{view, array_view, table_view};
 ghost use Rattle.manifest_model.specs.Names.{file_name};
 ghost use Rattle.manifest_model.specs.Places.{place_text, Checks, Stops};
-ghost use Rattle.manifest_model.specs.Trusting.{is_file, file_refusal, own_refusal, item_of, uri_field, items_refusal, items_of, entries_of, sum_refusal, sum_of, two_sums};
+ghost use Rattle.manifest_model.specs.Trusting.{is_file, file_refusal, own_refusal, item_of, uri_field, items_refusal, items_of, entries_of, sum_refusal, sum_of};
 ghost use Rattle.manifest_model.specs.Fields.{seen_value};
 ghost use Rattle.manifest_model.specs.Listed.{trusted_refusal, trusted_of};
-ghost use Rattle.manifest_model.specs.Indexing.{Finds, added, joined, clash};
+ghost use Rattle.manifest_model.specs.Indexing.{Finds, added, entry_sum, clash};
 
 use crate::entries::Trusted;
 use crate::fault::ManifestFault;
@@ -64,6 +64,7 @@ fn uri_field(item: &Value) -> Option<&Value>
 }
 
 // An item by itself: a string, which is its uri, or a table with a uri and maybe a sum.
+#[tactic(auto, unfolding(crate::specs::Trusting::own_refusal, crate::specs::Trusting::item_of))]
 fn trusted_item(alloc: Global, place: &Place<'_>, item: &Value) -> Result<Trusted, ManifestFault>
     ensures { Checks (own_refusal (place_text place.now) (view item.now)) (λ t. t ≡ item_of (view item.now)) result }
 {
@@ -81,18 +82,17 @@ fn trusted_item(alloc: Global, place: &Place<'_>, item: &Value) -> Result<Truste
     })
 }
 
-// Joins a further item to the entry of its name, which takes the item's sum where it has none.
-fn join(entry: &mut Trusted, item: Trusted) -> Result<(), ManifestFault>
-    ensures { MatchResult result (λ _. (clash entry.old.sum item ≡ None) × (entry.new ≡ joined entry.old item)) (λ fault. clash entry.old.sum item ≡ Some fault) }
+// The sum of an entry with a further item of its name.
+fn joined_sum(sum: Option<[u8; 32]>, item: Trusted) -> Result<Option<[u8; 32]>, ManifestFault>
+    ensures { MatchResult result (λ joined. (clash sum item ≡ None) × (joined ≡ option_or sum item.sum)) (λ fault. clash sum item ≡ Some fault) }
 {
-    match (entry.sum, item.sum) {
+    match (sum, item.sum) {
         (Some(first), Some(second)) if first != second => {
-            return Err(ManifestFault::TwoSums { uri: item.uri });
+            Err(ManifestFault::TwoSums { uri: item.uri })
         }
-        (None, sum) => entry.sum = sum,
-        _ => {}
+        (Some(first), _) => Ok(Some(first)),
+        (None, sum) => Ok(sum),
     }
-    Ok(())
 }
 
 // The place of the entry of each name.
@@ -106,10 +106,14 @@ fn add(
     item: Trusted,
 ) -> Result<(), ManifestFault>
     requires { Finds entries.old.items index.old }
-    ensures { MatchResult result (λ _. (two_sums entries.old.items item ≡ None) × (entries.new.items ≡ added entries.old.items item) × Finds entries.new.items index.new) (Stops (two_sums entries.old.items item)) }
+    ensures { MatchResult result (λ _. (clash (entry_sum item.name entries.old.items) item ≡ None) × (entries.new.items ≡ added entries.old.items item) × Finds entries.new.items index.new) (Stops (clash (entry_sum item.name entries.old.items) item)) }
 {
     match index.get(item.name.as_str()).copied() {
-        Some(at) => join(&mut entries[at], item),
+        Some(at) => {
+            let sum = joined_sum(entries[at].sum, item)?;
+            entries[at].sum = sum;
+            Ok(())
+        }
         None => {
             let name = String::from_str(alloc, item.name.as_str())?;
             index.insert(name, entries.len())?;
@@ -137,10 +141,11 @@ fn trusted_items(
 }
 
 /// The trusted files of the table `sgx`.
+#[tactic(auto, unfolding(crate::specs::Listed::trusted_refusal, crate::specs::Listed::trusted_of))]
 pub(crate) fn trusted_of(alloc: Global, sgx: &Table) -> Result<Vec<Trusted>, ManifestFault>
     ensures { Checks (trusted_refusal (table_view sgx.now)) (λ entries. entries.items ≡ trusted_of (table_view sgx.now)) result }
 {
-    let place = Place::Key(&Place::Top("sgx"), "trusted_files");
+    let place = Place::Path("sgx.trusted_files");
     match wanted_list(alloc, &place, member(sgx, "trusted_files"))? {
         Some(items) => trusted_items(alloc, &place, items),
         None => Ok(Vec::new(alloc)),

@@ -71,7 +71,7 @@ pub(crate) fn walk_table(alloc: Global, table: &Table) -> Result<(), ManifestFau
     ensures { Checks (walk_table (table_view table.now)) (λ _. ⊤) result }
 {
     for (key, value) in table.iter() {
-        walk(alloc, &Place::Top(key.as_str()), 1, value)?;
+        walk(alloc, &Place::Path(key.as_str()), 1, value)?;
     }
     Ok(())
 }

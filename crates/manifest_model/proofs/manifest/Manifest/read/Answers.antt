@@ -1,0 +1,5 @@
+use Rattle.manifest_model.proofs.Deciding.{no_other}
+use Rattle.manifest_model.proofs.manifest.Manifest.read.Goals as goal
+
+pub returns-clause-no_other : goal.returns-clause-no_other
+returns-clause-no_other c = no_other c.args.bytes.now c.read_whole.result c.read_whole.ensures

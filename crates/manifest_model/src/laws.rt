@@ -1,0 +1,21 @@
+//! Laws of manifests: normal names, entries, and one outcome for each text.
+ghost use Rattle.std.specs.Prelude.{◌≡◌, ℕ, List, Result, true};
+ghost use Rattle.toml.specs.Data.{Members};
+ghost use Rattle.manifest_model.specs.declared.fault.ManifestFault.{ManifestFault};
+ghost use Rattle.manifest_model.specs.Listed.{Lists, Listed};
+ghost use Rattle.manifest_model.specs.Names.{normal, normal_parts, is_absolute, are_normal};
+
+/// A normal name is its own normal name, and absolute where the name is. It has no empty part and no `.`, and `..` only
+/// at the front of one that is not absolute.
+pub fn name_is_normal()
+    ensures itself { (name : List ℕ) → normal (normal name) ≡ normal name }
+    ensures absolute { (name : List ℕ) → is_absolute (normal name) ≡ is_absolute name }
+    ensures parts { (name : List ℕ) → are_normal (is_absolute name) (normal_parts name) ≡ true }
+    ensures same_parts { (name : List ℕ) → normal_parts (normal name) ≡ normal_parts name }
+{}
+
+/// A table has one outcome: what it lists, or its first refusal.
+pub fn table_has_its_outcome()
+    ensures there { (ms : Members) → (outcome : Result Lists ManifestFault) × Listed ms outcome }
+    ensures no_other { (ms : Members) (outcome other : Result Lists ManifestFault) → Listed ms outcome → Listed ms other → outcome ≡ other }
+{}
