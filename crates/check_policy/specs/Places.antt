@@ -65,8 +65,8 @@ pub data Gives (keys : List (List ℕ × List ℕ)) (mount : Mount) (rest : List
   LacksKey : (name : List ℕ) → mount.kind ≡ Encrypted → mount.name ≡ Some name → length (host_name name rest) ≤ LONGEST
       → lookup (bytes_eq mount.key_name) keys ≡ None → outcome ≡ Err (faults.NoKey mount.key_name) → Gives keys mount rest outcome
 
--- Where a path leads: what is no path is refused; else the mount that serves it decides. Where none serves, as in no
--- list with a mount of the root, it leads nowhere.
+-- Where a path leads: what is no path is refused; else the mount that serves it decides. Where none serves, which no
+-- list with a mount at `/` allows, it leads nowhere.
 pub data Resolves (lists : Lists) (path : List ℕ) (outcome : Result Place ResolveFault) : Type 0 where
   NoPath : (IsPath path → ⊥) → outcome ≡ Err faults.BadPath → Resolves lists path outcome
   ByMount : IsPath path → (mount : Mount) (rest : List (List ℕ)) → Serves lists.mounts (normal_parts path) mount rest → Gives lists.keys mount rest outcome → Resolves lists path outcome
