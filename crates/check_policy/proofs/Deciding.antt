@@ -5,13 +5,13 @@ use Rattle.std.proofs.lemmas.List.{append_cancel_left}
 use Rattle.manifest_model.specs.declared.entries.Mount.{Mount}
 use Rattle.manifest_model.specs.Names.{normal, normal_parts, behind}
 use Rattle.manifest_model.specs.Listed.{Lists}
+use Rattle.manifest_model.proofs.Normal.{normal-absolute, normal-parts, normal-normal}
 use Rattle.check_policy.specs.declared.place.Place.{Place}
 use Rattle.check_policy.specs.declared.place.Place.TheVariants as places
 use Rattle.check_policy.specs.declared.place.ResolveFault.{ResolveFault}
 use Rattle.check_policy.specs.declared.place.ResolveFault.TheVariants as faults
 use Rattle.check_policy.specs.Places.{IsPath, parts_of, depth, Begins, Serves, NoneServes, Gives, Resolves, NoPath, ByMount, Unserved}
 use Rattle.check_policy.specs.Seeking.{IsNormal, IsServing}
-use Rattle.check_policy.proofs.Parting.{is_absolute-normal, normal-normal, normal_parts-normal}
 use Rattle.check_policy.proofs.Giving.{gives_one}
 
 begins_by : (mount : Mount) (ps rest : List (List ℕ)) → ps ≡ parts_of mount ++ rest → Begins (parts_of mount) ps
@@ -51,13 +51,13 @@ no_other lists path a (inr x) b y = inr (resolves_one lists path a b x y)
 
 -- the normal form of a path, and what is found by it
 pub path_is_normal : (path text : List ℕ) → IsPath path → text ≡ normal path → IsNormal text
-path_is_normal path text is e = rw e (record { same = normal-normal path is.absolute; absolute = is_absolute-normal path is.absolute })
+path_is_normal path text is e = rw e (record { same = normal-normal path; absolute = normal-absolute path ∙ is.absolute })
 
 same_parts : (path text : List ℕ) → IsPath path → text ≡ normal path → normal_parts text ≡ normal_parts path
-same_parts path text is e = ap normal_parts e ∙ normal_parts-normal path is.absolute
+same_parts path text is e = ap normal_parts e ∙ normal-parts path
 
 parts_alike : (path other : List ℕ) → IsPath path → IsPath other → normal path ≡ normal other → normal_parts path ≡ normal_parts other
-parts_alike path other is is' e = sym (normal_parts-normal path is.absolute) ∙ ap normal_parts e ∙ normal_parts-normal other is'.absolute
+parts_alike path other is is' e = sym (normal-parts path) ∙ ap normal_parts e ∙ normal-parts other
 
 served : (lists : Lists) (path : List ℕ) (mount : Mount) (parts : List (List ℕ)) (result : Result Place ResolveFault) → IsPath path → Serves lists.mounts (normal_parts path) mount parts
     → (result ≡ Err faults.Memory) ⊎ Gives lists.keys mount parts result → (result ≡ Err faults.Memory) ⊎ Resolves lists path result

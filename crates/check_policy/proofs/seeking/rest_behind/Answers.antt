@@ -11,7 +11,7 @@ pub returns-then-is_edge : goal.returns-then-is_edge
 returns-then-is_edge c =
     let cut = c.in_ok-rest.ensures.cases in
     leaves_of_text (normal_parts c.args.place.now) (normal_parts c.args.path.now) c.in_ok-rest.rest.now
-    (normal_parts_are c.args.place.now c.requires.place.absolute) (normal_parts_are c.args.path.now c.requires.path.absolute) (sym c.is_edge.ensures ∙ c.if-is_edge.true)
+    (normal_parts_are c.args.place.now) (normal_parts_are c.args.path.now) (sym c.is_edge.ensures ∙ c.if-is_edge.true)
     (sym c.trail.ensures ∙ cut.1.1 ∙ (λ i. c.trail-2.ensures i ++ sym cut.2 i))
 
 pub returns-else-is_edge : goal.returns-else-is_edge
