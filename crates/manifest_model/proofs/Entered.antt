@@ -1,9 +1,9 @@
 -- The entries of a list of items, one item after another.
-use Rattle.std.proofs.Common.{◌≡◌, ◌≢◌, ◌∙◌, ℕ, zero, suc, Bool, true, false, cond, not, List, [], ◌∷◌, ◌++◌, map, filter, Option, Some, None, bytes_eq, refl, sym, ap}
+use Rattle.std.proofs.Common.{◌≡◌, ◌≢◌, ◌∙◌, ℕ, zero, suc, Bool, true, false, cond, not, List, [], ◌∷◌, ◌++◌, map, filter, take, Option, Some, None, bytes_eq, refl, sym, ap}
 use Rattle.std.specs.Option.{option_or}
 use Rattle.std.proofs.lemmas.List.{map-append}
 use Rattle.manifest_model.specs.declared.entries.Trusted.{Trusted}
-use Rattle.manifest_model.specs.Trusting.{sum_in, summed_by, is_other, firsts, entries_of}
+use Rattle.manifest_model.specs.Trusting.{sum_in, summed_by, is_other, firsts, entries_of, named}
 use Rattle.manifest_model.specs.Indexing.{joined, added, entry_sum}
 use Rattle.manifest_model.proofs.Indexed.{Told, Yes, No, same_name, bytes_eq_comm}
 
@@ -157,3 +157,29 @@ entry_sum-entries name ts = by_has (has name ts) refl
     by_has : (h : Bool) → has name ts ≡ h → entry_sum name (map (summed_by ts) (firsts ts)) ≡ sum_in name ts
     by_has true h = entry_sum-firsts ts name ts ∙ rw h refl
     by_has false h = entry_sum-firsts ts name ts ∙ rw h (sym (sum_in-none name ts h))
+
+-- the entries of a name
+
+named-own : (t : Trusted) (us : List Trusted) → named t.name (filter (is_other t) us) ≡ []
+named-own t [] = refl
+named-own t (u ∷ us) = elim (same_name t.name u.name) [ Yes b s ↦ rw b (named-own t us) | No b s ↦ rw (b, b) (named-own t us) ]
+
+named-others : (t : Trusted) (name : List ℕ) (us : List Trusted) → bytes_eq name t.name ≡ false → named name (filter (is_other t) us) ≡ named name us
+named-others t name [] differ = refl
+named-others t name (u ∷ us) differ =
+    elim (same_name t.name u.name) [ Yes b s ↦ rw (b, other_name t u name s differ) (named-others t name us differ) | No b s ↦ rw (b, named-others t name us differ) refl ]
+
+named-firsts : (name : List ℕ) (ts : List Trusted) → named name (firsts ts) ≡ take 1 (named name ts)
+named-firsts name [] = refl
+named-firsts name (t ∷ ts) =
+    elim (same_name name t.name) [
+    Yes b s ↦ let own : named name (filter (is_other t) (firsts ts)) ≡ [] = rw s (named-own t (firsts ts)) in rw (b, own) refl
+    | No b s ↦ rw (b, named-others t name (firsts ts) b) (named-firsts name ts) ]
+
+named-summed : (all : List Trusted) (name : List ℕ) (us : List Trusted) → named name (map (summed_by all) us) ≡ map (summed_by all) (named name us)
+named-summed all name [] = refl
+named-summed all name (u ∷ us) = elim (same_name name u.name) [ Yes b s ↦ rw (b, named-summed all name us) refl | No b s ↦ rw (b, named-summed all name us) refl ]
+
+pub named-entries : (ts : List Trusted) (name : List ℕ) → named name (entries_of ts) ≡ map (summed_by ts) (take 1 (named name ts))
+unfolding entries_of
+named-entries ts name = named-summed ts name (firsts ts) ∙ ap (map (summed_by ts)) (named-firsts name ts)

@@ -1,17 +1,18 @@
 -- The list of summed files.
 use Rattle.std.specs.List.{AllZip}
-use Rattle.std.specs.Map.{keys_of}
+use Rattle.std.proofs.lemmas.Bool.{false≢true}
+use Rattle.std.specs.Map.{keys_of, lookup}
 use Rattle.std.specs.String.{string_cmp}
 use Rattle.std.specs.Ordering.{is_eq, match_ordering}
-use Rattle.std.specs.BTreeMap.{insert_entry}
-use Rattle.toml.proofs.Views.{Entry}
+use Rattle.std.specs.BTreeMap.{insert_entry, is_at}
+use Rattle.toml.proofs.Views.{Entry, table_index}
 use Rattle.toml.specs.View.{view, members_view}
 use Rattle.toml.specs.declared.value.Value.{Value}
-use Rattle.std.proofs.Common.{cond, drop, String, Global, string_bytes, Ordering, Less, Equal, Greater, ◌≡◌, ◌∙◌, ℕ, suc, ◌+◌, ◌<◌, List, [], ◌∷◌, ◌++◌, length, get_or, take, refl, sym, ap, arith, length-append}
+use Rattle.std.proofs.Common.{cond, drop, codes, Option, Some, None, IsSome, String, Global, string_bytes, Ordering, Less, Equal, Greater, ◌≡◌, ◌∙◌, ℕ, suc, ◌+◌, ◌<◌, List, [], ◌∷◌, ◌++◌, length, get_or, take, refl, sym, ap, arith, length-append}
 use Rattle.std.proofs.lemmas.List.{take_more, length-take-le}
-use Rattle.toml.specs.Data.{Items, item, push_item, member}
+use Rattle.toml.specs.Data.{Data, Items, item, push_item, Members, member, get_member, array, table}
 use Rattle.manifest_model.specs.declared.entries.Trusted.{Trusted}
-use Rattle.manifest_model.specs.Summed.{FitSums, summed_item, summed_items, replaced}
+use Rattle.manifest_model.specs.Summed.{FitSums, summed_item, summed_items, replaced, where_there, with_trusted}
 
 pub same_length : (ts : List Trusted) (sums : List (List ℕ)) → FitSums ts sums → length ts ≡ length sums
 same_length [] [] fit = refl
@@ -51,3 +52,20 @@ inserted k v (e ∷ es) h = by_order (string_cmp k e.0) h (λ tails. inserted k 
     by_order Less g more = absurd (omega (arith, ap length g))
     by_order Equal g more = refl
     by_order Greater g more = ap (member (string_bytes e.0) (view e.1)) (more (ap (drop 1) g))
+
+-- a key that is there is replaced
+pub replaced_at : (k : String Global) (key : List ℕ) (v : Value) (es new : List Entry) (old : Option Value) → string_bytes k ≡ key → IsSome (get_member key (members_view es)) → old ≡ lookup (is_at (string_cmp k)) es
+    → (IsSome old → keys_of new ≡ keys_of es) → new ≡ insert_entry string_cmp es k v → members_view new ≡ replaced key (view v) (members_view es)
+replaced_at k key v es new old same there found keys whole =
+    let some : IsSome (lookup (is_at (string_cmp k)) es) = table_index (string_bytes k) es (rw same there) in
+    let stay : keys_of (insert_entry string_cmp es k v) ≡ keys_of es = sym (ap keys_of whole) ∙ keys (rw found some) in
+    ap members_view whole ∙ inserted k v es stay ∙ ap (λ key'. replaced key' (view v) (members_view es)) same
+
+-- the table with sums, where it has trusted files
+pub sums_placed : (ms s : Members) (ds : Items) → get_member (codes "sgx") ms ≡ Some (table s) → IsSome (get_member (codes "trusted_files") s) → replaced (codes "sgx") (table (replaced (codes "trusted_files") (array ds) s)) ms ≡ with_trusted ds ms
+unfolding with_trusted
+sums_placed ms s ds there some = rw there (by_field (get_member (codes "trusted_files") s) some)
+  where
+    by_field : (o : Option Data) → IsSome o → replaced (codes "sgx") (table (replaced (codes "trusted_files") (array ds) s)) ms ≡ where_there o ms (replaced (codes "sgx") (table (replaced (codes "trusted_files") (array ds) s)) ms)
+    by_field None h = absurd (false≢true h)
+    by_field (Some d) h = refl

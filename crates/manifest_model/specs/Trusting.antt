@@ -100,3 +100,7 @@ summed_by ts t = record t { sum = sum_in t.name ts }
 -- The entries: the first item of each name, with the first sum among the items of that name.
 unfoldable pub entries_of : List Trusted → List Trusted
 entries_of ts = map (summed_by ts) (firsts ts)
+
+-- the items of a name, in their order
+abbrev pub named : List ℕ → List Trusted → List Trusted
+named name ts = filter (λ t. bytes_eq name t.name) ts

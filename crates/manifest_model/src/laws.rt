@@ -1,7 +1,9 @@
 //! Laws of manifests: normal names, entries, and one outcome for each text.
-ghost use Rattle.std.specs.Prelude.{◌≡◌, ℕ, List, Result, true};
+ghost use Rattle.std.specs.Prelude.{◌≡◌, ℕ, List, Result, true, map, take};
 ghost use Rattle.toml.specs.Data.{Members};
 ghost use Rattle.manifest_model.specs.declared.fault.ManifestFault.{ManifestFault};
+ghost use Rattle.manifest_model.specs.declared.entries.Trusted.{Trusted};
+ghost use Rattle.manifest_model.specs.Trusting.{entries_of, named, summed_by};
 ghost use Rattle.manifest_model.specs.Listed.{Lists, Listed};
 ghost use Rattle.manifest_model.specs.Names.{normal, normal_parts, is_absolute, are_normal};
 
@@ -18,4 +20,10 @@ pub fn name_is_normal()
 pub fn table_has_its_outcome()
     ensures there { (ms : Members) → (outcome : Result Lists ManifestFault) × Listed ms outcome }
     ensures no_other { (ms : Members) (outcome other : Result Lists ManifestFault) → Listed ms outcome → Listed ms other → outcome ≡ other }
+{}
+
+/// Of each name the entries have one, where an item has it: the first item of the name, with the first sum among the
+/// items of it.
+pub fn entries_are_one_a_name()
+    ensures { (items : List Trusted) (name : List ℕ) → named name (entries_of items) ≡ map (summed_by items) (take 1 (named name items)) }
 {}

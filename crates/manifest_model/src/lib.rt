@@ -18,6 +18,6 @@ mod walk;
 
 pub use entries::{Mount, MountKind, Policy, Trusted};
 pub use fault::ManifestFault;
-pub use laws::{name_is_normal, table_has_its_outcome};
+pub use laws::{entries_are_one_a_name, name_is_normal, table_has_its_outcome};
 pub use manifest::Manifest;
 pub use names::normal_name;

@@ -1,6 +1,7 @@
 // A table with the sums of its trusted files.
-ghost use Rattle.std.specs.Prelude.{◌≡◌, IfOk, IsSome};
-ghost use Rattle.toml.specs.Data.{get_member};
+ghost use Rattle.std.specs.Prelude.{◌≡◌, IfOk, IsSome, MatchOption, codes};
+ghost use Rattle.toml.specs.Data.{get_member, table as data_table};
+ghost use Rattle.manifest_model.specs.Listed.{sgx};
 ghost use Rattle.toml.specs.View.{view, array_view, table_view};
 ghost use Rattle.manifest_model.specs.Summed.{FitSums, replaced, summed_item, summed_items, with_trusted};
 
@@ -34,17 +35,36 @@ fn summed_items(alloc: Global, entries: &[Trusted], sums: &[[u8; 32]]) -> Result
     Ok(items)
 }
 
-// A copy of a table, with another value at a key that it has.
-fn replaced(alloc: Global, table: &Table, key: &str, value: Value) -> Result<Table, Memory>
-    requires { IsSome (get_member key.now (table_view table.now)) }
-    ensures { IfOk result (λ made. table_view made ≡ replaced key.now (view value) (table_view table.now)) }
+// A copy of a table.
+fn copied(table: &Table) -> Result<Table, Memory>
+    ensures { IfOk result (λ made. table_view made ≡ table_view table.now) }
 {
-    let mut made = table.clone()?;
-    made.insert(String::from_str(alloc, key)?, value)?;
+    Ok(table.clone()?)
+}
+
+// A table, with another value at a key that it has.
+fn replaced(alloc: Global, table: Table, key: &str, value: Value) -> Result<Table, Memory>
+    requires { IsSome (get_member key.now (table_view «table»)) }
+    ensures { IfOk result (λ made. table_view made ≡ replaced key.now (view value) (table_view «table»)) }
+{
+    let mut made = table;
+    drop(made.insert(String::from_str(alloc, key)?, value)?);
     Ok(made)
 }
 
+// The table `sgx`, where it has trusted files.
+fn trusted_in(table: &Table) -> Option<&Table>
+    ensures { MatchOption result (get_member (codes "trusted_files") (sgx (table_view table.now)) ≡ None) (λ found. (get_member (codes "sgx") (table_view table.now) ≡ Some (data_table (table_view found.now))) × IsSome (get_member (codes "trusted_files") (table_view found.now))) }
+{
+    let sgx = member(table, "sgx")?.as_table()?;
+    match member(sgx, "trusted_files") {
+        Some(_) => Some(sgx),
+        None => None,
+    }
+}
+
 /// A copy of a table with a list of the entries and their sums in place of its trusted files, where it has them.
+#[tactic(auto, unfolding(crate::specs::Summed::with_trusted))]
 pub(crate) fn with_sums_of(
     alloc: Global,
     table: &Table,
@@ -54,13 +74,10 @@ pub(crate) fn with_sums_of(
     requires { FitSums entries.now sums.now }
     ensures { IfOk result (λ made. table_view made ≡ with_trusted (summed_items entries.now sums.now) (table_view table.now)) }
 {
-    let Some(Value::Table(sgx)) = member(table, "sgx") else {
-        return Ok(table.clone()?);
+    let Some(sgx) = trusted_in(table) else {
+        return copied(table);
     };
-    if member(sgx, "trusted_files").is_none() {
-        return Ok(table.clone()?);
-    }
     let items = summed_items(alloc, entries, sums)?;
-    let sgx = replaced(alloc, sgx, "trusted_files", Value::Array(items))?;
-    replaced(alloc, table, "sgx", Value::Table(sgx))
+    let sgx = replaced(alloc, copied(sgx)?, "trusted_files", Value::Array(items))?;
+    replaced(alloc, copied(table)?, "sgx", Value::Table(sgx))
 }

@@ -1,4 +1,8 @@
-use Rattle.std.proofs.Common.{◌≡◌, ◌∙◌, ap, sym, arith}
+use Rattle.std.proofs.Common.{◌≡◌, ◌∙◌, [], take, ap, sym, arith}
+use Rattle.std.proofs.lemmas.List.{take_all}
+use Rattle.toml.specs.View.{items_view, array_view}
+use Rattle.toml.proofs.Views.{items_view-push}
+use Rattle.manifest_model.specs.Summed.{summed_items}
 use Rattle.manifest_model.proofs.SumLists.{same_length, summed_more}
 use Rattle.manifest_model.proofs.summing.summed_items.Goals as goal
 
@@ -6,4 +10,11 @@ pub bounds-sums-k : goal.bounds-sums-k
 bounds-sums-k c = omega (arith, same_length c.args.entries.now c.args.sums.now c.requires, c.loop-k-test.true)
 
 pub loop-k-preserved : goal.loop-k-preserved
-loop-k-preserved c = let a = c.in_ok-push.ensures.items in let b = c.in_ok-summed_item.ensures in let e = c.entry-item.is in let i = c.loop-k.invariant in ?
+loop-k-preserved c =
+    let more = summed_more c.args.entries.now c.args.sums.now c.loop-k.k c.index-entries-k.result [] (same_length c.args.entries.now c.args.sums.now c.requires) c.loop-k-test.true c.index-entries-k.is in
+    ap items_view c.in_ok-push.ensures.items ∙ items_view-push c.loop-k.items.items c.in_ok-summed_item.field-0 ∙ rw (c.in_ok-summed_item.ensures, c.as_str.ensures, c.loop-k.invariant) (sym more)
+
+pub returns : goal.returns
+returns c =
+    let same = same_length c.args.entries.now c.args.sums.now c.requires in
+    c.loop-k.invariant ∙ ap (λ ts. summed_items ts (take c.loop-k.k c.args.sums.now)) (take_all c.loop-k.k c.args.entries.now c.loop-k-test.false) ∙ ap (summed_items c.args.entries.now) (take_all c.loop-k.k c.args.sums.now (omega (arith, same, c.loop-k-test.false)))
