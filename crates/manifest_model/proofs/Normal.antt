@@ -251,7 +251,7 @@ unfolding kept_of
 kept_of-normal true ps = all-reverse is_plain (fold (go true) [] ps) (plain-stack (fold (go true) [] ps) (fold-stack true ps [] refl))
 kept_of-normal false ps = climbs-stack (fold (go false) [] ps) (fold-stack false ps [] refl)
 
-kept_of-parts : (absolute : Bool) (name : List ℕ) → list_all is_part (kept_of absolute (parts name)) ≡ true
+pub kept_of-parts : (absolute : Bool) (name : List ℕ) → list_all is_part (kept_of absolute (parts name)) ≡ true
 unfolding kept_of
 kept_of-parts absolute name = all-reverse is_part (fold (go absolute) [] (parts name)) (fold-parts absolute (parts name) [] (parts_split name) refl)
 
