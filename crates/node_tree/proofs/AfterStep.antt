@@ -60,8 +60,8 @@ module _ (step : Step) (given : AtNodes) (sheet : Sheet) (of_sheet : GivenOf she
   ended (Err (faults.Damaged damage)) ends =
       let breaks = ends.0 in
       (stays_mid ends.1, foreign given sheet of_sheet old backs_old damage.node damage.kind (touched_low _ _ damage.node breaks.touched) breaks.live breaks.fails)
-  ended (Err faults.Host) ends = stays_mid ends
-  ended (Err faults.Memory) ends = live_with sheet mid new backs ends (now sheet old) same
+  ended (Err faults.Host) ends = stays_mid ends.1
+  ended (Err faults.Memory) ends = live_with sheet mid new backs ends.1 (now sheet old) same
 
 pub step_leaves : (result : Result (Unit {0}) TreeFault) (name : Name) (step : Step) (old new : TreeState) (before after : HostState) → (steps : Steps result name step old new before after) → (sheet : Sheet) → GivenOf sheet (Given name steps.these) → Backs sheet old
     → StepLeaves result step sheet (Given name steps.these) old new
@@ -122,7 +122,7 @@ module _ (name : Name) (these : List Answer) (files : Files) (of_files : AllByRe
           fails = file_fails name these files of_files old of_file damage.node damage.kind breaks.fails;
         },
       )
-  of_step (Err faults.Host) ends = new_of_file ends
+  of_step (Err faults.Host) ends = new_of_file ends.1
   of_step (Err faults.Memory) ends = tt
 
 pub honest_step : (result : Result (Unit {0}) TreeFault) (name : Name) (step : Step) (old new : TreeState) (before after : HostState) → Steps result name step old new before after → HonestStep result name step old new before

@@ -1,12 +1,12 @@
 -- What was given is of the numbers that were asked for.
-use Rattle.std.proofs.Common.{◌≡◌, ℕ, zero, suc, ◌*◌, List, [], ◌∷◌, ◌∙◌, sym, arith}
-use Rattle.std.specs.Prelude.{Contains}
+use Rattle.std.proofs.Common.{◌≡◌, inl, inr, ℕ, zero, suc, ◌*◌, List, [], ◌∷◌, ◌∙◌, sym, arith, subst, Option, Some, None, Ok, cond}
+use Rattle.std.specs.Prelude.{Contains, is_none}
 use Rattle.std.specs.List.Sorted.{IsStrictlyIncreasing}
-use Rattle.pf_io.specs.Host.{Name, Answer, Gave}
-use Rattle.node_tree.specs.Opened.{Given}
-use Rattle.node_tree.specs.Fetching.{AsksInTurn}
+use Rattle.pf_io.specs.Host.{Name, Answer, Gave, HostState}
+use Rattle.node_tree.specs.Opened.{At, IsAt, Entry, Given}
+use Rattle.node_tree.specs.Fetching.{AsksInTurn, EachOpens, Fetches, missing_of}
 use Rattle.node_tree.proofs.Opening.{IsSingle}
-use Rattle.node_tree.proofs.Order.{rising_tail, above_head}
+use Rattle.node_tree.proofs.Order.{place_of, rising_tail, above_head, in_tail, at_head, to_tail}
 
 pub same_block : (name : Name) (j k : ℕ) (a b : List ℕ) → Gave name (4096 * j) 4096 a ≡ Gave name (4096 * k) 4096 b → a ≡ b
 same_block name j k a b same = cc
@@ -37,3 +37,22 @@ given_single name (k ∷ ks) (x ∷ these) rising asks j a b (suc i, w, is) (zer
     let later = above_head k ks j rising (given_asked name ks these j a asks.1 (i, omega arith, is)) in
     absurd (omega arith)
 given_single name (k ∷ ks) (x ∷ these) rising asks j a b (suc i, w, is) (suc i', w', is') = given_single name ks these (rising_tail k ks rising) asks.1 j a b (i, omega arith, is) (i', omega arith, is')
+
+missing_front : (n : ℕ) (ns lacks : List ℕ) (k : ℕ) (o : Option (List ℕ)) → (Contains lacks k → Contains ns k) → Contains (cond (is_none o) (n ∷ lacks) lacks) k → Contains (n ∷ ns) k
+missing_front n ns lacks k (Some plain) rest there = to_tail n ns k (rest there)
+missing_front n ns lacks k None rest there = elim (in_tail n lacks k there) [
+  | inl same ↦ subst (λ (j : ℕ). Contains (n ∷ ns) j) (sym same) (at_head n ns)
+  | inr further ↦ to_tail n ns k (rest further)
+]
+
+-- what is missing of some numbers is one of them
+of_missing : (f : ℕ → Option (List ℕ)) (numbers : List ℕ) (k : ℕ) → Contains (missing_of f numbers) k → Contains numbers k
+of_missing f [] k there = there
+of_missing f (n ∷ ns) k there = missing_front n ns (missing_of f ns) k (f n) (λ further. of_missing f ns k further) there
+
+-- where all were fetched, each block that was given opens
+pub all_open : {T : Type 0} (value : T) (name : Name) (numbers : List ℕ) (f g : ℕ → Option (List ℕ)) (root : Entry) (old new : HostState) → (fetches : Fetches (Ok value) name numbers f g root old new) → EachOpens (At f) (Given name fetches.these) root
+all_open value name numbers f g root old new fetches k block there =
+    let p = place_of numbers k (of_missing f numbers k (given_asked name (missing_of f numbers) fetches.these k block fetches.asked there)) in
+    let held = subst (λ (j : ℕ). IsAt (At g) j) p.2 (fetches.ends p.0 p.1) in
+    (held.0, fetches.fetched.came k held.0 held.1)

@@ -26,7 +26,7 @@ counts_none state = record { reads = refl; writes = refl; untouched = λ none. r
 pub counts_one : (old new : HostState) → CountsRead 4096 old new → CountsCalls 1 old new
 counts_one old new counts = record { reads = counts.reads; writes = counts.writes; untouched = λ none. absurd (omega (arith, none)) }
 
-counted_sum : (m n count : ℕ) → counted_times (m + n) count ≡ counted_times n (counted_times m count)
+pub counted_sum : (m n count : ℕ) → counted_times (m + n) count ≡ counted_times n (counted_times m count)
 counted_sum zero n count = ap (λ (j : ℕ). counted_times j count) (let e : zero + n ≡ n = omega arith in e)
 counted_sum (suc m) n count = let e : suc m + n ≡ suc (m + n) = omega arith in ap (λ (j : ℕ). counted_times j count) e ∙ counted_sum m n (counted count)
 

@@ -29,6 +29,7 @@ use Rattle.node_tree.specs.declared.fault.TreeFault.{TreeFault}
 use Rattle.node_tree.specs.declared.fault.TreeFault.TheVariants as faults
 use Rattle.node_tree.specs.declared.nodes.HeldNode.{HeldNode}
 use Rattle.node_tree.specs.declared.tree.Tree.TheInside.{Inside}
+use Rattle.node_tree.proofs.Asked.{all_open}
 use Rattle.node_tree.proofs.Order.{stands_before, same_rising}
 use Rattle.node_tree.proofs.Rooted.{parent_touched}
 use Rattle.node_tree.proofs.Marking.{marked_iff, marked_rises, same_marked}
@@ -85,7 +86,7 @@ module _ (name : Name) (at : ℕ) (from : List ℕ) (inside : Inside) (old : Tre
         (subst (λ (l : List ℕ). CountsReads (length (missing_of (plain_at inside.nodes) l)) before after) same few))
 
     -- the step stops where the fetching does
-    stops : {T : Type 0} (fault : TreeFault) (fetches : Fetches {T = T} (Err fault) name (take n numbers) (held_at (state_of inside)) (held_at (state_of (record inside { nodes = fetched }))) inside.root before after)
+    stops : (fault : TreeFault) (fetches : Fetches {T = Unit {0}} (Err fault) name (take n numbers) (held_at (state_of inside)) (held_at (state_of (record inside { nodes = fetched }))) inside.root before after)
         → StepEnds (Err fault) step (Given name fetches.these) (state_of inside) (state_of (record inside { nodes = fetched })) (state_of (record inside { nodes = fetched }))
     stops (faults.Damaged damage) fetches =
         let ends = fetches.ends in
@@ -102,16 +103,16 @@ module _ (name : Name) (at : ℕ) (from : List ℕ) (inside : Inside) (old : Tre
           },
           refl,
         )
-    stops faults.Host fetches = refl
-    stops faults.Memory fetches = record { rest = refl; same = λ k either. refl }
+    stops faults.Host fetches = (fetches.ends, refl)
+    stops faults.Memory fetches = (fetches.ends, record { rest = refl; same = λ k either. refl })
 
-    pub step_fails : {T : Type 0} (r : Result (Unit {0}) TreeFault) (fault : TreeFault) → r ≡ Err fault → Fetches {T = T} (Err fault) name (take n numbers) (plain_at inside.nodes) (plain_at fetched) inside.root before after
+    pub step_fails : (r : Result (Unit {0}) TreeFault) (fault : TreeFault) → r ≡ Err fault → Fetches {T = Unit {0}} (Err fault) name (take n numbers) (plain_at inside.nodes) (plain_at fetched) inside.root before after
         → Steps r name step old (state_of (record inside { nodes = fetched })) before after
     step_fails r fault fails fetches =
         let f = states (Err fault) fetches in
         subst (λ (t : TreeState). Steps r name step t (state_of (record inside { nodes = fetched })) before after) is
         (subst (λ (x : Result (Unit {0}) TreeFault). Steps x name step (state_of inside) (state_of (record inside { nodes = fetched })) before after) (sym fails)
-        (record { these = f.these; answered = f.answered; mid = state_of (record inside { nodes = fetched }); rest = rest; fetched = f.fetched; numbers = take n numbers; touched = live_numbers; asked = f.asked; ends = stops fault f }))
+        (record { these = f.these; answered = f.answered; counted = f.counted; mid = state_of (record inside { nodes = fetched }); rest = rest; fetched = f.fetched; numbers = take n numbers; touched = live_numbers; asked = f.asked; ends = stops fault f }))
 
   module _ {T : Type 0} (value : T) (fetches : Fetches (Ok value) name (take n numbers) (plain_at inside.nodes) (plain_at fetched) inside.root before after) where
     well_fetched : IsWell (record inside { nodes = fetched })
@@ -175,16 +176,20 @@ module _ (name : Name) (at : ℕ) (from : List ℕ) (inside : Inside) (old : Tre
           (record {
             these = f.these;
             answered = f.answered;
+            counted = f.counted;
             mid = state_of (record inside { nodes = fetched });
             rest = rest;
             fetched = f.fetched;
             numbers = take n numbers;
             touched = live_numbers step size putting;
             asked = record { done = missing; left = []; split = sym (append-nil missing); asks = f.asked };
-            ends = record {
-              rest = kept_fields (record inside { nodes = fetched }) zeros well_fetched marks';
-              same = λ k either. held_zeros k (zeros_live k (elim either [ inl live ↦ inl live | inr dirty ↦ inr (was_dirty k dirty) ]));
-            };
+            ends = (
+              all_open value name (take n numbers) (held_at (state_of inside)) (held_at (state_of (record inside { nodes = fetched }))) inside.root before after f,
+              record {
+                rest = kept_fields (record inside { nodes = fetched }) zeros well_fetched marks';
+                same = λ k either. held_zeros k (zeros_live k (elim either [ inl live ↦ inl live | inr dirty ↦ inr (was_dirty k dirty) ]));
+              },
+            );
           }))
 
       module _ (zeroed : IsZeroed (length (drop n numbers)) (drop n numbers) (plain_at fetched) (plain_at zeros)) where
@@ -327,6 +332,7 @@ module _ (name : Name) (at : ℕ) (from : List ℕ) (inside : Inside) (old : Tre
                 (record {
                   these = f.these;
                   answered = f.answered;
+                  counted = f.counted;
                   mid = state_of (record inside { nodes = fetched });
                   rest = rest;
                   fetched = f.fetched;

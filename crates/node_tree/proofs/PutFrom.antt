@@ -1,10 +1,10 @@
 -- The nodes from a place on are put.
-use Rattle.std.proofs.Common.{◌≡◌, ℕ, suc, ◌+◌, ◌-◌, ◌*◌, ◌<◌, ◌≤◌, List, [], ◌∷◌, ◌++◌, length, drop, drop-cons, get_or, refl, ap₂, ◌∙◌, sym, subst, arith, Option, Some, Result, Ok, slice_index}
+use Rattle.std.proofs.Common.{◌≡◌, ℕ, suc, ◌+◌, ◌-◌, ◌*◌, ◌<◌, ◌≤◌, List, [], ◌∷◌, ◌++◌, length, drop, drop-cons, get_or, refl, ap, ap₂, ◌∙◌, sym, subst, arith, Option, Some, Result, Ok, slice_index}
 use Rattle.std.specs.Prelude.{Contains, slice_index_or}
 use Rattle.std.specs.List.Sorted.{IsStrictlyIncreasing}
 use Rattle.std.proofs.lemmas.List.{length-drop, get_or-drop}
 use Rattle.std.proofs.lemmas.List.Kept.{AllPairs-from_increasing}
-use Rattle.pf_io.specs.Counts.{HasCause}
+use Rattle.pf_io.specs.Counts.{HasCause, counted}
 use Rattle.pf_io.specs.Disk.{Disk, Image, IsImage}
 use Rattle.pf_io.specs.Host.{Name, Answer, Wrote, HostState, Both, IsMore, CountsWrite}
 use Rattle.pf_io.specs.Moments.{Does, Ran}
@@ -15,16 +15,18 @@ use Rattle.pf_io.proofs.Telling.{told_on, told_none, both_weaker}
 use Rattle.node_layout.specs.Places.{parent_of}
 use Rattle.node_tree.specs.State.{plain_or}
 use Rattle.node_tree.specs.Opened.{Entry, IsAt}
-use Rattle.node_tree.specs.Sealing.{CountsPuts, IsEntryPut, ArePut, SealedFile, LeavesOutside, PutsAll, PutsFront, entry_for, seal_for, writes_of}
+use Rattle.node_tree.specs.Sealing.{CountsPuts, CountsWrites, IsEntryPut, ArePut, SealedFile, LeavesOutside, PutsAll, PutsFront, entry_for, seal_for, writes_of}
+use Rattle.node_tree.proofs.Asking.{counted_sum}
 use Rattle.node_tree.proofs.Keyed.{any_default, in_list}
 use Rattle.node_tree.proofs.Placed.{to_rest, put_none, put_more, behind}
-use Rattle.node_tree.proofs.Seals.{OutsideFile, outside_image, puts_none, puts_then, sealed_none, sealed_more, any_write}
+use Rattle.node_tree.proofs.Seals.{OutsideFile, outside_none, outside_image, puts_none, puts_then, sealed_none, sealed_more, any_write}
 
 -- the numbers from a place on are put, as far as the host told and an honest disk shows
 pub record ArePutFrom (left : ℕ) (name numbers : List ℕ) (keys : List (List ℕ)) (held held_now : ℕ → Option (List ℕ)) (root root_now : Entry) (before after : HostState) : Type 0 where
   pub within : left ≤ length numbers
   pub still : after.faults ≡ before.faults
   pub counts : CountsPuts (length numbers - left) before after
+  pub calls : CountsWrites (length numbers - left) before after
   pub put : ArePut (drop left numbers) (drop left keys) held held_now root root_now
   pub told : Both before.given after.given (IsMore (writes_of name held_now (drop left numbers) (drop left keys)))
   pub disk : Both before.honest after.honest (Ran (LeavesOutside name numbers) (PutsAll (SealedFile (drop left numbers) (drop left keys) held_now numbers) name))
@@ -56,7 +58,7 @@ drop_all n xs le = nothing (drop n xs) (omega (arith, length-drop n xs)) where
 
 -- before the first call an image is as the disk is
 first_image : (name : Name) (dirty : List ℕ) (d : Disk) (image : Image) → IsImage d image → LeavesOutside name dirty d image
-first_image name dirty d image is = outside_image name dirty d d image (puts_none (OutsideFile dirty) name d d (λ f. record { longer = omega arith; before = λ i lt outside. refl; keeps = λ i kept outside. kept }) refl) is
+first_image name dirty d image is = outside_image name dirty d d image (puts_none (OutsideFile dirty) name d d (outside_none dirty) refl) is
 
 -- none was put yet
 pub put_from_none : (left : ℕ) (name numbers : List ℕ) (keys : List (List ℕ)) (held : ℕ → Option (List ℕ)) (root : Entry) (before : HostState) → left ≡ length numbers → length keys ≡ length numbers → ArePutFrom left name numbers keys held held root root before before
@@ -67,6 +69,7 @@ put_from_none left name numbers keys held root before is same =
       within = omega arith;
       still = refl;
       counts = record { reads = refl; writes = omega arith; widest = omega arith };
+      calls = subst (λ (n : ℕ). CountsWrites n before before) (let e : 0 ≡ length numbers - left = omega arith in e) (record { reads = refl; writes = refl; untouched = λ none. refl });
       put = subst (λ (l : List ℕ). ArePut l (drop left keys) held held root root) (sym none) (put_none held root (drop left keys));
       told = subst (λ (l : List ℕ). Both before.given before.given (IsMore (writes_of name held l (drop left keys)))) (sym none) (told_none before before refl);
       disk =
@@ -106,6 +109,15 @@ module _ (j : ℕ) (name numbers : List ℕ) (keys : List (List ℕ)) (held mid 
         widest = let w = a.widest in let e = counts.widest in omega (arith, e);
       }
 
+  calls_now : CountsWrites (length numbers - suc j + 1) before after
+  calls_now =
+      let a = so_far.calls in
+      record {
+        reads = counts.reads ∙ a.reads;
+        writes = counts.writes ∙ ap counted a.writes ∙ sym (counted_sum (length numbers - suc j) 1 before.writes);
+        untouched = λ none. absurd (omega (arith, none));
+      }
+
   pub put_one_more : (T E : Type 0) (value : T) → after.faults ≡ between.faults
       → ((plain : List ℕ) → mid (slice_index numbers j) ≡ Some plain → Both between.given after.given (IsMore (Wrote name (4096 * slice_index numbers j) (seal_for (slice_index_or keys j []) plain) ∷ [])))
       → ((plain : List ℕ) → mid (slice_index numbers j) ≡ Some plain → Both between.honest after.honest (Does (Changes name (Writes {T = T} {E = E} (4096 * slice_index numbers j) (seal_for (slice_index_or keys j []) plain) (Ok value)))))
@@ -126,6 +138,7 @@ module _ (j : ℕ) (name numbers : List ℕ) (keys : List (List ℕ)) (held mid 
         within = omega arith;
         still = still ∙ so_far.still;
         counts = counts_now;
+        calls = subst (λ (n : ℕ). CountsWrites n before after) (let e : length numbers - suc j + 1 ≡ length numbers - j = omega arith in e) calls_now;
         put = subst (λ (l : List ℕ). ArePut l (drop j keys) held held_now root root_now) (sym numbers_is) (subst (λ (ks : List (List ℕ)). ArePut (x ∷ drop (suc j) numbers) ks held held_now root root_now) (sym keys_is) put_now);
         told = subst (λ (l : List Answer). Both before.given after.given (IsMore l)) (all ∙ ap₂ (writes_of name held_now) (sym numbers_is) (sym keys_is)) (told_on these those before between after so_far.told (told here.0 here.1));
         disk =
@@ -154,7 +167,9 @@ module _ (j : ℕ) (name numbers : List ℕ) (keys : List (List ℕ)) (held mid 
   pub put_stops_told : after.given ≡ between.given → PutsFront name held_now numbers keys before after
   put_stops_told given = record {
     left = suc j;
+    undone = omega arith;
     within = omega arith;
+    calls = calls_now;
     told =
         subst (λ (g : Option (List Answer)). Both before.given g (IsMore (writes_of name held_now (drop (suc j) numbers) (drop (suc j) keys)))) (sym given)
         (subst (λ (l : List Answer). Both before.given between.given (IsMore l))
@@ -169,3 +184,8 @@ put_stops_cause r before between after same cause = subst (λ (n : ℕ). HasCaus
 
 pub put_all_counts : (name numbers : List ℕ) (keys : List (List ℕ)) (held held_now : ℕ → Option (List ℕ)) (root root_now : Entry) (before after : HostState) (left : ℕ) → length keys ≡ length numbers → ArePutFrom left name numbers keys held held_now root root_now before after → CountsPuts (length keys) before after
 put_all_counts name numbers keys held held_now root root_now before after left same put = let c = put.counts in record { reads = c.reads; writes = let w = c.writes in omega (arith, same); widest = c.widest }
+
+-- all of them, one a key
+pub put_all_calls : (name numbers : List ℕ) (keys : List (List ℕ)) (held held_now : ℕ → Option (List ℕ)) (root root_now : Entry) (before after : HostState) (left : ℕ) → left ≡ 0 → length keys ≡ length numbers → ArePutFrom left name numbers keys held held_now root root_now before after
+    → CountsWrites (length keys) before after
+put_all_calls name numbers keys held held_now root root_now before after left none same put = subst (λ (n : ℕ). CountsWrites n before after) (let e : length numbers - left ≡ length keys = omega (arith, none, same) in e) put.calls

@@ -8,7 +8,7 @@ use Rattle.pf_io.specs.Disk.{File, Disk, Image, IsImage}
 use Rattle.pf_io.specs.Host.{Name}
 use Rattle.pf_io.specs.Steps.{Changes, Writes, overwrite, reach}
 use Rattle.pf_io.specs.SplicingProofs.{get_drop, overwrite-length, overwrite-front, overwrite-gap, overwrite-back}
-use Rattle.pf_io.proofs.Images.{same_elements, image_at, others_then, follows_at, follows_none, written_cut_short}
+use Rattle.pf_io.proofs.Images.{same_elements, image_at, absent_at, others_image, others_then, follows_at, follows_none, written_cut_short}
 use Rattle.node_tree.specs.Opened.{block_of}
 use Rattle.node_tree.specs.Sealing.{seal_for, InBlocks, HasSeals, SealedFile, LeavesOutside, PutsAll}
 use Rattle.node_tree.proofs.Placed.{first_or_rest, with_key}
@@ -55,6 +55,12 @@ pub record OutsideFile (dirty : List ℕ) (old new : File) : Type 0 where
   pub longer : length old.bytes ≤ length new.bytes
   pub before : (i : ℕ) → i < length old.bytes → ¬ (InBlocks dirty i) → slice_get new.bytes i ≡ slice_get old.bytes i
   pub keeps : (i : ℕ) → old.keeps i ≡ true → ¬ (InBlocks dirty i) → new.keeps i ≡ true
+  pub shortest : old.shortest ≤ new.shortest
+  pub longest : (i : ℕ) → old.longest ≤ i → i < new.longest → (k : ℕ) × Contains dirty k × (i < 4096 * k + 4096)
+
+-- nothing was done to it
+pub outside_none : (dirty : List ℕ) (f : File) → OutsideFile dirty f f
+outside_none dirty f = record { longer = omega arith; before = λ i lt outside. refl; keeps = λ i kept outside. kept; shortest = omega arith; longest = λ i le lt. absurd (omega arith) }
 
 module _ (dirty : List ℕ) (x : ℕ) (among : Contains dirty x) (b : List ℕ) (long : length b ≡ 4096) where
   kept_write : {T E : Type 0} (r : Result T E) (f g h : File) → ((i : ℕ) → f.keeps i ≡ true → ¬ (InBlocks dirty i) → g.keeps i ≡ true) → Writes (4096 * x) b r g h → (i : ℕ) → f.keeps i ≡ true → ¬ (InBlocks dirty i) → h.keeps i ≡ true
@@ -62,6 +68,15 @@ module _ (dirty : List ℕ) (x : ℕ) (among : Contains dirty x) (b : List ℕ) 
       elim (beside dirty x i among outside) [
         | inl before ↦ writes.risks.before i (so_far i kept outside) before
         | inr behind ↦ writes.risks.after i (so_far i kept outside) (omega (arith, long))
+      ]
+
+  longest_write : {T E : Type 0} (r : Result T E) (f g h : File) → ((i : ℕ) → f.longest ≤ i → i < g.longest → (k : ℕ) × Contains dirty k × (i < 4096 * k + 4096)) → Writes (4096 * x) b r g h → (i : ℕ) → f.longest ≤ i → i < h.longest
+      → (k : ℕ) × Contains dirty k × (i < 4096 * k + 4096)
+  longest_write r f g h so_far writes i le lt =
+      let reached : reach (4096 * x) (length b) ≡ 4096 * x + 4096 = ap (reach (4096 * x)) long in
+      elim (cases_lt i g.longest) [
+        | inl was ↦ so_far i le was
+        | inr new ↦ (x, among, let most = writes.risks.no_longer in omega (arith, most, reached))
       ]
 
   outside_write : {T E : Type 0} (r : Result T E) (f g h : File) → OutsideFile dirty f g → Writes (4096 * x) b r g h → OutsideFile dirty f h
@@ -76,18 +91,29 @@ module _ (dirty : List ℕ) (x : ℕ) (among : Contains dirty x) (b : List ℕ) 
               | inr behind ↦ torn.after i (omega (arith, long)) there
             ] ∙ so_far.before i lt outside;
         keeps = kept_write r f g h so_far.keeps writes;
+        shortest = let a = so_far.shortest in let c = writes.risks.no_shorter in omega arith;
+        longest = longest_write r f g h so_far.longest writes;
       }
 
 sealed_outside : (numbers : List ℕ) (keys : List (List ℕ)) (held : ℕ → Option (List ℕ)) (dirty : List ℕ) (f g : File) → SealedFile numbers keys held dirty f g → OutsideFile dirty f g
-sealed_outside numbers keys held dirty f g so_far = record { longer = so_far.reads.longer; before = so_far.reads.before; keeps = so_far.keeps }
+sealed_outside numbers keys held dirty f g so_far = record { longer = so_far.reads.longer; before = so_far.reads.before; keeps = so_far.keeps; shortest = so_far.shortest; longest = so_far.longest }
 
 -- of an image
 pub outside_image : (name : Name) (dirty : List ℕ) (d e : Disk) (image : Image) → PutsAll (OutsideFile dirty) name d e → IsImage e image → LeavesOutside name dirty d image
-outside_image name dirty d e image puts is file there settled bytes left i lt outside =
-    let q = puts.there file there in
-    let r = image_at q.0 (e name) (image name) q.1 (is name) in
-    let same : bytes ≡ r.0 = same_Some bytes r.0 (sym left ∙ r.1) in
-    ap (λ (l : List ℕ). slice_get l i) same ∙ r.2.kept i (q.2.keeps i (settled.keeps i lt) outside) ∙ q.2.before i lt outside
+outside_image name dirty d e image puts is = record {
+  here = λ file there settled.
+      let q = puts.there file there in
+      let r = image_at q.0 (e name) (image name) q.1 (is name) in
+      record {
+        bytes = r.0;
+        there = r.1;
+        longer = let a = settled.no_shorter in let b = q.2.shortest in let c = r.2.no_shorter in omega arith;
+        before = λ i lt outside. r.2.kept i (q.2.keeps i (settled.keeps i lt) outside) ∙ q.2.before i lt outside;
+        ends = λ i le lt. q.2.longest i (let a = settled.no_longer in omega arith) (let c = r.2.no_longer in omega arith);
+      };
+  absent = λ none. absent_at (e name) (image name) (puts.absent none) (is name);
+  others = others_image name d e image puts.others is;
+}
 
 pub puts_weaker : (R S : File → File → Type 0) (name : Name) (d e : Disk) → ((f g : File) → R f g → S f g) → PutsAll R name d e → PutsAll S name d e
 puts_weaker R S name d e go puts = record { there = λ file there. let q = puts.there file there in (q.0, q.1, go file q.0 q.2); absent = puts.absent; others = puts.others }
@@ -114,6 +140,8 @@ sealed_none keys held dirty f = record {
     ends = λ i le lt. absurd (omega arith);
   };
   keeps = λ i kept outside. kept;
+  shortest = omega arith;
+  longest = λ i le lt. absurd (omega arith);
 }
 
 pub puts_none : (R : File → File → Type 0) (name : Name) (d e : Disk) → ((f : File) → R f f) → e ≡ d → PutsAll R name d e
@@ -159,6 +187,8 @@ module _ (x : ℕ) (numbers dirty : List ℕ) (key plain : List ℕ) (keys : Lis
   sealed_more T E value f g h so_far writes = record {
     reads = subst (λ (l : List ℕ). HasSeals (x ∷ numbers) (key ∷ keys) held_now dirty f.bytes l) (sym writes.reads) (seals_more f.bytes g.bytes so_far.reads);
     keeps = kept_write dirty x among (seal_for key plain) long (Ok value) f g h so_far.keeps writes;
+    shortest = let a = so_far.shortest in let c = writes.risks.no_shorter in omega arith;
+    longest = longest_write dirty x among (seal_for key plain) long (Ok value) f g h so_far.longest writes;
   }
 
   -- whatever comes of the write, the others stay, and the image is as it was outside

@@ -1,7 +1,7 @@
 -- The sealing of dirty nodes, children first.
-use Rattle.std.specs.Prelude.{◌≡◌, ◌≢◌, ℕ, ◌+◌, ◌*◌, ◌<◌, ◌≤◌, max, true, List, [], ◌∷◌, ◌++◌, length, drop, slice_index, slice_index_or, slice_get, Contains, Option, Some, None, Result, Ok, Err}
+use Rattle.std.specs.Prelude.{◌≡◌, ◌≢◌, ℕ, ◌+◌, ◌-◌, ◌*◌, ◌<◌, ◌≤◌, max, true, List, [], ◌∷◌, ◌++◌, length, drop, slice_index, slice_index_or, slice_get, Contains, Option, Some, None, Result, Ok, Err}
 use Rattle.std.specs.BTreeMap.{BTreeMap}
-use Rattle.pf_io.specs.Disk.{File, Disk, Image, IsSettledFile}
+use Rattle.pf_io.specs.Disk.{File, Disk, Image, IsImageAt, IsSettledFile}
 use Rattle.pf_io.specs.Host.{Name, Answer, Wrote, HostState, Both, IsMore}
 use Rattle.pf_io.specs.Steps.{KeepsOthers}
 use Rattle.node_layout.specs.Places.{parent_of, slot_of}
@@ -9,6 +9,7 @@ use Rattle.node_layout.specs.Entries.{entry_at}
 use Rattle.node_tree.specs.Sheet.{Node, Sheet, HasNode, sealed, tag_of}
 use Rattle.node_tree.specs.Opened.{Entry, IsAt, block_of}
 use Rattle.node_tree.specs.Nodes.{Keeps}
+use Rattle.node_tree.specs.Fetching.{counted_times}
 use Rattle.node_tree.specs.Marks.{KeepsMarks}
 use Rattle.node_tree.specs.State.{AreBlocks, plain_or}
 use Rattle.node_tree.specs.declared.nodes.HeldNode.{HeldNode}
@@ -18,6 +19,12 @@ pub record CountsPuts (n : ℕ) (old new : HostState) : Type 0 where
   pub reads : new.reads ≡ old.reads
   pub writes : new.writes ≤ old.writes + n
   pub widest : new.widest ≤ max old.widest 4096
+
+-- n writes were made, and no other call
+pub record CountsWrites (n : ℕ) (old new : HostState) : Type 0 where
+  pub reads : new.reads ≡ old.reads
+  pub writes : new.writes ≡ counted_times n old.writes
+  pub untouched : n ≡ 0 → new ≡ old
 
 -- only the bytes of nodes that are held changed
 pub record KeepsNodes (old new : BTreeMap ℕ HeldNode) : Type 0 where
@@ -70,10 +77,12 @@ writes_of name held [] keys = []
 writes_of name held (k ∷ numbers) [] = []
 writes_of name held (k ∷ numbers) (key ∷ keys) = writes_of name held numbers keys ++ (Wrote name (4096 * k) (seal_for key (plain_or (held k) [])) ∷ [])
 
--- Some of the writes were told, those of the last numbers.
+-- Some of the writes were told, those of the last numbers, and at least one was left undone. The calls are those that were told, and the one that failed.
 pub record PutsFront (name : Name) (held : ℕ → Option (List ℕ)) (numbers : List ℕ) (keys : List (List ℕ)) (old new : HostState) : Type 0 where
   pub left : ℕ
+  pub undone : 1 ≤ left
   pub within : left ≤ length numbers
+  pub calls : CountsWrites (length numbers - left + 1) old new
   pub told : Both old.given new.given (IsMore (writes_of name held (drop left numbers) (drop left keys)))
 
 -- all of them were, or at a fault some
@@ -93,15 +102,26 @@ pub record HasSeals (numbers : List ℕ) (keys : List (List ℕ)) (held : ℕ �
   pub gap : (i : ℕ) → length old ≤ i → i < length new → ¬ (InBlocks dirty i) → slice_get new i ≡ Some 0
   pub ends : (i : ℕ) → length old ≤ i → i < length new → (k : ℕ) × Contains dirty k × (i < 4096 * k + 4096)
 
--- the file so far, and what of it a crash keeps
+-- the file so far, and what of it a crash keeps: the bytes outside the blocks of the dirty nodes, the shortest length, and the longest one but for those blocks
 pub record SealedFile (numbers : List ℕ) (keys : List (List ℕ)) (held : ℕ → Option (List ℕ)) (dirty : List ℕ) (old new : File) : Type 0 where
   pub reads : HasSeals numbers keys held dirty old.bytes new.bytes
   pub keeps : (i : ℕ) → old.keeps i ≡ true → ¬ (InBlocks dirty i) → new.keeps i ≡ true
+  pub shortest : old.shortest ≤ new.shortest
+  pub longest : (i : ℕ) → old.longest ≤ i → i < new.longest → (k : ℕ) × Contains dirty k × (i < 4096 * k + 4096)
 
--- at every moment, where nothing was pending at the name: up to its length, and outside the blocks of the dirty nodes, an image is as the file was
-abbrev pub LeavesOutside : Name → List ℕ → Disk → Image → Type 0
-LeavesOutside name dirty disk image = (file : File) → disk name ≡ Some file → IsSettledFile file → (bytes : List ℕ) → image name ≡ Some bytes
-    → (i : ℕ) → i < length file.bytes → ¬ (InBlocks dirty i) → slice_get bytes i ≡ slice_get file.bytes i
+-- what a crash leaves of a file: no fewer bytes than it had, outside the blocks of the dirty nodes those that it had, and behind its end none but up to the end of such a block
+pub record LeavesFile (dirty : List ℕ) (file : File) (left : Option (List ℕ)) : Type 0 where
+  pub bytes : List ℕ
+  pub there : left ≡ Some bytes
+  pub longer : length file.bytes ≤ length bytes
+  pub before : (i : ℕ) → i < length file.bytes → ¬ (InBlocks dirty i) → slice_get bytes i ≡ slice_get file.bytes i
+  pub ends : (i : ℕ) → length file.bytes ≤ i → i < length bytes → (k : ℕ) × Contains dirty k × (i < 4096 * k + 4096)
+
+-- An image at every moment: where nothing was pending at the name, it has the file but for the blocks of the dirty nodes; where the name is absent, it has none; and of every other name it has what a crash may leave of the disk.
+pub record LeavesOutside (name : Name) (dirty : List ℕ) (disk : Disk) (image : Image) : Type 0 where
+  pub here : (file : File) → disk name ≡ Some file → IsSettledFile file → LeavesFile dirty file (image name)
+  pub absent : disk name ≡ None → image name ≡ None
+  pub others : (other : Name) → other ≢ name → IsImageAt (disk other) (image other)
 
 -- the seals of the next sheet stand at the places of the dirty nodes; elsewhere the file is as before, with zeros in a gap
 pub record HasSealsOf (next : Sheet) (dirty old new : List ℕ) : Type 0 where

@@ -10,7 +10,7 @@ use Rattle.node_tree.specs.Sheet.{Sheet, IsLinked, Stands}
 use Rattle.node_tree.specs.Opened.{AtNodes, IsAt, Entry, Given, Opened, Fails, NothingHeld, BlockOf}
 use Rattle.node_tree.specs.State.{TreeState, held_at, Held, root_in, plain_or, IsPadded}
 use Rattle.node_tree.specs.Unforged.{GivenOf}
-use Rattle.node_tree.specs.Fetching.{Fetched, Asks, CountsReads, missing_of}
+use Rattle.node_tree.specs.Fetching.{Fetched, EachOpens, Asks, CountsReads, CountsCalls, calls_of, missing_of}
 use Rattle.node_tree.specs.Backing.{Backs, now}
 use Rattle.node_tree.specs.Reading.{KeepsFields, IsForeign, IsOfFile}
 use Rattle.node_tree.specs.Applying.{Step, applied, size_after, Touches}
@@ -61,18 +61,19 @@ pub record KeepsLive (old new : TreeState) : Type 0 where
   pub rest : KeepsFields old new
   pub same : (k : ℕ) → (k < node_count old.size) ⊎ Contains old.dirty k → held_at new k ≡ held_at old k
 
--- how a step ends, once nodes were fetched
+-- how a step ends, once nodes were fetched; a fault comes before any block that does not open
 abbrev pub StepEnds : Result (Unit {0}) TreeFault → Step → AtNodes → TreeState → TreeState → TreeState → Type 0
 StepEnds (Ok value) step given old mid new = Stepped step mid new
 StepEnds (Err (faults.Damaged damage)) step given old mid new = BreaksAt step old.size (Held old) given (root_in old) damage × (new ≡ mid)
-StepEnds (Err faults.Host) step given old mid new = new ≡ mid
-StepEnds (Err faults.Memory) step given old mid new = KeepsLive mid new
+StepEnds (Err faults.Host) step given old mid new = EachOpens (Held old) given (root_in old) × (new ≡ mid)
+StepEnds (Err faults.Memory) step given old mid new = EachOpens (Held old) given (root_in old) × KeepsLive mid new
 
--- Some answers came, of the live touched nodes that were not held, in rising number. What is held in the middle was held or opens from what they gave, and nothing is let
+-- Some answers came, of the live touched nodes that were not held, in rising number, each of one call. What is held in the middle was held or opens from what they gave, and nothing is let
 -- go; and then the step was made, or it was not.
 pub record Steps (result : Result (Unit {0}) TreeFault) (name : Name) (step : Step) (old new : TreeState) (before after : HostState) : Type 0 where
   pub these : List Answer
   pub answered : Answered these before after
+  pub counted : CountsCalls (calls_of result (length these)) before after
   pub mid : TreeState
   pub rest : KeepsFields old mid
   pub fetched : Fetched (Held old) (Held mid) (Given name these) (root_in old)

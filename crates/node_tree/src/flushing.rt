@@ -7,7 +7,7 @@ ghost use Rattle.node_tree.specs.Sheet.{Sheet};
 ghost use Rattle.node_tree.specs.State.{held_at};
 ghost use Rattle.node_tree.specs.Next.{SealsNext, IsSealedAs, KeepsShape, IsSettled};
 ghost use Rattle.node_tree.specs.Stepping.{BacksWith};
-ghost use Rattle.node_tree.specs.Sealing.{CountsPuts, SealedFile, LeavesOutside, PutEnds, HasSealsOf, PutTold};
+ghost use Rattle.node_tree.specs.Sealing.{CountsPuts, CountsWrites, SealedFile, LeavesOutside, PutEnds, HasSealsOf, PutTold};
 
 use crate::change::clear_marks;
 use crate::clearing::clear;
@@ -32,6 +32,7 @@ impl Tree {
         requires one_each { length keys.now ≡ length self.old.dirty }
         ensures cause { HasCause (H.state host.old).faults (H.state host.new).faults result }
         ensures counts { CountsPuts (length keys.now) (H.state host.old) (H.state host.new) }
+        ensures calls { OnOk result (CountsWrites (length keys.now) (H.state host.old) (H.state host.new)) }
         ensures rest { KeepsShape self.old self.new }
         ensures sealed { OnOk result ((sheet next : Sheet) → SealsNext sheet self.old keys.now next → IsSealedAs next self.new) }
         ensures told { PutTold result name.now (held_at self.new) self.old.dirty keys.now (H.state host.old) (H.state host.new) }

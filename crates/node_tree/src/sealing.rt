@@ -11,7 +11,7 @@ ghost use Rattle.node_tree.specs.Opened.{IsAt};
 ghost use Rattle.node_tree.specs.Nodes.{Keeps, plain_at};
 ghost use Rattle.node_tree.specs.State.{AreBlocks};
 ghost use Rattle.node_tree.specs.Marks.{KeepsMarks};
-ghost use Rattle.node_tree.specs.Sealing.{KeepsNodes, CountsPuts, IsEntryPut, ArePut, SealedFile, LeavesOutside, PutEnds, PutTold, entry_for, seal_for};
+ghost use Rattle.node_tree.specs.Sealing.{KeepsNodes, CountsPuts, CountsWrites, IsEntryPut, ArePut, SealedFile, LeavesOutside, PutEnds, PutTold, entry_for, seal_for};
 
 use crate::nodes::HeldNode;
 use aes_gcm::{Key, seal_in_place};
@@ -123,6 +123,7 @@ pub(crate) fn seal_nodes<H: Host>(
     requires parents { (k : ℕ) → Contains numbers.now k → 2 ≤ k → Contains numbers.now (parent_of k) }
     ensures cause { HasCause (H.state host.old).faults (H.state host.new).faults result }
     ensures counts { CountsPuts (length keys.now) (H.state host.old) (H.state host.new) }
+    ensures calls { OnOk result (CountsWrites (length keys.now) (H.state host.old) (H.state host.new)) }
     ensures put { OnOk result (ArePut numbers.now keys.now (plain_at nodes.old) (plain_at nodes.new) root.old root.new) }
     ensures keeps { KeepsNodes nodes.old nodes.new }
     ensures told { PutTold result name.now (plain_at nodes.new) numbers.now keys.now (H.state host.old) (H.state host.new) }

@@ -10,7 +10,7 @@ use Rattle.node_tree.specs.Nodes.{plain_at}
 use Rattle.node_tree.specs.Sealing.{ArePut, SealedFile, LeavesOutside, PutsAll, writes_of}
 use Rattle.node_tree.proofs.Keyed.{in_list}
 use Rattle.node_tree.proofs.Kept.{keeps_nodes, keeps_nodes_then}
-use Rattle.node_tree.proofs.PutFrom.{ArePutFrom, held_still, put_from_none, put_one_more, put_stops_disk, put_stops_told, put_stops_counts, put_stops_cause, put_all_counts}
+use Rattle.node_tree.proofs.PutFrom.{ArePutFrom, held_still, put_from_none, put_one_more, put_stops_disk, put_stops_told, put_stops_counts, put_stops_cause, put_all_counts, put_all_calls}
 use Rattle.node_tree.proofs.sealing.seal_nodes.Goals as goal
 
 -- a number's parent is held
@@ -156,6 +156,11 @@ returns-in_err-put_node-clause-disk g c =
 pub returns-clause-counts : goal.returns-clause-counts
 returns-clause-counts g c =
     put_all_counts c.args.name.now c.args.numbers.now c.args.keys.now (plain_at c.args.nodes.now) (plain_at c.loop-left.nodes) c.args.root.now c.loop-left.root (g.H.Host.state c.args.host.now) (g.H.Host.state c.loop-left.host) c.loop-left.left c.requires.one_each c.loop-left.invariant.put
+
+pub returns-clause-calls : goal.returns-clause-calls
+returns-clause-calls g c =
+    let none : c.loop-left.left ≡ 0 = omega arith in
+    put_all_calls c.args.name.now c.args.numbers.now c.args.keys.now (plain_at c.args.nodes.now) (plain_at c.loop-left.nodes) c.args.root.now c.loop-left.root (g.H.Host.state c.args.host.now) (g.H.Host.state c.loop-left.host) c.loop-left.left none c.requires.one_each c.loop-left.invariant.put
 
 pub returns-clause-put : goal.returns-clause-put
 returns-clause-put g c =
