@@ -1,8 +1,8 @@
 -- Reads of slices, one after the other.
-use Rattle.std.proofs.Common.{◌≡◌, ℕ, ◌+◌, ◌≤◌, List, [], ◌∷◌, length, take, refl, sym, subst, ◌∙◌, arith, Result, Ok, Err}
+use Rattle.std.proofs.Common.{◌≡◌, ℕ, ◌+◌, ◌≤◌, List, [], ◌∷◌, length, take, refl, subst, ◌∙◌, arith, Result}
 use Rattle.std.proofs.lemmas.List.{length-take-le}
-use Rattle.pf_io.specs.Counts.{Rose, HasCause}
-use Rattle.pf_io.specs.Host.{Name, Answer, Gave, HostState, Both, IsMore, KeepsFiles, KeepsRest, ReadsFrom, OnHonest, CountsRead, contents}
+use Rattle.pf_io.specs.Counts.{HasCause}
+use Rattle.pf_io.specs.Host.{Name, Gave, HostState, Both, IsMore, KeepsFiles, KeepsRest, ReadsFrom, OnHonest, CountsRead, contents}
 use Rattle.pf_io.proofs.Answering.{answered_none, answered_bytes, answered_fault}
 use Rattle.trusted_chunks.specs.Chunks.{CHUNK}
 use Rattle.trusted_chunks.specs.Slices.{CountsSlices, SliceCame, NoSliceCame}

@@ -1,23 +1,21 @@
 -- What a read of a trusted file comes to, by the chunks that came.
-use Rattle.std.proofs.Common.{nat_eq, ◌≡◌, ◌≢◌, ℕ, ◌+◌, ◌-◌, ◌*◌, ◌/◌, ◌%◌, ◌<◌, ◌≤◌, min, List, [], ◌∷◌, ◌++◌, length, take, drop, map, Contains, Option, Some, None, refl, sym, ap, ◌∙◌, subst, arith, ◌⊎◌, inl, inr, Result, Ok, Err, length-append, Bool, true, false, cond}
-use Rattle.std.specs.Prelude.{IsSome, IfSome, is_none}
-use Rattle.std.specs.List.{AllByRecursion, range_with_len, concat}
+use Rattle.std.proofs.Common.{◌≡◌, ℕ, ◌+◌, ◌-◌, ◌*◌, ◌/◌, ◌<◌, ◌≤◌, min, List, [], ◌∷◌, ◌++◌, length, take, drop, Contains, sym, ap, ◌∙◌, subst, arith, inl, inr, Result, Ok, Err, length-append, Bool, true, false, cond}
+use Rattle.std.specs.Prelude.{is_none}
+use Rattle.std.specs.List.{AllByRecursion}
 use Rattle.std.proofs.lemmas.List.{length-map, append-nil}
 use Rattle.std.proofs.lemmas.Option.{IfSome_then}
 use Rattle.sha2.specs.Sha256.{sha256}
 use Rattle.lru.proofs.Splits.{Contains-head, Contains-tail, Contains-cons, Contains-nil, all_left, all_right}
-use Rattle.pf_io.specs.Host.{Name, Files, Answer, Gave, HostState, OnHonest, contents, files_of}
-use Rattle.pf_io.specs.Answered.{Answered, Came, IsAnswerOf}
-use Rattle.trusted_chunks.specs.Chunks.{CHUNK, chunk, chunk_count, NoAccident}
+use Rattle.pf_io.specs.Host.{Name, Files, Answer, HostState, contents, files_of}
+use Rattle.pf_io.specs.Answered.{IsAnswerOf}
+use Rattle.trusted_chunks.specs.Chunks.{CHUNK, chunk, chunk_count}
 use Rattle.trusted_chunks.specs.State.{Kept, FileState, Holds, hash_at}
-use Rattle.trusted_chunks.specs.Kept.{span, touched, kept_at, missing_of, used, kept_with, joined, numbers_of}
-use Rattle.trusted_chunks.specs.Slices.{chunk_answer, chunks_given, CountsSlices}
-use Rattle.trusted_chunks.specs.Reading.{readable, touched_by, AreRight, NextIs, CameWrong, NoneCame, NoMemory, FetchEnds, chunks_asked, Fetches, GivesBytes, ReadEnds, Reads, ReadsFew, DamageComes, IsSlice, StaysHeld, HeldRead, IsUndamaged, HonestRead}
+use Rattle.trusted_chunks.specs.Kept.{span, touched, kept_at, missing_of, joined, numbers_of}
+use Rattle.trusted_chunks.specs.Slices.{chunk_answer, chunks_given}
+use Rattle.trusted_chunks.specs.Reading.{readable, touched_by, NextIs, NoMemory, FetchEnds, chunks_asked, ReadEnds, Reads, ReadsFew, DamageComes, IsSlice, StaysHeld, HeldRead, IsUndamaged, HonestRead}
 use Rattle.trusted_chunks.specs.declared.fault.ChunkFault.{ChunkFault}
 use Rattle.trusted_chunks.specs.declared.fault.ChunkFault.TheVariants as faults
-use Rattle.trusted_chunks.proofs.Promoting.{few_missing}
-use Rattle.trusted_chunks.proofs.Fronts.{few_kept, all_kept}
-use Rattle.trusted_chunks.proofs.Slicing.{concat_chunks, joined_chunks, slice_is, touched_within, touched_few}
+use Rattle.trusted_chunks.proofs.Slicing.{concat_chunks, joined_chunks, slice_is, touched_within}
 use Rattle.trusted_chunks.proofs.Holding.{still_holds, hash_is, chunk_kept, right_at}
 
 -- how many were asked for is no more than were missing

@@ -1,20 +1,17 @@
 -- Chunks that are fetched, one after the other.
-use Rattle.std.proofs.Common.{nat_eq, ◌≡◌, ◌≢◌, ℕ, ◌+◌, ◌*◌, ◌≤◌, List, [], ◌∷◌, ◌++◌, length, map, append_assoc, refl, sym, ap, subst, ◌∙◌, arith, length-append, Result, Ok, Err}
-use Rattle.std.proofs.lemmas.List.{map-append, append-nil}
+use Rattle.std.proofs.Common.{nat_eq, ◌≡◌, ℕ, ◌+◌, ◌≤◌, List, [], ◌∷◌, ◌++◌, length, append_assoc, refl, sym, ap, subst, ◌∙◌, arith, length-append, Result, Ok, Err}
+use Rattle.std.proofs.lemmas.List.{map-append}
 use Rattle.sha2.specs.Sha256.{sha256}
 use Rattle.pf_io.specs.Counts.{HasCause}
 use Rattle.pf_io.specs.Host.{Name, Answer, HostState}
-use Rattle.pf_io.specs.Answered.{Answered}
 use Rattle.pf_io.specs.Unchanged.{KeepsDisk}
 use Rattle.pf_io.proofs.Answering.{answered_none, answered_then}
-use Rattle.pf_io.proofs.Unchanged.{kept_none, kept_then}
 use Rattle.lru.specs.LruCache.{lru_cache, put_entries}
 use Rattle.lru.proofs.Splits.{all_both}
-use Rattle.trusted_chunks.specs.Chunks.{CHUNK}
 use Rattle.trusted_chunks.specs.State.{Kept, MOST_KEPT}
 use Rattle.trusted_chunks.specs.Kept.{kept_with, numbers_of}
-use Rattle.trusted_chunks.specs.Slices.{chunk_answer, chunks_given, CountsSlices}
-use Rattle.trusted_chunks.specs.Reading.{host_part, AreRight, NextIs, CameWrong, NoneCame, NoMemory, FetchEnds, chunks_asked, Fetches}
+use Rattle.trusted_chunks.specs.Slices.{chunk_answer, chunks_given}
+use Rattle.trusted_chunks.specs.Reading.{host_part, NextIs, NoMemory, FetchEnds, chunks_asked, Fetches}
 use Rattle.trusted_chunks.specs.Fetching.{ChunkEnds}
 use Rattle.trusted_chunks.specs.declared.fault.ChunkFault.{ChunkFault}
 use Rattle.trusted_chunks.specs.declared.fault.ChunkFault.TheVariants as faults

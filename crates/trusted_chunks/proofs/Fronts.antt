@@ -1,17 +1,17 @@
 -- The chunks that a read touches stay in front, and so are kept.
-use Rattle.std.proofs.Common.{◌≡◌, ℕ, zero, suc, ◌+◌, ◌-◌, ◌<◌, ◌≤◌, min, Bool, true, false, cond, List, [], ◌∷◌, ◌++◌, length, take, map, Contains, Option, Some, None, refl, sym, ap, ◌∙◌, subst, arith, ◌⊎◌, inl, inr, nat_eq}
+use Rattle.std.proofs.Common.{◌≡◌, ℕ, zero, suc, ◌+◌, ◌-◌, ◌≤◌, Bool, true, false, cond, List, [], ◌∷◌, length, take, Contains, Option, Some, None, refl, sym, ap, ◌∙◌, subst, arith, inl, inr, nat_eq}
 use Rattle.std.specs.Prelude.{is_some, is_none, IsSome, filter}
 use Rattle.std.specs.Option.{option_map_or}
-use Rattle.std.specs.Map.{lookup, lookup_entry, remove_entry}
-use Rattle.std.proofs.lemmas.Bool.{true≢false, eq-eqb, eqb-true}
+use Rattle.std.specs.Map.{lookup_entry, remove_entry}
+use Rattle.std.proofs.lemmas.Bool.{true≢false, eq-eqb}
 use Rattle.std.proofs.lemmas.List.{take-take, length-take, length-map}
-use Rattle.lru.specs.LruCache.{LruCache, lru_cache, promoted, put_entries}
+use Rattle.lru.specs.LruCache.{lru_cache, promoted, put_entries}
 use Rattle.lru.proofs.Pairs.{promoted_absent}
 use Rattle.lru.proofs.Splits.{Contains-head, Contains-tail, Contains-cons, Contains-nil}
 use Rattle.lru.proofs.CallerLemmas.{Contains-lookup_entry}
 use Rattle.trusted_chunks.specs.State.{Kept, MOST_KEPT}
 use Rattle.trusted_chunks.specs.Kept.{kept_at, missing_of, used, kept_with, numbers_of}
-use Rattle.trusted_chunks.proofs.Promoting.{has, has_promoted, has_used}
+use Rattle.trusted_chunks.proofs.Promoting.{has, has_promoted}
 
 abbrev entry_of : ℕ → Kept → Option (ℕ × List ℕ)
 entry_of c kept = lookup_entry (nat_eq c) kept

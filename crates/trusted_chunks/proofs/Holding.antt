@@ -1,16 +1,15 @@
 -- What a trusted file holds, after chunks that came.
-use Rattle.std.proofs.Common.{nat_eq, ◌≡◌, ℕ, ◌+◌, ◌-◌, ◌<◌, ◌≤◌, Bool, true, false, List, [], ◌∷◌, ◌++◌, length, map, Contains, Option, Some, None, refl, sym, ap, ◌∙◌, subst, arith, ◌⊎◌, inl, inr}
+use Rattle.std.proofs.Common.{nat_eq, ◌≡◌, ℕ, ◌<◌, true, List, [], ◌∷◌, length, Contains, Option, Some, None, refl, sym, ap, ◌∙◌, subst, arith, ◌⊎◌, inl, inr}
 use Rattle.std.specs.Prelude.{IsSome, slice_index_or}
-use Rattle.std.specs.List.{AllByRecursion, range_with_len}
 use Rattle.std.proofs.lemmas.Bool.{eqb-true}
 use Rattle.std.proofs.lemmas.List.FromFn.{get_or-map-range_with_len}
 use Rattle.sha2.specs.Sha256.{sha256}
 use Rattle.lru.specs.LruCache.{lru_cache, promoted, put_entries}
 use Rattle.lru.proofs.Splits.{Contains-head, Contains-tail, Contains-cons, Contains-nil}
 use Rattle.lru.proofs.CallerLemmas.{Contains-promoted, Contains-put_entries, Contains-lookup}
-use Rattle.trusted_chunks.specs.Chunks.{chunk, chunk_count, sums_of}
+use Rattle.trusted_chunks.specs.Chunks.{chunk, chunk_count}
 use Rattle.trusted_chunks.specs.State.{Kept, MOST_KEPT, FileState, Holds, hash_at}
-use Rattle.trusted_chunks.specs.Kept.{kept_at, used, kept_with, numbers_of}
+use Rattle.trusted_chunks.specs.Kept.{kept_at, used, kept_with}
 use Rattle.trusted_chunks.specs.Reading.{AreRight}
 
 from_used : (numbers : List ℕ) (kept : Kept) (e : ℕ × List ℕ) → Contains (used numbers kept) e → Contains kept e

@@ -1,23 +1,20 @@
 -- How an opening ends, by the length that came and the slices that were taken.
-use Rattle.std.proofs.Common.{Contains, ◌≡◌, ◌≢◌, ℕ, ◌+◌, ◌-◌, ◌*◌, ◌<◌, ◌≤◌, Bool, true, false, List, [], ◌∷◌, ◌++◌, length, take, drop, Option, Some, None, refl, sym, ap, subst, ◌∙◌, arith, length-append, length-drop, length-take, Result, Ok, Err}
+use Rattle.std.proofs.Common.{Contains, ◌≡◌, ◌≢◌, ℕ, ◌+◌, ◌-◌, ◌<◌, ◌≤◌, true, List, [], ◌∷◌, ◌++◌, length, take, drop, Option, Some, None, refl, sym, ap, subst, ◌∙◌, arith, length-append, length-drop, length-take, Result, Ok, Err}
 use Rattle.std.specs.Prelude.{is_some}
 use Rattle.std.specs.List.{concat, AllByRecursion}
 use Rattle.std.proofs.lemmas.List.{take_all, take-append-drop, drop-drop, append-nil}
 use Rattle.std.proofs.lemmas.Option.{IfSome_then}
 use Rattle.std.proofs.lemmas.List.FromFn.{length-map-range_with_len}
 use Rattle.sha2.specs.Sha256.{sha256}
-use Rattle.pf_io.specs.Moments.{Does}
-use Rattle.pf_io.specs.Steps.{Stays}
-use Rattle.pf_io.specs.Host.{Name, Files, Answer, LengthWas, Gave, HostState, Both, IsMore, KeepsFiles, OnHonest, OnDisk, CountsNeither, length_of, contents, files_of}
+use Rattle.pf_io.specs.Host.{Name, Files, Answer, LengthWas, HostState, Both, IsMore, KeepsFiles, OnHonest, CountsNeither, length_of, contents, files_of}
 use Rattle.pf_io.specs.Answered.{Answered, IsAnswerOf}
-use Rattle.pf_io.specs.Unchanged.{KeepsDisk}
 use Rattle.pf_io.proofs.Answering.{answered_length, answered_then}
 use Rattle.lru.proofs.Splits.{Contains-nil}
 use Rattle.trusted_chunks.specs.Chunks.{CHUNK, chunk, chunk_count}
-use Rattle.trusted_chunks.specs.State.{Kept, MOST_BYTES, FileState, IsSound, Holds}
+use Rattle.trusted_chunks.specs.State.{Kept, MOST_BYTES, FileState, IsSound}
 use Rattle.trusted_chunks.specs.Slices.{given_in_turn, AreWhole, IsTaken, CountsSlices}
-use Rattle.trusted_chunks.specs.Taking.{NotLarge, IsSummed, Takes}
-use Rattle.trusted_chunks.specs.Opening.{IsOpened, IsTooLarge, HasWrongSum, IsStopped, IsStarved, OpenEnds, slices_asked, Opens, OpensFile, HonestOpen}
+use Rattle.trusted_chunks.specs.Taking.{Takes}
+use Rattle.trusted_chunks.specs.Opening.{IsStopped, IsStarved, OpenEnds, Opens, OpensFile, HonestOpen}
 use Rattle.trusted_chunks.specs.declared.fault.TrustFault.{TrustFault}
 use Rattle.trusted_chunks.specs.declared.fault.TrustFault.TheVariants as faults
 use Rattle.trusted_chunks.specs.declared.slices.Taken.{Taken}

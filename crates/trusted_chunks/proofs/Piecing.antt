@@ -1,15 +1,15 @@
 -- A read of a trusted file, put together of its parts.
-use Rattle.std.proofs.Common.{nat_eq, ◌≡◌, ◌≢◌, ℕ, zero, suc, ◌+◌, ◌-◌, ◌*◌, ◌/◌, ◌%◌, ◌<◌, ◌≤◌, min, List, [], ◌∷◌, ◌++◌, length, take, drop, map, Contains, Option, Some, None, refl, sym, ap, ◌∙◌, subst, arith, Result, Ok, Err, length-append, length-drop, get_or}
+use Rattle.std.proofs.Common.{◌≡◌, ℕ, zero, suc, ◌+◌, ◌-◌, ◌/◌, ◌%◌, ◌<◌, ◌≤◌, min, List, ◌++◌, length, take, drop, Contains, refl, sym, ap, ◌∙◌, subst, arith, Result, Ok, Err, length-append, length-drop, get_or}
 use Rattle.std.specs.Prelude.{IsSome}
 use Rattle.std.specs.List.{range_with_len}
 use Rattle.std.proofs.lemmas.List.{length-take-le, drop-append-le, take-append-le, take-append-drop}
 use Rattle.std.proofs.lemmas.List.Elements.{Contains-get_or}
 use Rattle.pf_io.specs.Host.{Name, HostState, KeepsRest}
-use Rattle.trusted_chunks.specs.Chunks.{CHUNK, chunk_count}
+use Rattle.trusted_chunks.specs.Chunks.{CHUNK}
 use Rattle.trusted_chunks.specs.State.{Kept, MOST_KEPT, FileState, IsSound, hash_at}
-use Rattle.trusted_chunks.specs.Kept.{span, touched, kept_at, missing_of, used, kept_with, joined}
+use Rattle.trusted_chunks.specs.Kept.{touched, kept_at, missing_of, used, joined}
 use Rattle.trusted_chunks.specs.Fetching.{hash_in}
-use Rattle.trusted_chunks.specs.Reading.{readable, touched_by, Fetches, GivesBytes, ReadEnds, Reads}
+use Rattle.trusted_chunks.specs.Reading.{readable, Fetches, GivesBytes, ReadEnds, Reads}
 use Rattle.trusted_chunks.specs.declared.fault.ChunkFault.{ChunkFault}
 use Rattle.trusted_chunks.specs.declared.fault.ChunkFault.TheVariants as faults
 use Rattle.trusted_chunks.proofs.Fronts.{few_kept, all_kept}

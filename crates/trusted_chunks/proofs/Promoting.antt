@@ -1,18 +1,14 @@
 -- Chunks that come to the front, and those that are put there.
-use Rattle.std.proofs.Common.{◌≡◌, ℕ, zero, suc, ◌+◌, ◌-◌, ◌≤◌, min, Bool, true, false, cond, List, [], ◌∷◌, ◌++◌, length, take, map, Contains, Option, Some, None, refl, sym, ap, ◌∙◌, subst, arith, ◌⊎◌, inl, inr, nat_eq}
-use Rattle.std.specs.Prelude.{is_some, is_none, IsSome, filter}
+use Rattle.std.proofs.Common.{◌≡◌, ℕ, ◌+◌, ◌≤◌, Bool, true, false, cond, List, [], ◌∷◌, ◌++◌, length, Option, Some, None, refl, sym, ap, ◌∙◌, subst, arith, nat_eq}
+use Rattle.std.specs.Prelude.{is_some, is_none}
 use Rattle.std.specs.Option.{option_map_or}
-use Rattle.std.specs.Map.{lookup, lookup_entry, remove_entry}
-use Rattle.std.proofs.lemmas.Bool.{true≢false, eq-eqb, eqb-true}
+use Rattle.std.specs.Map.{lookup_entry, remove_entry}
 use Rattle.std.proofs.lemmas.List.Elements.{filter-append}
 use Rattle.std.specs.List.{range_with_len}
-use Rattle.lru.specs.LruCache.{LruCache, lru_cache, promoted, put_entries}
-use Rattle.lru.proofs.Pairs.{promoted_absent}
-use Rattle.lru.proofs.Splits.{Contains-head, Contains-tail, Contains-cons, Contains-nil}
-use Rattle.lru.proofs.CallerLemmas.{Contains-promoted, Contains-put_entries}
-use Rattle.trusted_chunks.specs.State.{Kept, MOST_KEPT}
+use Rattle.lru.specs.LruCache.{LruCache, lru_cache, promoted}
+use Rattle.trusted_chunks.specs.State.{Kept}
 use Rattle.trusted_chunks.proofs.Lists.{range_more}
-use Rattle.trusted_chunks.specs.Kept.{kept_at, missing_of, used, kept_with, numbers_of}
+use Rattle.trusted_chunks.specs.Kept.{kept_at, missing_of, used}
 
 -- a chunk is kept
 abbrev pub has : ℕ → Kept → Bool

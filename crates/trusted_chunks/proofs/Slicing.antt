@@ -1,8 +1,7 @@
 -- Slices of bytes, out of their chunks.
-use Rattle.std.proofs.Common.{◌≡◌, ℕ, zero, suc, ◌+◌, ◌-◌, ◌*◌, ◌/◌, ◌%◌, ◌<◌, ◌≤◌, min, List, [], ◌∷◌, ◌++◌, length, take, drop, map, Contains, Option, Some, None, refl, sym, ap, ◌∙◌, subst, arith, length-drop, length-take}
-use Rattle.std.specs.Prelude.{IsSome, nat_eq}
+use Rattle.std.proofs.Common.{◌≡◌, ℕ, zero, suc, ◌+◌, ◌-◌, ◌*◌, ◌/◌, ◌%◌, ◌<◌, ◌≤◌, min, List, [], ◌∷◌, ◌++◌, length, take, drop, map, Contains, Option, Some, refl, sym, ap, ◌∙◌, arith, length-drop, length-take}
 use Rattle.std.specs.List.{range_with_len, concat}
-use Rattle.std.proofs.lemmas.List.{drop-drop, take-take, take-append-drop, drop-append-le}
+use Rattle.std.proofs.lemmas.List.{drop-drop, take-take}
 use Rattle.trusted_chunks.specs.Chunks.{CHUNK, chunk, chunk_count}
 use Rattle.trusted_chunks.specs.State.{Kept}
 use Rattle.trusted_chunks.specs.Kept.{span, touched, kept_at, bytes_or_none, joined}

@@ -1,5 +1,5 @@
 -- A file that is taken slice by slice.
-use Rattle.std.proofs.Common.{◌≡◌, ℕ, ◌+◌, ◌*◌, ◌<◌, ◌≤◌, List, [], ◌∷◌, ◌++◌, length, refl, sym, ap, subst, ◌∙◌, arith, length-append, Result, Ok, Err}
+use Rattle.std.proofs.Common.{◌≡◌, ℕ, ◌+◌, ◌<◌, ◌≤◌, List, [], ◌∷◌, ◌++◌, length, refl, sym, ap, subst, ◌∙◌, arith, length-append, Result, Ok, Err}
 use Rattle.std.specs.List.{concat}
 use Rattle.sha2.specs.Sha256.{sha256}
 use Rattle.sha2.specs.Hashers.{Holds256}
@@ -16,7 +16,7 @@ use Rattle.trusted_chunks.specs.Chunks.{CHUNK, sums_of}
 use Rattle.trusted_chunks.specs.State.{MOST_BYTES}
 use Rattle.trusted_chunks.specs.Slices.{given_in_turn, AreWhole, CountsSlices, SliceCame}
 use Rattle.trusted_chunks.specs.Opening.{host_part}
-use Rattle.trusted_chunks.specs.Taking.{IsSummed, SliceTaken, SliceEnds, Takes}
+use Rattle.trusted_chunks.specs.Taking.{SliceTaken, SliceEnds, Takes}
 use Rattle.trusted_chunks.specs.declared.fault.TrustFault.{TrustFault}
 use Rattle.trusted_chunks.specs.declared.fault.TrustFault.TheVariants as faults
 use Rattle.trusted_chunks.specs.declared.slices.Taken.{Taken}

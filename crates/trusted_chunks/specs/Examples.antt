@@ -1,5 +1,5 @@
 -- Chunks of small files, and chunks that are kept, computed.
-use Rattle.std.specs.Prelude.{◌≡◌, ℕ, List, [], ◌∷◌}
+use Rattle.std.specs.Prelude.{◌≡◌, [], ◌∷◌}
 use Rattle.trusted_chunks.specs.Chunks.{chunk_count}
 use Rattle.trusted_chunks.specs.State.{Kept}
 use Rattle.trusted_chunks.specs.Kept.{touched, missing_of, used, kept_with}

@@ -1,5 +1,5 @@
 -- The chunks that are kept, by the order of a cache of the least recently used (`lru`, capacity 4).
-use Rattle.std.specs.Prelude.{◌≡◌, ℕ, zero, suc, ◌+◌, ◌-◌, ◌/◌, List, [], ◌∷◌, ◌++◌, map, drop, filter, Option, Some, None, is_none, nat_eq}
+use Rattle.std.specs.Prelude.{ℕ, zero, suc, ◌+◌, ◌-◌, ◌/◌, List, [], ◌∷◌, map, filter, Option, Some, None, is_none, nat_eq}
 use Rattle.std.specs.List.{range_with_len, concat}
 use Rattle.std.specs.Map.{lookup}
 use Rattle.lru.specs.LruCache.{lru_cache, promoted, put_entries}

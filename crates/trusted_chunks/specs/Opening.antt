@@ -1,8 +1,7 @@
 -- How the opening of a trusted file ends.
-use Rattle.std.specs.Prelude.{◌≡◌, ◌≢◌, ◌⊎◌, ℕ, ◌+◌, ◌-◌, ◌<◌, ◌≤◌, List, [], ◌∷◌, ◌++◌, length, Option, Some, None, Result, Ok, Err}
+use Rattle.std.specs.Prelude.{◌≡◌, ◌≢◌, ℕ, ◌-◌, ◌<◌, ◌≤◌, List, [], ◌∷◌, ◌++◌, length, Option, Some, None, Result, Ok, Err}
 use Rattle.std.specs.List.{concat}
 use Rattle.sha2.specs.Sha256.{sha256}
-use Rattle.pf_io.specs.Counts.{HasCause}
 use Rattle.pf_io.specs.Host.{Name, Answer, LengthWas, HostState, OnHonest}
 use Rattle.pf_io.specs.Answered.{Answered}
 use Rattle.trusted_chunks.specs.State.{FileState, Holds, MOST_BYTES}

@@ -1,8 +1,8 @@
 -- What a read of a trusted file comes to.
-use Rattle.std.specs.Prelude.{◌≡◌, ◌≢◌, ◌⊎◌, ℕ, ◌+◌, ◌-◌, ◌*◌, ◌%◌, ◌≤◌, min, List, [], ◌∷◌, ◌++◌, length, map, take, drop, Result, Ok, Err, IsSome, Contains}
+use Rattle.std.specs.Prelude.{◌≡◌, ◌≢◌, ℕ, ◌+◌, ◌-◌, ◌%◌, min, List, [], ◌∷◌, ◌++◌, length, take, drop, Result, Ok, Err, IsSome, Contains}
 use Rattle.std.specs.List.{AllByRecursion}
 use Rattle.sha2.specs.Sha256.{sha256}
-use Rattle.pf_io.specs.Host.{Name, Answer, Gave, HostState, OnHonest, contents}
+use Rattle.pf_io.specs.Host.{Name, Answer, HostState, OnHonest, contents}
 use Rattle.pf_io.specs.Answered.{Answered, Came}
 use Rattle.trusted_chunks.specs.Chunks.{CHUNK, NoAccident}
 use Rattle.trusted_chunks.specs.State.{Kept, FileState, Holds, hash_at}

@@ -1,5 +1,5 @@
 -- The slices that a host gives of a file.
-use Rattle.std.specs.Prelude.{◌≡◌, ◌⊎◌, ℕ, ◌+◌, ◌-◌, ◌*◌, ◌<◌, ◌≤◌, max, List, [], ◌∷◌, ◌++◌, length, map, Option, Some, None}
+use Rattle.std.specs.Prelude.{◌≡◌, ℕ, ◌+◌, ◌*◌, ◌<◌, ◌≤◌, max, List, [], ◌∷◌, ◌++◌, length, map, Some}
 use Rattle.std.specs.List.{concat, AllByRecursion}
 use Rattle.pf_io.specs.Host.{Name, Answer, LengthWas, Gave, HostState}
 use Rattle.pf_io.specs.Answered.{Answered}

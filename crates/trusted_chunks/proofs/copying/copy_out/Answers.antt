@@ -1,8 +1,8 @@
-use Rattle.std.proofs.Common.{◌≡◌, ◌+◌, ◌-◌, ℕ, List, arith, ap, ◌∙◌, take, drop, length, min}
+use Rattle.std.proofs.Common.{◌≡◌, ◌+◌, ◌-◌, ℕ, arith, ap, ◌∙◌, take, drop, length, min}
 use Rattle.std.specs.List.{range_with_len}
 use Rattle.trusted_chunks.specs.Kept.{joined}
 use Rattle.trusted_chunks.proofs.Lists.{range_has}
-use Rattle.trusted_chunks.proofs.Copied.{CopiedTo, none_copied, copied_more}
+use Rattle.trusted_chunks.proofs.Copied.{none_copied, copied_more}
 use Rattle.trusted_chunks.proofs.copying.copy_out.Goals as goal
 
 pub loop-chunk-init : goal.loop-chunk-init

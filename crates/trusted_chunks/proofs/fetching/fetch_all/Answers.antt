@@ -1,4 +1,4 @@
-use Rattle.std.proofs.Common.{◌≡◌, ◌∙◌, ◌+◌, ◌≤◌, ◌<◌, ◌∷◌, [], ◌++◌, List, ℕ, All, length, take, drop, slice_index, ap, sym, subst, refl, Err, Ok, arith}
+use Rattle.std.proofs.Common.{◌≡◌, ◌∙◌, ◌+◌, ◌∷◌, [], ◌++◌, List, ℕ, take, drop, slice_index, ap, sym, subst, refl, Err, Ok, arith}
 use Rattle.std.proofs.lemmas.Result.{err_from_is_err_and}
 use Rattle.std.proofs.lemmas.List.{take_all, take-append-drop}
 use Rattle.std.proofs.lemmas.Grind.{take_at_read}
@@ -6,9 +6,6 @@ use Rattle.pf_io.proofs.Unchanged.{kept_none, kept_then}
 use Rattle.trusted_chunks.specs.Reading.{Fetches}
 use Rattle.trusted_chunks.specs.Fetching.{hash_in}
 use Rattle.trusted_chunks.specs.declared.fault.ChunkFault.{ChunkFault}
-use Rattle.trusted_chunks.proofs.Fronts.{few_kept}
-use Rattle.trusted_chunks.proofs.Slicing.{slice_is}
-use Rattle.trusted_chunks.proofs.Coming.{reads_few}
 use Rattle.trusted_chunks.proofs.Fetched.{fetched_none, fetched_then, fetched_failed, failed_cause}
 use Rattle.trusted_chunks.proofs.fetching.fetch_all.Goals as goal
 

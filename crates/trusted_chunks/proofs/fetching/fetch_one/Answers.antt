@@ -1,4 +1,4 @@
-use Rattle.std.proofs.Common.{◌≡◌, ◌∙◌, ◌∷◌, [], nat_eq, List, ℕ, ap, sym, subst, Err, Ok, arith}
+use Rattle.std.proofs.Common.{◌∙◌, ◌∷◌, [], nat_eq, List, ℕ, ap, sym, subst, Err}
 use Rattle.std.proofs.lemmas.Result.{err_from_is_err_and}
 use Rattle.lru.specs.LruCache.{LruCache, lru_cache, put_entries}
 use Rattle.trusted_chunks.specs.Reading.{Fetches}

@@ -1,8 +1,8 @@
-use Rattle.std.proofs.Common.{◌≡◌, ◌+◌, ◌-◌, ◌∷◌, ◌++◌, [], ℕ, List, Bool, true, false, cond, length, arith, ap, sym, ◌∙◌, not}
+use Rattle.std.proofs.Common.{◌≡◌, ◌+◌, ◌-◌, ℕ, List, length, arith, ap, sym, ◌∙◌}
 use Rattle.std.proofs.lemmas.List.{append-nil}
 use Rattle.std.proofs.lemmas.List.FromFn.{length-range_with_len}
 use Rattle.std.specs.List.{range_with_len}
-use Rattle.lru.specs.LruCache.{LruCache, lru_cache}
+use Rattle.lru.specs.LruCache.{lru_cache}
 use Rattle.trusted_chunks.specs.Kept.{used, missing_of}
 use Rattle.trusted_chunks.proofs.Promoting.{few_missing, none_used, used_one}
 use Rattle.trusted_chunks.proofs.fetching.use_kept.Goals.{then-not-promote, else-not-promote}

@@ -1,4 +1,4 @@
-use Rattle.std.proofs.Common.{◌≡◌, ◌<◌, ◌∷◌, [], ◌++◌, List, ℕ, Bool, true, false, length, ap, sym, ◌∙◌, arith, rules}
+use Rattle.std.proofs.Common.{◌<◌, ◌∷◌, [], ◌++◌, List, ℕ, length, ap, sym, ◌∙◌, rules}
 use Rattle.trusted_chunks.proofs.Summing.{sums_one}
 use Rattle.trusted_chunks.proofs.slices.add_slice.Goals as goal
 

@@ -1,11 +1,7 @@
-use Rattle.std.proofs.Common.{◌≡◌, ◌+◌, ◌-◌, ◌≤◌, List, ℕ, length, take, ap, sym, subst, ◌∙◌, arith, refl, Err, Ok}
+use Rattle.std.proofs.Common.{◌+◌, ℕ, sym, subst, arith, refl, Err, Ok}
 use Rattle.std.proofs.lemmas.Result.{err_from_is_err_and}
-use Rattle.pf_io.specs.Counts.{HasCause}
-use Rattle.pf_io.specs.Host.{HostState}
-use Rattle.pf_io.specs.Unchanged.{KeepsDisk}
 use Rattle.pf_io.proofs.Unchanged.{kept_then}
-use Rattle.trusted_chunks.specs.Opening.{host_part}
-use Rattle.trusted_chunks.specs.Taking.{SliceEnds, Takes}
+use Rattle.trusted_chunks.specs.Taking.{SliceEnds}
 use Rattle.trusted_chunks.specs.declared.fault.TrustFault.{TrustFault}
 use Rattle.trusted_chunks.specs.declared.slices.Taken.{Taken}
 use Rattle.trusted_chunks.proofs.Asked.{cause_on}

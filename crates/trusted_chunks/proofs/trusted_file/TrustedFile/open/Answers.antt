@@ -1,13 +1,10 @@
-use Rattle.std.proofs.Common.{◌≡◌, ◌∙◌, ◌-◌, [], List, ℕ, Option, ap, sym, subst, refl, Err, Ok, arith, not}
+use Rattle.std.proofs.Common.{◌∙◌, List, ℕ, ap, sym, subst, refl, Err, not}
 use Rattle.std.proofs.lemmas.Result.{err_from_is_err_and}
 use Rattle.lru.specs.LruCache.{LruCache}
 use Rattle.pf_io.proofs.Unchanged.{kept_once, kept_then}
-use Rattle.trusted_chunks.specs.State.{FileState}
 use Rattle.trusted_chunks.specs.Taking.{Takes}
 use Rattle.trusted_chunks.specs.Opening.{Opens}
-use Rattle.trusted_chunks.specs.Inside.{state_of}
 use Rattle.trusted_chunks.specs.declared.fault.TrustFault.{TrustFault}
-use Rattle.trusted_chunks.specs.declared.slices.Taken.{Taken}
 use Rattle.trusted_chunks.proofs.Opened.{length_came, opens_starved, opens_failed, opens_wrong, opens_ok, sound_opened, honest_open}
 use Rattle.trusted_chunks.proofs.trusted_file.TrustedFile.open.Goals as goal
 

@@ -1,18 +1,16 @@
-use Rattle.std.proofs.Common.{◌≡◌, ◌≢◌, ◌∙◌, ◌+◌, ◌-◌, ◌*◌, ◌/◌, ◌%◌, ◌≤◌, ◌<◌, ◌++◌, List, ℕ, min, length, take, drop, ap, sym, subst, refl, Err, Ok, arith, Contains}
-use Rattle.std.specs.List.{range_with_len}
-use Rattle.std.proofs.lemmas.List.{length-take-le}
+use Rattle.std.proofs.Common.{◌≡◌, ◌∙◌, ◌-◌, ◌%◌, ◌≤◌, ◌++◌, List, ℕ, min, length, take, drop, ap, sym, subst, refl, Err, Ok, arith, Contains}
 use Rattle.std.proofs.lemmas.Result.{err_from_is_err_and}
 use Rattle.lru.specs.LruCache.{LruCache}
 use Rattle.lru.proofs.Splits.{Contains-nil}
 use Rattle.trusted_chunks.specs.Chunks.{CHUNK}
-use Rattle.trusted_chunks.specs.State.{Kept, FileState, hash_at}
-use Rattle.trusted_chunks.specs.Kept.{touched, kept_at, missing_of, used, joined}
+use Rattle.trusted_chunks.specs.State.{FileState, hash_at}
+use Rattle.trusted_chunks.specs.Kept.{touched, missing_of, used, joined}
 use Rattle.trusted_chunks.specs.Fetching.{hash_in}
 use Rattle.trusted_chunks.specs.Reading.{readable, Fetches, Reads, ReadsFew}
 use Rattle.trusted_chunks.specs.Inside.{state_of}
 use Rattle.trusted_chunks.specs.declared.fault.ChunkFault.{ChunkFault}
 use Rattle.trusted_chunks.proofs.Fetched.{fetched_none}
-use Rattle.trusted_chunks.proofs.Coming.{reads_few, damage_comes, held_read, honest_read}
+use Rattle.trusted_chunks.proofs.Coming.{reads_few, held_read, honest_read}
 use Rattle.trusted_chunks.proofs.Piecing.{numbers_are, fetched_by, fetched_ok, fetched_err, reads_of, sound_then, touched_kept, known_sums, part_of, part_gives}
 use Rattle.trusted_chunks.proofs.trusted_file.TrustedFile.read.Goals as goal
 
