@@ -7,6 +7,7 @@ pub mod Parting
 pub mod Children
 pub mod Entering
 pub mod Planned
+pub mod Exemplified
 pub mod Existing
 pub mod Rising
 pub mod Levels

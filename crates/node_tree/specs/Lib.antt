@@ -1,6 +1,7 @@
 pub mod Content
 pub mod Touched
 pub mod Sheet
+pub mod Examples
 pub mod Existing
 pub mod Opened
 pub mod Parts

@@ -22,7 +22,7 @@ impl Tree {
     /// are in its parent, or are the root's, before that is sealed. The keys are those of the dirty nodes in rising
     /// number, one each. The entries of children that are not live are zeros in what is sealed.
     ///
-    /// After a fault the tree may only be dropped.
+    /// A fault comes where a write failed; no call is made after it, and the tree may only be dropped.
     pub fn put_nodes<H: Host>(
         &mut self,
         host: &mut H,

@@ -6,6 +6,7 @@ mod clearing;
 mod copying;
 #[cfg(test)]
 mod edit_tests;
+pub mod examples;
 mod fault;
 mod flushing;
 mod laws;

@@ -157,7 +157,13 @@ pub(crate) fn expect_read(
 }
 
 // Reads a content of this size in pieces, from the first byte to the end and past it.
-pub(crate) fn expect_pieces(rt: &impl Abort, tree: &mut Tree, host: &mut MemHost, size: u64, to: &mut [u8])
+pub(crate) fn expect_pieces(
+    rt: &impl Abort,
+    tree: &mut Tree,
+    host: &mut MemHost,
+    size: u64,
+    to: &mut [u8],
+)
     requires { length to.old ≤ 32768 }
 {
     for piece in 0..32u64 {
