@@ -1,6 +1,7 @@
--- What a run does outside of itself: answers of the host, random words and bytes for the output, in one list.
-use Rattle.std.specs.Prelude.{List, [], ◌∷◌, ◌++◌, ℕ}
-use Rattle.pf_io.specs.Host.{Answer}
+-- What a run does outside of itself: answers of the host, random words and pieces for the output, in one list.
+use Rattle.std.specs.Prelude.{List, [], ◌∷◌, ◌++◌, ℕ, zero, suc, ◌+◌}
+use Rattle.std.specs.List.{concat}
+use Rattle.pf_io.specs.Host.{Answer, Gave, Wrote}
 
 -- The host answered a call; a random word was drawn; the output took these bytes.
 pub data Event : Type 0 where
@@ -22,9 +23,25 @@ words_in (Answers answer ∷ events) = words_in events
 words_in (Draws word ∷ events) = word ∷ words_in events
 words_in (Puts bytes ∷ events) = words_in events
 
+-- the pieces that the output took
+abbrev pub pieces_in : List Event → List (List ℕ)
+pieces_in [] = []
+pieces_in (Answers answer ∷ events) = pieces_in events
+pieces_in (Draws word ∷ events) = pieces_in events
+pieces_in (Puts bytes ∷ events) = bytes ∷ pieces_in events
+
 -- all bytes that the output took
 abbrev pub bytes_in : List Event → List ℕ
-bytes_in [] = []
-bytes_in (Answers answer ∷ events) = bytes_in events
-bytes_in (Draws word ∷ events) = bytes_in events
-bytes_in (Puts bytes ∷ events) = bytes ++ bytes_in events
+bytes_in events = concat (pieces_in events)
+
+-- calls of `read_at` among answers
+abbrev pub reads_in : List Answer → ℕ
+reads_in [] = 0
+reads_in (Gave name place room bytes ∷ these) = suc (reads_in these)
+reads_in (answer ∷ these) = reads_in these
+
+-- calls of `write_at` among answers
+abbrev pub writes_in : List Answer → ℕ
+writes_in [] = 0
+writes_in (Wrote name place bytes ∷ these) = suc (writes_in these)
+writes_in (answer ∷ these) = writes_in these
