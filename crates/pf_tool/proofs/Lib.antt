@@ -1,0 +1,5 @@
+pub mod Writing
+pub mod Composing
+pub mod Calls
+pub mod Stopping
+pub mod KeyReading

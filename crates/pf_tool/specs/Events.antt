@@ -1,6 +1,7 @@
 -- What a run does outside of itself: answers of the host, random words and pieces for the output, in one list.
-use Rattle.std.specs.Prelude.{List, [], ◌∷◌, ◌++◌, ℕ, zero, suc, ◌+◌}
+use Rattle.std.specs.Prelude.{List, [], ◌∷◌, ◌++◌, ℕ}
 use Rattle.std.specs.List.{concat}
+use Rattle.pf_io.specs.Counts.{counted}
 use Rattle.pf_io.specs.Host.{Answer, Gave, Wrote}
 
 -- The host answered a call; a random word was drawn; the output took these bytes.
@@ -34,14 +35,14 @@ pieces_in (Puts bytes ∷ events) = bytes ∷ pieces_in events
 abbrev pub bytes_in : List Event → List ℕ
 bytes_in events = concat (pieces_in events)
 
--- calls of `read_at` among answers
-abbrev pub reads_in : List Answer → ℕ
-reads_in [] = 0
-reads_in (Gave name place room bytes ∷ these) = suc (reads_in these)
-reads_in (answer ∷ these) = reads_in these
+-- a count of the calls of `read_at`, after these answers
+abbrev pub reads_after : List Answer → ℕ → ℕ
+reads_after [] count = count
+reads_after (Gave name place room bytes ∷ these) count = reads_after these (counted count)
+reads_after (answer ∷ these) count = reads_after these count
 
--- calls of `write_at` among answers
-abbrev pub writes_in : List Answer → ℕ
-writes_in [] = 0
-writes_in (Wrote name place bytes ∷ these) = suc (writes_in these)
-writes_in (answer ∷ these) = writes_in these
+-- a count of the calls of `write_at`, after these answers
+abbrev pub writes_after : List Answer → ℕ → ℕ
+writes_after [] count = count
+writes_after (Wrote name place bytes ∷ these) count = writes_after these (counted count)
+writes_after (answer ∷ these) count = writes_after these count

@@ -1,13 +1,13 @@
 -- What happened in a run or in a part of it: these events came, in order, and nothing else.
 use Rattle.std.specs.Prelude.{◌≡◌, ℕ, List, [], ◌∷◌, ◌++◌}
 use Rattle.std.specs.List.{AllByRecursion, concat}
-use Rattle.pf_io.specs.Counts.{Rose, counted_by}
+use Rattle.pf_io.specs.Counts.{Rose}
 use Rattle.pf_io.specs.Host.{Answer, HostState, Both, IsMore, OnHonest}
 use Rattle.pf_io.specs.Answered.{IsAnswerOf}
 use Rattle.pf_io.specs.Streams.{SinkState, TakesFront}
 use Rattle.pf_io.specs.Words.{WordsState}
 use Rattle.pf_tool.specs.World.{World, with_host, with_out, with_random}
-use Rattle.pf_tool.specs.Events.{Event, Answers, Draws, Puts, answers_in, words_in, pieces_in, reads_in, writes_in}
+use Rattle.pf_tool.specs.Events.{Event, Answers, Draws, Puts, answers_in, words_in, pieces_in, reads_after, writes_after}
 use Rattle.pf_tool.specs.Endings.{Stop, AtEnd, Failed, Starved}
 
 -- The host answered these calls and no other, and none failed. Where it is honest, what was asked was answered by the files
@@ -15,8 +15,8 @@ use Rattle.pf_tool.specs.Endings.{Stop, AtEnd, Failed, Starved}
 pub record HostPassed (these : List Answer) (old new : HostState) : Type 0 where
   pub told : Both old.given new.given (IsMore these)
   pub calm : new.faults ≡ old.faults
-  pub reads : new.reads ≡ counted_by (reads_in these) old.reads
-  pub writes : new.writes ≡ counted_by (writes_in these) old.writes
+  pub reads : new.reads ≡ reads_after these old.reads
+  pub writes : new.writes ≡ writes_after these old.writes
   pub untouched : these ≡ [] → new ≡ old
   pub honest : OnHonest old (λ files. AllByRecursion (IsAnswerOf files) these)
 
@@ -24,8 +24,8 @@ pub record HostPassed (these : List Answer) (old new : HostState) : Type 0 where
 pub record HostFailed (answer : Answer) (old new : HostState) : Type 0 where
   pub told : new.given ≡ old.given
   pub rose : Rose old.faults new.faults
-  pub reads : new.reads ≡ counted_by (reads_in (answer ∷ [])) old.reads
-  pub writes : new.writes ≡ counted_by (writes_in (answer ∷ [])) old.writes
+  pub reads : new.reads ≡ reads_after (answer ∷ []) old.reads
+  pub writes : new.writes ≡ writes_after (answer ∷ []) old.writes
 
 -- these words were taken
 abbrev pub IsTaken : List (List ℕ) → List (List ℕ) → List (List ℕ) → Type 0
