@@ -57,6 +57,10 @@ none_honest : (files : Option Files) → IfSome files (λ f. AllByRecursion (IsA
 none_honest (Some f) = tt
 none_honest None = tt
 
+pub all_honest : (files : Option Files) (answer : Answer) → ((files : Files) → IsAnswerOf files answer) → IfSome files (λ f. AllByRecursion (IsAnswerOf f) (answer ∷ []))
+all_honest (Some f) answer change = (change f, tt)
+all_honest None answer change = tt
+
 -- what an honest host's files are, as before
 pub files_kept : (these : List Answer) (old mid : HostState) → KeepsFiles old mid → OnHonest mid (λ files. AllByRecursion (IsAnswerOf files) these) → OnHonest old (λ files. AllByRecursion (IsAnswerOf files) these)
 files_kept these old mid kept honest = subst (λ (f : Option Files). IfSome f (λ g. AllByRecursion (IsAnswerOf g) these)) kept honest
@@ -176,3 +180,10 @@ failed_word word world old new failed = (failed, refl)
 
 pub failed_piece : (bytes : List ℕ) (world : World) (old new : SinkState) → OutFailed bytes old new → FailedIn (Puts bytes) (with_out world old) (with_out world new)
 failed_piece bytes world old new failed = (failed, refl)
+
+-- one more call of the host, of which nothing is asked
+pub passed_change : (xs : List Event) (answer : Answer) (first world : World) (old new : HostState) → ((files : Files) → IsAnswerOf files answer) → Passed xs first (with_host world old) → HostPassed (answer ∷ []) old new
+    → Passed (xs ++ Answers answer ∷ []) first (with_host world new)
+passed_change xs answer first world old new change passed host =
+    passed_then xs (Answers answer ∷ []) first (with_host world old) (with_host world new) passed (passed_host (Answers answer ∷ []) world old new refl refl host)
+    (all_honest (files_of first.host) answer change)

@@ -3,3 +3,8 @@ pub mod Composing
 pub mod Calls
 pub mod Stopping
 pub mod KeyReading
+mod Lists
+mod Drawing
+mod SideDisk
+mod SealDisk
+mod SideMaking

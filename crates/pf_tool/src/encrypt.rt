@@ -42,7 +42,7 @@ fn seal_input<'a, H: Host, R: Words>(
 ) -> Result<(), Fault<'a>>
     requires target { IsTarget command.now.output.now }
     requires input { IsInput command.now.input.now command.now.output.now }
-    ensures ends { (world : World) → Ends (Seals user.now command.now.input.now command.now.output.now) (LeavesSealed user.now command.now.input.now command.now.output.now) result
+    ensures { (world : World) → Ends (Seals user.now command.now.input.now command.now.output.now) (LeavesSealed user.now command.now.input.now command.now.output.now) result
         (with_random (with_host world (H.state host.old)) (R.state random.old)) (with_random (with_host world (H.state host.new)) (R.state random.new)) }
 {
     let Some(_) = host.len(command.input)? else {

@@ -54,7 +54,7 @@ pub(crate) fn begin<H: Host, R: Words>(
 ) -> Result<(), Fault<'static>>
     requires path { IsPath output.now }
     requires side { side.now ≡ side_of output.now }
-    ensures begins { (world : World) → Ends (Begins user.now output.now) (LeavesBegun output.now) result
+    ensures { (world : World) → Ends (Begins user.now output.now) (LeavesBegun output.now) result
         (with_random (with_host world (H.state host.old)) (R.state random.old)) (with_random (with_host world (H.state host.new)) (R.state random.new)) }
 {
     let nonce = draw_nonce(random)?;
@@ -77,7 +77,7 @@ pub(crate) fn publish<H: Host, R: Words>(
     requires path { IsPath output.now }
     requires side { side.now ≡ side_of output.now }
     requires small { length content.now ≤ MOST_FIRST }
-    ensures publishes { (world : World) → Ends (Publishes user.now output.now content.now) (LeavesPublished user.now output.now content.now) result
+    ensures { (world : World) → Ends (Publishes user.now output.now content.now) (LeavesPublished user.now output.now content.now) result
         (with_random (with_host world (H.state host.old)) (R.state random.old)) (with_random (with_host world (H.state host.new)) (R.state random.new)) }
 {
     let nonce = draw_nonce(random)?;

@@ -1,0 +1,26 @@
+-- Lists of a known length, and names with an ending.
+use Rattle.std.proofs.Common.{◌≡◌, ◌≢◌, ◌↔◌, ◌∙◌, ◌<◌, ◌≤◌, ℕ, List, [], ◌∷◌, ◌++◌, length, slice_index_or, Bool, true, false, IsTrue, MatchBool, ap, sym, refl, arith}
+use Rattle.std.proofs.lemmas.List.{append_cancel_left}
+
+-- the items of a list of five, as reads give them
+pub five : {A : Type 0} → (xs : List A) (a b c d e : A) → 5 ≤ length xs → length xs < 6
+    → a ≡ slice_index_or xs 0 a → b ≡ slice_index_or xs 1 b → c ≡ slice_index_or xs 2 c → d ≡ slice_index_or xs 3 d → e ≡ slice_index_or xs 4 e
+    → xs ≡ a ∷ b ∷ c ∷ d ∷ e ∷ []
+five [] a b c d e least most p q r s t = absurd (omega arith)
+five (v ∷ []) a b c d e least most p q r s t = absurd (omega arith)
+five (v ∷ w ∷ []) a b c d e least most p q r s t = absurd (omega arith)
+five (v ∷ w ∷ x ∷ []) a b c d e least most p q r s t = absurd (omega arith)
+five (v ∷ w ∷ x ∷ y ∷ []) a b c d e least most p q r s t = absurd (omega arith)
+five (v ∷ w ∷ x ∷ y ∷ z ∷ []) a b c d e least most p q r s t = cc
+five (v ∷ w ∷ x ∷ y ∷ z ∷ u ∷ more) a b c d e least most p q r s t = absurd (omega arith)
+
+pub never_true : ¬ (IsTrue false)
+never_true is = absurd (cc)
+
+-- a name has the ending exactly where what follows the other name is it
+pub told_beside : (name other rest ending : List ℕ) (r : Bool) → name ≡ other ++ rest → MatchBool r (rest ≡ ending) (rest ≢ ending) → IsTrue r ↔ (name ≡ other ++ ending)
+told_beside name other rest ending true is told = (λ yes. is ∙ ap (λ (l : List ℕ). other ++ l) told, λ same. refl)
+told_beside name other rest ending false is told = (λ yes. absurd (never_true yes), λ same. absurd (told (append_cancel_left other rest ending (sym is ∙ same))))
+
+pub not_beside : (name other ending : List ℕ) → ((rest : List ℕ) → name ≢ other ++ rest) → IsTrue false ↔ (name ≡ other ++ ending)
+not_beside name other ending never = (λ yes. absurd (never_true yes), λ same. absurd (never ending same))
