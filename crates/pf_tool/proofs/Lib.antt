@@ -8,3 +8,5 @@ mod Drawing
 mod SideDisk
 mod SealDisk
 mod SideMaking
+mod InputDisk
+mod InputSealing

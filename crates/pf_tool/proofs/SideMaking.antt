@@ -29,6 +29,10 @@ not_done event same = absurd (cc)
 pub third : (a b c : Event) (rest : List Event) → (k : ℕ) × (k < length (a ∷ b ∷ c ∷ rest)) × (slice_index_or (a ∷ b ∷ c ∷ rest) k c ≡ c)
 third a b c rest = (2, omega arith, refl)
 
+-- and the fifth
+pub fifth : (a b c d e : Event) (rest : List Event) → (k : ℕ) × (k < length (a ∷ b ∷ c ∷ d ∷ e ∷ rest)) × (slice_index_or (a ∷ b ∷ c ∷ d ∷ e ∷ rest) k e ≡ e)
+fifth a b c d e rest = (4, omega arith, refl)
+
 -- the two words that were taken first
 pub two_words : (first second : List ℕ) → first ++ second ≡ concat (first ∷ second ∷ [])
 two_words first second = ap (λ (l : List ℕ). first ++ l) (sym (append-nil second))
