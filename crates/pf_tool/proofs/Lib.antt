@@ -10,3 +10,4 @@ mod SealDisk
 mod SideMaking
 mod InputDisk
 mod InputSealing
+mod EncryptEnding
