@@ -107,8 +107,8 @@ module _ (name : Name) (at : ℕ) (s s' : TreeState) (before after : HostState) 
             fails = ends.fails;
           };
         }
-    reads_failed faults.Host buffer touched fetches = record { these = fetches.these; answered = fetches.answered; rest = rest; fetched = fetches.fetched; numbers = numbers; touched = touched; asked = fetches.asked; ends = tt }
-    reads_failed faults.Memory buffer touched fetches = record { these = fetches.these; answered = fetches.answered; rest = rest; fetched = fetches.fetched; numbers = numbers; touched = touched; asked = fetches.asked; ends = tt }
+    reads_failed faults.Host buffer touched fetches = record { these = fetches.these; answered = fetches.answered; rest = rest; fetched = fetches.fetched; numbers = numbers; touched = touched; asked = fetches.asked; ends = fetches.ends }
+    reads_failed faults.Memory buffer touched fetches = record { these = fetches.these; answered = fetches.answered; rest = rest; fetched = fetches.fetched; numbers = numbers; touched = touched; asked = fetches.asked; ends = fetches.ends }
 
   pub few_reads : (room : ℕ) (numbers : List ℕ) → AreTouched at (at + readable s at room) numbers → CountsReads (length (missing_of (held_at s) numbers)) before after → ReadsFew at room s before after
   few_reads room numbers touched few others touched' = subst (λ (l : List ℕ). CountsReads (length (missing_of (held_at s) l)) before after) (same_numbers at (at + readable s at room) numbers others touched touched') few

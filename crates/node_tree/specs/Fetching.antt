@@ -86,12 +86,16 @@ pub record FailsAt (numbers : List ℕ) (held held_now given : AtNodes) (root : 
   pub before : (j : ℕ) → j < i → IsAt held_now (slice_index numbers j)
   pub fails : Fails held given root damage.node damage.kind
 
+-- each block that was given opens
+abbrev pub EachOpens : AtNodes → AtNodes → Entry → Type 0
+EachOpens held given root = (k : ℕ) (block : List ℕ) → given k block → (plain : List ℕ) × Opened held given root k plain
+
 -- how the fetching of some numbers ends
 abbrev pub FetchEnds : {T : Type 0} → Result T TreeFault → List ℕ → AtNodes → AtNodes → AtNodes → Entry → Type 0
 FetchEnds (Ok value) numbers held held_now given root = (i : ℕ) → i < length numbers → IsAt held_now (slice_index numbers i)
 FetchEnds (Err (faults.Damaged damage)) numbers held held_now given root = FailsAt numbers held held_now given root damage
-FetchEnds (Err faults.Host) numbers held held_now given root = Unit {0}
-FetchEnds (Err faults.Memory) numbers held held_now given root = Unit {0}
+FetchEnds (Err faults.Host) numbers held held_now given root = EachOpens held given root
+FetchEnds (Err faults.Memory) numbers held held_now given root = EachOpens held given root
 
 -- each of the numbers was asked for, and these answers came of it, in turn
 abbrev pub AsksInTurn : Name → List ℕ → List Answer → Type 0
@@ -104,10 +108,27 @@ pub record AsksFront (name : Name) (numbers : List ℕ) (these : List Answer) : 
   pub split : numbers ≡ done ++ left
   pub asks : AsksInTurn name done these
 
--- all of them were asked for, or some before it failed
+-- those up to this one were, and none behind it
+pub record AsksUpTo (name : Name) (numbers : List ℕ) (number : ℕ) (these : List Answer) : Type 0 where
+  pub before : List ℕ
+  pub left : List ℕ
+  pub split : numbers ≡ (before ++ number ∷ []) ++ left
+  pub asks : AsksInTurn name (before ++ number ∷ []) these
+
+-- those before another one were
+pub record AsksBefore (name : Name) (numbers : List ℕ) (these : List Answer) : Type 0 where
+  pub done : List ℕ
+  pub next : ℕ
+  pub left : List ℕ
+  pub split : numbers ≡ done ++ next ∷ left
+  pub asks : AsksInTurn name done these
+
+-- All of them were asked for, or those up to the one that is damaged, or those before the one at which the host failed.
 abbrev pub Asks : {T : Type 0} → Result T TreeFault → Name → List ℕ → List Answer → Type 0
 Asks (Ok value) name numbers these = AsksInTurn name numbers these
-Asks (Err fault) name numbers these = AsksFront name numbers these
+Asks (Err (faults.Damaged damage)) name numbers these = AsksUpTo name numbers damage.node these
+Asks (Err faults.Host) name numbers these = AsksBefore name numbers these
+Asks (Err faults.Memory) name numbers these = AsksFront name numbers these
 
 -- the fetching of some numbers, by the answers that came
 pub record Fetches {T : Type 0} (result : Result T TreeFault) (name : Name) (numbers : List ℕ) (held held_now : ℕ → Option (List ℕ)) (root : Entry) (old new : HostState) : Type 0 where
