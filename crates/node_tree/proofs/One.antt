@@ -5,14 +5,14 @@ use Rattle.std.specs.Option.{option_map}
 use Rattle.std.proofs.lemmas.Bool.{true≢false, cases_eq, ne_eqb, cond-true, cond-false, eq-eqb}
 use Rattle.std.proofs.lemmas.List.{append-nil}
 use Rattle.std.proofs.lemmas.Option.{same_Some, none-some}
-use Rattle.pf_io.specs.Host.{Name, HostState}
+use Rattle.pf_io.specs.Host.{Name, HostState, CountsRead}
 use Rattle.node_tree.specs.Opened.{At, IsAt, Entry, Opened, was_held, Fails, Given}
-use Rattle.node_tree.specs.Fetching.{Asking, HasEntry, node_answer, NodeOpens, NodeEnds, FetchEnds, EachOpens, Asks, AsksInTurn, AsksUpTo, AsksBefore, AsksFront, Fetches, missing_of}
+use Rattle.node_tree.specs.Fetching.{Asking, CountsCalls, calls_of, HasEntry, node_answer, NodeOpens, NodeEnds, FetchEnds, EachOpens, Asks, AsksInTurn, AsksUpTo, AsksBefore, AsksFront, Fetches, missing_of}
 use Rattle.node_tree.specs.declared.fault.TreeFault.{TreeFault}
 use Rattle.node_tree.specs.declared.fault.TreeFault.TheVariants as faults
 use Rattle.pf_io.proofs.Answering.{answered_none}
 use Rattle.node_tree.proofs.Asked.{same_place}
-use Rattle.node_tree.proofs.Asking.{asking_err, asking_as, memory_part}
+use Rattle.node_tree.proofs.Asking.{counts_none, counts_one, asking_err, asking_as, memory_part}
 use Rattle.node_tree.proofs.Coming.{opened_by, fails_by, fetched_none}
 
 pub only_one : (P : ℕ → Type 0) (k i : ℕ) → i < 1 → P k → P (slice_index (k ∷ []) i)
@@ -78,6 +78,7 @@ module _ (name : Name) (k : ℕ) (root : Entry) where
   fetched_already value f state there = record {
     these = [];
     answered = answered_none state;
+    counted = counts_none state;
     fetched = fetched_none (At f) (Given name []) root;
     only = λ j held. inl held;
     asked = subst (λ (l : List ℕ). AsksInTurn name l []) (sym (missing_held f k there.0 there.1)) tt;
@@ -86,10 +87,11 @@ module _ (name : Name) (k : ℕ) (root : Entry) where
 
   -- it does not open, or the host fails
   pub fetch_failed : {T : Type 0} (fault : TreeFault) (f : ℕ → Option (List ℕ)) (entry : Entry) (old new : HostState) → HasEntry (At f) root k entry → ¬ (IsAt (At f) k)
-      → NodeEnds (Err fault) name k entry old new → Fetches {T = T} (Err fault) name (k ∷ []) f f root old new
-  fetch_failed (faults.Damaged damage) f entry old new has missing ends = record {
+      → CountsRead 4096 old new → NodeEnds (Err fault) name k entry old new → Fetches {T = T} (Err fault) name (k ∷ []) f f root old new
+  fetch_failed (faults.Damaged damage) f entry old new has missing counts ends = record {
     these = node_answer name k ends.block;
     answered = ends.answered;
+    counted = counts_one old new counts;
     fetched = fetched_none (At f) (Given name (node_answer name k ends.block)) root;
     only = λ j there. inl there;
     asked = asks_up_to name f k ends.block damage.node ends.node_is missing;
@@ -101,18 +103,19 @@ module _ (name : Name) (k : ℕ) (root : Entry) where
       fails = subst (λ (n : ℕ). Fails (At f) (Given name (node_answer name k ends.block)) root n damage.kind) (sym ends.node_is) (fails_by (At f) (Given name (node_answer name k ends.block)) root entry k ends.block damage.kind missing has (given_one name k ends.block) ends.fails);
     };
   }
-  fetch_failed faults.Host f entry old new has missing ends = record {
+  fetch_failed faults.Host f entry old new has missing counts ends = record {
     these = [];
     answered = ends;
+    counted = counts_one old new counts;
     fetched = fetched_none (At f) (Given name []) root;
     only = λ j there. inl there;
     asked = asks_before name f k missing;
     ends = λ j block there. absurd (omega (arith, there.1));
   }
-  fetch_failed faults.Memory f entry old new has missing ends = absurd ends
+  fetch_failed faults.Memory f entry old new has missing counts ends = absurd ends
 
   -- it opens, and is kept where there is memory
-  module _ (f f' : ℕ → Option (List ℕ)) (entry : Entry) (plain : List ℕ) (old new : HostState) (has : HasEntry (At f) root k entry) (missing : ¬ (IsAt (At f) k)) (opens : NodeOpens name k entry old new plain) where
+  module _ (f f' : ℕ → Option (List ℕ)) (entry : Entry) (plain : List ℕ) (old new : HostState) (has : HasEntry (At f) root k entry) (missing : ¬ (IsAt (At f) k)) (counts : CountsRead 4096 old new) (opens : NodeOpens name k entry old new plain) where
     kept_others : ((j : ℕ) → f' j ≡ cond (eqb j k) (Some plain) (f j)) → (j : ℕ) (p : List ℕ) → f j ≡ Some p → f' j ≡ Some p
     kept_others is j p there =
         elim (cases_eq j k) [
@@ -147,6 +150,7 @@ module _ (name : Name) (k : ℕ) (root : Entry) where
     fetch_opened (Ok value) is same memory = record {
       these = node_answer name k opens.block;
       answered = opens.answered;
+      counted = counts_one old new counts;
       fetched = record { kept = kept_others is; came = came_by is };
       only = only_this is;
       asked = asks_one name f k opens.block missing;
@@ -155,6 +159,7 @@ module _ (name : Name) (k : ℕ) (root : Entry) where
     fetch_opened {T} (Err fault) is same memory = record {
       these = node_answer name k opens.block;
       answered = opens.answered;
+      counted = subst (λ (x : TreeFault). CountsCalls (calls_of {T = T} (Err x) 1) old new) (sym memory) (counts_one old new counts);
       fetched = record { kept = λ j p there. same j ∙ there; came = λ j p there. was_held j p (sym (same j) ∙ there) };
       only = λ j there. inl (there.0, sym (same j) ∙ there.1);
       asked = subst (λ (x : TreeFault). Asks {T = T} (Err x) name (missing_of f (k ∷ [])) (node_answer name k opens.block)) (sym memory) (asks_front name f k opens.block missing);

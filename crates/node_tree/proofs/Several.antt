@@ -9,13 +9,13 @@ use Rattle.std.proofs.lemmas.List.Elements.{filter-append, Contains-get_or, Cont
 use Rattle.pf_io.specs.Host.{Name, Answer, Gave, HostState}
 use Rattle.node_layout.specs.Places.{parent_of}
 use Rattle.node_tree.specs.Opened.{AtNodes, At, IsAt, Entry, Opened, was_held, Given}
-use Rattle.node_tree.specs.Fetching.{Asking, Fetched, FetchEnds, EachOpens, AsksInTurn, Asks, Fetches, missing_of, AreRooted}
+use Rattle.node_tree.specs.Fetching.{Asking, CountsCalls, calls_of, Fetched, FetchEnds, EachOpens, AsksInTurn, Asks, Fetches, missing_of, AreRooted}
 use Rattle.pf_io.specs.Answered.{Answered}
 use Rattle.node_tree.specs.declared.fault.TreeFault.{TreeFault}
 use Rattle.node_tree.specs.declared.fault.TreeFault.TheVariants as faults
 use Rattle.pf_io.proofs.Answering.{answered_none, answered_then}
 use Rattle.node_tree.proofs.Asked.{given_asked}
-use Rattle.node_tree.proofs.Asking.{asking_none, asking_then, asking_as, asking_err}
+use Rattle.node_tree.proofs.Asking.{counts_none, counts_then, calls_then, same_calls, asking_none, asking_then, asking_as, asking_err}
 use Rattle.node_tree.proofs.Coming.{fetched_none, fetched_then, opened_then, fails_then}
 use Rattle.node_tree.proofs.Order.{in_order}
 
@@ -23,6 +23,7 @@ use Rattle.node_tree.proofs.Order.{in_order}
 pub record FetchedTo (name : Name) (numbers : List ℕ) (i : ℕ) (f f' : ℕ → Option (List ℕ)) (root : Entry) (old new : HostState) : Type 0 where
   pub these : List Answer
   pub answered : Answered these old new
+  pub counted : CountsCalls (length these) old new
   pub fetched : Fetched (At f) (At f') (Given name these) root
   pub all : (j : ℕ) → j < i → IsAt (At f') (slice_index numbers j)
   pub only : (k : ℕ) → IsAt (At f') k → IsAt (At f) k ⊎ ((j : ℕ) × (j < i) × (slice_index numbers j ≡ k))
@@ -35,6 +36,7 @@ module _ (name : Name) (numbers : List ℕ) (f : ℕ → Option (List ℕ)) (roo
   fetched_to_none = record {
     these = [];
     answered = answered_none old;
+    counted = counts_none old;
     fetched = fetched_none (At f) (Given name []) root;
     all = λ j lt. absurd (omega arith);
     only = λ k there. inl there;
@@ -179,6 +181,7 @@ module _ (name : Name) (numbers : List ℕ) (i : ℕ) (f g h : ℕ → Option (L
   fetched_to_more value asking fetches = record {
     these = to.these ++ fetches.these;
     answered = answered_then to.these fetches.these old mid new to.answered fetches.answered;
+    counted = subst (λ (n : ℕ). CountsCalls n old new) (sym (length-append to.these fetches.these)) (counts_then (length to.these) (length fetches.these) old mid new to.counted fetches.counted);
     fetched = fetched_then (At f) (At g) (At h) root name to.these fetches.these to.fetched fetches.fetched;
     all = λ j below. elim (cases_eq j i) [
       | inl is ↦ subst (λ (k : ℕ). IsAt (At h) (slice_index numbers k)) (sym is) (fetches.ends 0 (omega arith))
@@ -220,6 +223,9 @@ module _ (name : Name) (numbers : List ℕ) (i : ℕ) (f g h : ℕ → Option (L
   fetches_failed {T} {U} fault fetches = record {
     these = to.these ++ fetches.these;
     answered = answered_then to.these fetches.these old mid new to.answered fetches.answered;
+    counted = subst (λ (n : ℕ). CountsCalls n old new)
+        (calls_then {T = U} (Err fault) (length to.these) (length fetches.these) ∙ ap (λ (n : ℕ). calls_of {T = U} (Err fault) n) (sym (length-append to.these fetches.these)))
+        (counts_then (length to.these) (calls_of {T = U} (Err fault) (length fetches.these)) old mid new to.counted (same_calls T U fault (length fetches.these) mid new fetches.counted));
     fetched = fetched_then (At f) (At g) (At h) root name to.these fetches.these to.fetched fetches.fetched;
     only = λ k there. elim (fetches.only k there) [
       | inl before ↦ elim (to.only k before) [ inl first ↦ inl first | inr (j, sooner, same) ↦ inr (subst (λ (m : ℕ). Contains numbers m) same (Contains-get_or numbers j 0 (omega arith))) ]
@@ -241,6 +247,7 @@ pub fetches_done : {T : Type 0} (value : T) (name : Name) (numbers : List ℕ) (
 fetches_done value name numbers i f g root old new le at_most to = record {
   these = to.these;
   answered = to.answered;
+  counted = to.counted;
   fetched = to.fetched;
   only = λ k there. elim (to.only k there) [
     | inl first ↦ inl first

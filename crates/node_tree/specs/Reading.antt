@@ -8,7 +8,7 @@ use Rattle.node_tree.specs.Opened.{AtNodes, IsAt, Given, Opened, NothingHeld, Bl
 use Rattle.node_tree.specs.Parts.{IsBroken, IsPart}
 use Rattle.node_tree.specs.State.{TreeState, held_at, Held, root_in, readable}
 use Rattle.node_tree.specs.Unforged.{GivenOf}
-use Rattle.node_tree.specs.Fetching.{Fetched, EachOpens, Asks, CountsReads, missing_of}
+use Rattle.node_tree.specs.Fetching.{Fetched, EachOpens, Asks, CountsReads, CountsCalls, calls_of, missing_of}
 use Rattle.node_tree.specs.Backing.{Backs, now}
 use Rattle.node_tree.specs.declared.fault.TreeFault.{TreeFault}
 use Rattle.node_tree.specs.declared.fault.TreeFault.TheVariants as faults
@@ -24,10 +24,11 @@ ReadEnds (Err (faults.Damaged damage)) given at buffer old new = IsPart (Held ol
 ReadEnds (Err faults.Host) given at buffer old new = EachOpens (Held old) given (root_in old)
 ReadEnds (Err faults.Memory) given at buffer old new = EachOpens (Held old) given (root_in old)
 
--- Some answers came, of the touched nodes that were not held, in rising number. What is held afterwards was held or opens from what they gave, from the root down, and nothing is let go; and so the read ends.
+-- Some answers came, of the touched nodes that were not held, in rising number, each of one call. What is held afterwards was held or opens from what they gave, from the root down, and nothing is let go; and so the read ends.
 pub record Reads (result : Result ℕ TreeFault) (name : Name) (at : ℕ) (buffer : List ℕ) (old new : TreeState) (before after : HostState) : Type 0 where
   pub these : List Answer
   pub answered : Answered these before after
+  pub counted : CountsCalls (calls_of result (length these)) before after
   pub rest : KeepsFields old new
   pub fetched : Fetched (Held old) (Held new) (Given name these) (root_in old)
   pub numbers : List ℕ
