@@ -1,0 +1,84 @@
+-- What a run of the program comes to, by what its words ask for.
+use Rattle.std.specs.Prelude.{◌≡◌, ◌⊎◌, ℕ, ◌≤◌, List, [], ◌++◌, take, Option, Some}
+use Rattle.pf_io.specs.Counts.{Rose}
+use Rattle.pf_io.specs.Disk.{Name, Files, Disk, Image, IsImageAt}
+use Rattle.pf_io.specs.Host.{HostState, Both, WhereTold, Answer, Gave, files_of}
+use Rattle.pf_io.specs.Streams.{TakesFront}
+use Rattle.pf_io.specs.Answered.{WereTold}
+use Rattle.pf_io.specs.Unchanged.{KeepsDisk}
+use Rattle.pf_tool.specs.World.{World, with_log}
+use Rattle.pf_tool.specs.Events.{Event, answers_in}
+use Rattle.pf_tool.specs.Endings.{Ending, Stop, AtEnd, ending_line, ending_status, memory_line, no_command_line}
+use Rattle.pf_tool.specs.Outcomes.{Outcome}
+use Rattle.pf_tool.specs.Reports.{Wrote, FailedIn, Reported, Reports}
+use Rattle.pf_tool.specs.Requests.{Request, Encrypt}
+use Rattle.pf_tool.specs.Encrypting.{EncryptLeads, EncryptLeaves, EncryptOver}
+
+-- all events of a run with this ending
+abbrev pub Leads : Request → List Event → Ending → Type 0
+Leads (Encrypt key input output) events ending = EncryptLeads key input output events ending
+
+-- what is left on the host after what was tried
+abbrev pub Leaves : Request → List Event → Stop → HostState → HostState → Type 0
+Leaves (Encrypt key input output) tried stop old new = EncryptLeaves key input output tried stop old new
+
+-- the output and the ending that files give
+abbrev pub Over : Request → Files → List ℕ → Ending → Type 0
+Over (Encrypt key input output) files bytes ending = (bytes ≡ []) × EncryptOver key input output files ending
+
+-- The whole of a run: where it stopped, what had happened until then, and what it said.
+pub record Runs (request : Request) (old new : World) (status : ℕ) : Type 0 where
+  pub stop : Stop
+  pub outcome : Outcome (Leads request) (Leaves request) stop old (with_log new old.log)
+  pub reports : Reports stop old.log new.log status
+
+-- words that are no command are named so, and nothing else is done
+pub record Usage (old new : World) (status : ℕ) : Type 0 where
+  pub said : Reported no_command_line 2 old.log new.log status
+  pub untouched : with_log new old.log ≡ old
+
+-- no count of faults rose
+pub record Calm (old new : World) : Type 0 where
+  pub host : new.host.faults ≡ old.host.faults
+  pub out : new.out.faults ≡ old.out.faults
+  pub log : new.log.faults ≡ old.log.faults
+  pub random : new.random.faults ≡ old.random.faults
+
+-- which count rose
+pub record Causes (old new : World) (status : ℕ) : Type 0 where
+  pub host_fault : status ≡ 4 → Rose old.host.faults new.host.faults
+  pub random_fault : status ≡ 6 → Rose old.random.faults new.random.faults
+  pub stream_fault : status ≡ 7 → Rose old.out.faults new.out.faults ⊎ Rose old.log.faults new.log.faults
+  pub calm : (status ≤ 3) ⊎ (status ≡ 5) → Calm old new
+  pub most : status ≤ 7
+
+-- where the words alone lead to an ending, it is reported, and nothing else is done
+abbrev pub ByWords : Request → World → World → ℕ → Type 0
+ByWords request old new status = (ending : Ending) → Leads request [] ending → Reports (AtEnd ending) old.log new.log status × (with_log new old.log ≡ old)
+
+-- where the host told these answers, and they lead to an ending, it is reported
+abbrev pub Decided : Request → World → World → ℕ → Type 0
+Decided request old new status = (events : List Event) (ending : Ending) → Leads request events ending → WereTold (answers_in events) old.host new.host → status ≤ 3
+    → Reports (AtEnd ending) old.log new.log status
+
+-- no count stands or rose to where a fault is told by it
+pub record NoneRose (old new : World) : Type 0 where
+  pub host : ¬ (Rose old.host.faults new.host.faults)
+  pub out : ¬ (Rose old.out.faults new.out.faults)
+  pub log : ¬ (Rose old.log.faults new.log.faults)
+  pub random : ¬ (Rose old.random.faults new.random.faults)
+
+-- what files give is written and said; or there was no memory, and the output took a front of it
+pub record Honestly (request : Request) (files : Files) (old new : World) (status : ℕ) : Type 0 where
+  pub bytes : List ℕ
+  pub ending : Ending
+  pub over : Over request files bytes ending
+  pub comes : ((status ≡ ending_status ending) × Wrote bytes old.out new.out × Wrote (ending_line ending) old.log new.log)
+      ⊎ ((status ≡ 5) × Both old.out.bytes new.out.bytes (TakesFront bytes) × Wrote memory_line old.log new.log)
+
+abbrev pub Honest : Request → World → World → ℕ → Type 0
+Honest request old new status = (files : Files) → files_of old.host ≡ Some files → NoneRose old new → Honestly request files old new status
+
+-- files give one output and one ending
+abbrev pub OneOver : Type 0
+OneOver = (request : Request) (files : Files) (bytes others : List ℕ) (ending other : Ending) → Over request files bytes ending → Over request files others other → (bytes ≡ others) × (ending ≡ other)
