@@ -3,3 +3,9 @@ pub mod Composing
 pub mod Calls
 pub mod Stopping
 pub mod KeyReading
+pub mod Numbered
+pub mod SameBlocks
+pub mod Following
+pub mod OneFile
+pub mod Growing
+pub mod Fronts
