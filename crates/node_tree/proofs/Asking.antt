@@ -1,11 +1,11 @@
 -- Calls of a host that only read.
-use Rattle.std.proofs.Common.{◌≡◌, ℕ, ◌+◌, ◌≤◌, refl, ap, ◌∙◌, sym, arith, subst, Result, Ok, Err, IfErr}
-use Rattle.pf_io.specs.Counts.{Rose, HasCause}
+use Rattle.std.proofs.Common.{◌≡◌, ℕ, zero, suc, ◌+◌, ◌≤◌, refl, ap, ◌∙◌, sym, arith, subst, Result, Ok, Err, IfErr}
+use Rattle.pf_io.specs.Counts.{Rose, HasCause, counted}
 use Rattle.pf_io.specs.Moments.{Does}
 use Rattle.pf_io.specs.Steps.{Stays}
 use Rattle.pf_io.specs.Host.{HostState, Both, CountsRead}
 use Rattle.pf_io.proofs.Unchanged.{kept_none, kept_once, kept_then}
-use Rattle.node_tree.specs.Fetching.{host_part, CountsReads, Asking}
+use Rattle.node_tree.specs.Fetching.{host_part, CountsReads, CountsCalls, counted_times, calls_of, Asking}
 use Rattle.node_tree.specs.declared.fault.TreeFault.{TreeFault}
 use Rattle.node_tree.specs.declared.fault.TreeFault.TheVariants as faults
 
@@ -19,6 +19,35 @@ asking_none value n state = record {
   counts = record { reads = omega arith; writes = refl; widest = omega arith };
   disk = kept_none state;
 }
+
+pub counts_none : (state : HostState) → CountsCalls 0 state state
+counts_none state = record { reads = refl; writes = refl; untouched = λ none. refl }
+
+pub counts_one : (old new : HostState) → CountsRead 4096 old new → CountsCalls 1 old new
+counts_one old new counts = record { reads = counts.reads; writes = counts.writes; untouched = λ none. absurd (omega (arith, none)) }
+
+counted_sum : (m n count : ℕ) → counted_times (m + n) count ≡ counted_times n (counted_times m count)
+counted_sum zero n count = ap (λ (j : ℕ). counted_times j count) (let e : zero + n ≡ n = omega arith in e)
+counted_sum (suc m) n count = let e : suc m + n ≡ suc (m + n) = omega arith in ap (λ (j : ℕ). counted_times j count) e ∙ counted_sum m n (counted count)
+
+pub counts_then : (m n : ℕ) (old mid new : HostState) → CountsCalls m old mid → CountsCalls n mid new → CountsCalls (m + n) old new
+counts_then m n old mid new first second = record {
+  reads = second.reads ∙ ap (counted_times n) first.reads ∙ sym (counted_sum m n old.reads);
+  writes = second.writes ∙ first.writes;
+  untouched = λ none. second.untouched (omega (arith, none)) ∙ first.untouched (omega (arith, none));
+}
+
+-- the calls of some answers, and then of others until an end
+pub calls_then : {T : Type 0} (r : Result T TreeFault) (m n : ℕ) → m + calls_of r n ≡ calls_of r (m + n)
+calls_then (Ok value) m n = refl
+calls_then (Err (faults.Damaged damage)) m n = refl
+calls_then (Err faults.Host) m n = omega arith
+calls_then (Err faults.Memory) m n = refl
+
+pub same_calls : (T U : Type 0) (fault : TreeFault) (n : ℕ) (old new : HostState) → CountsCalls (calls_of {T = T} (Err fault) n) old new → CountsCalls (calls_of {T = U} (Err fault) n) old new
+same_calls T U (faults.Damaged damage) n old new counts = counts
+same_calls T U faults.Host n old new counts = counts
+same_calls T U faults.Memory n old new counts = counts
 
 counts_once : (old new : HostState) → CountsRead 4096 old new → CountsReads 1 old new
 counts_once old new counts = record { reads = let e = counts.reads in omega (arith, e); writes = counts.writes; widest = let e = counts.widest in omega (arith, e) }

@@ -1,52 +1,22 @@
 -- The same answers lead two reads to one end.
-use Rattle.std.proofs.Common.{◌≡◌, ℕ, zero, suc, ◌+◌, ◌*◌, List, [], ◌∷◌, ◌++◌, length, take, refl, ap, ◌∙◌, sym, arith, subst, Result, Ok, Err}
-use Rattle.std.specs.Prelude.{Contains, is_none}
+use Rattle.std.proofs.Common.{◌≡◌, ℕ, ◌+◌, List, [], ◌∷◌, ◌++◌, length, take, refl, ap, ◌∙◌, sym, arith, subst, Result, Ok, Err}
+use Rattle.std.specs.Prelude.{is_none}
 use Rattle.std.specs.List.Sorted.{IsStrictlyIncreasing}
 use Rattle.std.proofs.lemmas.List.Kept.{IsStrictlyIncreasing-filter}
 use Rattle.std.proofs.lemmas.List.{get_or_append_left, length-append}
 use Rattle.std.proofs.lemmas.Option.{same_Some}
 use Rattle.node_layout.specs.declared.damage.Damage.{Damage}
-use Rattle.pf_io.specs.Host.{Name, Answer, Gave}
+use Rattle.pf_io.specs.Host.{Name, Answer}
 use Rattle.node_tree.specs.Opened.{AtNodes, Given}
 use Rattle.node_tree.specs.Parts.{IsPart}
 use Rattle.node_tree.specs.State.{TreeState, held_at, Held, root_in, readable}
-use Rattle.node_tree.specs.Fetching.{AsksInTurn, Asks, missing_of}
+use Rattle.node_tree.specs.Fetching.{Asks, missing_of}
 use Rattle.node_tree.specs.Reading.{ReadEnds, IsDecided, part_read, OneEnding}
 use Rattle.node_tree.proofs.Opening.{IsSingle}
 use Rattle.node_tree.proofs.Parting.{one_end}
 use Rattle.node_tree.specs.declared.fault.TreeFault.{TreeFault}
 use Rattle.node_tree.specs.declared.fault.TreeFault.TheVariants as faults
-use Rattle.node_tree.proofs.Order.{rising_tail, above_head}
-
-same_block : (name : Name) (j k : ℕ) (a b : List ℕ) → Gave name (4096 * j) 4096 a ≡ Gave name (4096 * k) 4096 b → a ≡ b
-same_block name j k a b same = cc
-
-same_place : (name : Name) (m n : ℕ) (a b : List ℕ) → Gave name m 4096 a ≡ Gave name n 4096 b → m ≡ n
-same_place name m n a b same = cc
-
--- what was given is of a number that was asked for
-given_asked : (name : Name) (ks : List ℕ) (these : List Answer) (j : ℕ) (a : List ℕ) → AsksInTurn name ks these → Given name these j a → Contains ks j
-given_asked name [] [] j a asks (i, within, is) = absurd (omega arith)
-given_asked name [] (x ∷ these) j a asks there = absurd asks
-given_asked name (k ∷ ks) [] j a asks there = absurd asks
-given_asked name (k ∷ ks) (x ∷ these) j a asks (zero, within, is) = (0, omega arith, let e = same_place name (4096 * k) (4096 * j) asks.0.0 a (sym asks.0.1 ∙ is) in omega arith)
-given_asked name (k ∷ ks) (x ∷ these) j a asks (suc i, within, is) = let there = given_asked name ks these j a asks.1 (i, omega arith, is) in (suc there.0, let w = there.1 in omega arith, there.2)
-
--- one block of each number
-given_single : (name : Name) (ks : List ℕ) (these : List Answer) → IsStrictlyIncreasing ks → AsksInTurn name ks these → IsSingle (Given name these)
-given_single name [] [] rising asks j a b (i, within, is) there = absurd (omega arith)
-given_single name [] (x ∷ these) rising asks j a b one two = absurd asks
-given_single name (k ∷ ks) [] rising asks j a b one two = absurd asks
-given_single name (k ∷ ks) (x ∷ these) rising asks j a b (zero, w, is) (zero, w', is') = same_block name j j a b (sym is ∙ is')
-given_single name (k ∷ ks) (x ∷ these) rising asks j a b (zero, w, is) (suc i, w', is') =
-    let here = same_place name (4096 * k) (4096 * j) asks.0.0 a (sym asks.0.1 ∙ is) in
-    let later = above_head k ks j rising (given_asked name ks these j b asks.1 (i, omega arith, is')) in
-    absurd (omega arith)
-given_single name (k ∷ ks) (x ∷ these) rising asks j a b (suc i, w, is) (zero, w', is') =
-    let here = same_place name (4096 * k) (4096 * j) asks.0.0 b (sym asks.0.1 ∙ is') in
-    let later = above_head k ks j rising (given_asked name ks these j a asks.1 (i, omega arith, is)) in
-    absurd (omega arith)
-given_single name (k ∷ ks) (x ∷ these) rising asks j a b (suc i, w, is) (suc i', w', is') = given_single name ks these (rising_tail k ks rising) asks.1 j a b (i, omega arith, is) (i', omega arith, is')
+use Rattle.node_tree.proofs.Asked.{given_single}
 
 rising_front : (xs ys zs : List ℕ) → xs ≡ ys ++ zs → IsStrictlyIncreasing xs → IsStrictlyIncreasing ys
 rising_front xs ys zs is rising k lt =
@@ -58,7 +28,9 @@ rising_front xs ys zs is rising k lt =
 
 asked_single : (result : Result ℕ TreeFault) (name : Name) (ks : List ℕ) (these : List Answer) → IsStrictlyIncreasing ks → Asks result name ks these → IsSingle (Given name these)
 asked_single (Ok n) name ks these rising asks = given_single name ks these rising asks
-asked_single (Err fault) name ks these rising asks = given_single name asks.done these (rising_front ks asks.done asks.left asks.split rising) asks.asks
+asked_single (Err (faults.Damaged damage)) name ks these rising asks = given_single name (asks.before ++ damage.node ∷ []) these (rising_front ks (asks.before ++ damage.node ∷ []) asks.left asks.split rising) asks.asks
+asked_single (Err faults.Host) name ks these rising asks = given_single name asks.done these (rising_front ks asks.done (asks.next ∷ asks.left) asks.split rising) asks.asks
+asked_single (Err faults.Memory) name ks these rising asks = given_single name asks.done these (rising_front ks asks.done asks.left asks.split rising) asks.asks
 
 held_single : (s : TreeState) → IsSingle (Held s)
 held_single s k a b there there' = same_Some a b (sym there ∙ there')

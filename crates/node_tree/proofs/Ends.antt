@@ -18,6 +18,7 @@ use Rattle.node_tree.specs.declared.fault.TreeFault.{TreeFault}
 use Rattle.node_tree.specs.declared.fault.TreeFault.TheVariants as faults
 use Rattle.node_tree.specs.declared.nodes.HeldNode.{HeldNode}
 use Rattle.pf_io.proofs.Answering.{answered_none}
+use Rattle.node_tree.proofs.Asking.{counts_none}
 use Rattle.node_tree.proofs.Coming.{fetched_none}
 use Rattle.node_tree.proofs.Order.{place_of, stands_before, same_rising}
 
@@ -43,6 +44,7 @@ module _ (name : Name) (at : ℕ) (s s' : TreeState) (before after : HostState) 
   reads_none buffer n none is = record {
     these = [];
     answered = answered_none before;
+    counted = counts_none before;
     rest = refl;
     fetched = fetched_none (Held s) (Given name []) (root_in s);
     numbers = [];
@@ -69,6 +71,7 @@ module _ (name : Name) (at : ℕ) (s s' : TreeState) (before after : HostState) 
         record {
           these = fetches.these;
           answered = fetches.answered;
+          counted = fetches.counted;
           rest = rest;
           fetched = fetches.fetched;
           numbers = numbers;
@@ -92,6 +95,7 @@ module _ (name : Name) (at : ℕ) (s s' : TreeState) (before after : HostState) 
         record {
           these = fetches.these;
           answered = fetches.answered;
+          counted = fetches.counted;
           rest = rest;
           fetched = fetches.fetched;
           numbers = numbers;
@@ -107,8 +111,8 @@ module _ (name : Name) (at : ℕ) (s s' : TreeState) (before after : HostState) 
             fails = ends.fails;
           };
         }
-    reads_failed faults.Host buffer touched fetches = record { these = fetches.these; answered = fetches.answered; rest = rest; fetched = fetches.fetched; numbers = numbers; touched = touched; asked = fetches.asked; ends = tt }
-    reads_failed faults.Memory buffer touched fetches = record { these = fetches.these; answered = fetches.answered; rest = rest; fetched = fetches.fetched; numbers = numbers; touched = touched; asked = fetches.asked; ends = tt }
+    reads_failed faults.Host buffer touched fetches = record { these = fetches.these; answered = fetches.answered; counted = fetches.counted; rest = rest; fetched = fetches.fetched; numbers = numbers; touched = touched; asked = fetches.asked; ends = fetches.ends }
+    reads_failed faults.Memory buffer touched fetches = record { these = fetches.these; answered = fetches.answered; counted = fetches.counted; rest = rest; fetched = fetches.fetched; numbers = numbers; touched = touched; asked = fetches.asked; ends = fetches.ends }
 
   pub few_reads : (room : ℕ) (numbers : List ℕ) → AreTouched at (at + readable s at room) numbers → CountsReads (length (missing_of (held_at s) numbers)) before after → ReadsFew at room s before after
   few_reads room numbers touched few others touched' = subst (λ (l : List ℕ). CountsReads (length (missing_of (held_at s) l)) before after) (same_numbers at (at + readable s at room) numbers others touched touched') few

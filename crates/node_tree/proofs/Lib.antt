@@ -12,6 +12,7 @@ pub mod Rising
 pub mod Levels
 pub mod Listed
 pub mod Asking
+pub mod Asked
 pub mod Coming
 pub mod Absent
 pub mod One

@@ -7,7 +7,7 @@ use Rattle.pf_io.specs.Host.{Name, Files, Answer, HostState, contents, files_of}
 use Rattle.node_layout.specs.Places.{parent_of}
 use Rattle.node_tree.specs.Opened.{Entry, Opened, was_held, root_opens, child_opens, Fails, is_short, root_fails, child_fails, NothingHeld, BlockOf, Given}
 use Rattle.node_tree.specs.State.{TreeState, Held, root_in}
-use Rattle.node_tree.specs.Reading.{KeepsFields, ReadEnds, Reads, IsOfFile, PartEnds, HonestRead}
+use Rattle.node_tree.specs.Reading.{KeepsFields, ReadEnds, Reads, IsOfFile, IsPartOfFile, PartEnds, HonestRead}
 use Rattle.node_tree.proofs.Opening.{nothing_held}
 use Rattle.node_tree.proofs.Giving.{file_block}
 use Rattle.pf_io.specs.Answered.{IsAnswerOf}
@@ -15,7 +15,7 @@ use Rattle.node_tree.specs.declared.fault.TreeFault.{TreeFault}
 use Rattle.node_tree.specs.declared.fault.TreeFault.TheVariants as faults
 
 module _ (name : Name) (these : List Answer) (files : Files) (of_files : AllByRecursion (IsAnswerOf files) these) (s : TreeState) (of_file : IsOfFile (contents (files name)) s) where
-  file_opened : (k : ℕ) (plain : List ℕ) → Opened (Held s) (Given name these) (root_in s) k plain → Opened NothingHeld (BlockOf (contents (files name))) (root_in s) k plain
+  pub file_opened : (k : ℕ) (plain : List ℕ) → Opened (Held s) (Given name these) (root_in s) k plain → Opened NothingHeld (BlockOf (contents (files name))) (root_in s) k plain
   file_opened k plain (was_held _ _ held) = of_file.each k plain held
   file_opened k plain (root_opens _ block _ missing one gave opens) = root_opens k block plain (nothing_held k) one (file_block files name these of_files k block gave) opens
   file_opened k plain (child_opens _ parent block _ missing two up gave opens) = child_opens k parent block plain (nothing_held k) two (file_opened (parent_of k) parent up) (file_block files name these of_files k block gave) opens
@@ -42,12 +42,17 @@ module _ (name : Name) (these : List Answer) (files : Files) (of_files : AllByRe
 same_root : (s s' : TreeState) → KeepsFields s s' → root_in s ≡ root_in s'
 same_root s s' rest = sym (ap (λ (t : TreeState). root_in t) rest)
 
+-- a read whose answers are those of files
+pub read_of_file : (result : Result ℕ TreeFault) (name : Name) (at : ℕ) (buffer : List ℕ) (s s' : TreeState) (before after : HostState) → (reads : Reads result name at buffer s s' before after) → (files : Files) → AllByRecursion (IsAnswerOf files) reads.these
+    → IsOfFile (contents (files name)) s → IsPartOfFile result (contents (files name)) at buffer s s'
+read_of_file result name at buffer s s' before after reads files of_files of_file = record {
+  of_file = record {
+    each = λ k plain there. subst (λ (root : Entry). Opened NothingHeld (BlockOf (contents (files name))) root k plain) (same_root s s' reads.rest)
+        (file_opened name reads.these files of_files s of_file k plain (reads.fetched.came k plain there));
+  };
+  part = part_of name reads.these files of_files s of_file result at buffer s' reads.ends;
+}
+
 pub honest_read : (result : Result ℕ TreeFault) (name : Name) (at : ℕ) (buffer : List ℕ) (s s' : TreeState) (before after : HostState) → Reads result name at buffer s s' before after → HonestRead result name at buffer s s' before
 honest_read result name at buffer s s' before after reads =
-    IfSome_then (files_of before) reads.answered.honest (λ files of_files of_file. record {
-      of_file = record {
-        each = λ k plain there. subst (λ (root : Entry). Opened NothingHeld (BlockOf (contents (files name))) root k plain) (same_root s s' reads.rest)
-            (file_opened name reads.these files of_files s of_file k plain (reads.fetched.came k plain there));
-      };
-      part = part_of name reads.these files of_files s of_file result at buffer s' reads.ends;
-    })
+    IfSome_then (files_of before) reads.answered.honest (λ files of_files of_file. read_of_file result name at buffer s s' before after reads files of_files of_file)

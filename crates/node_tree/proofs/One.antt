@@ -1,17 +1,18 @@
 -- The fetching of one node.
-use Rattle.std.proofs.Common.{◌≡◌, ◌⊎◌, inl, inr, ℕ, zero, suc, ◌<◌, true, false, List, [], ◌∷◌, length, refl, ap, ◌∙◌, sym, arith, subst, Option, Some, None, Result, Ok, Err, OnOk, OnErr, IfErr, cond, eqb}
+use Rattle.std.proofs.Common.{◌≡◌, ◌⊎◌, inl, inr, ℕ, zero, suc, ◌*◌, ◌<◌, true, false, List, [], ◌∷◌, length, refl, ap, ◌∙◌, sym, arith, subst, Option, Some, None, Result, Ok, Err, OnOk, OnErr, IfErr, cond, eqb}
 use Rattle.std.specs.Prelude.{Contains, slice_index, is_none, is_some}
 use Rattle.std.specs.Option.{option_map}
 use Rattle.std.proofs.lemmas.Bool.{true≢false, cases_eq, ne_eqb, cond-true, cond-false, eq-eqb}
 use Rattle.std.proofs.lemmas.List.{append-nil}
 use Rattle.std.proofs.lemmas.Option.{same_Some, none-some}
-use Rattle.pf_io.specs.Host.{Name, HostState}
+use Rattle.pf_io.specs.Host.{Name, HostState, CountsRead}
 use Rattle.node_tree.specs.Opened.{At, IsAt, Entry, Opened, was_held, Fails, Given}
-use Rattle.node_tree.specs.Fetching.{Asking, HasEntry, node_answer, NodeOpens, NodeEnds, FetchEnds, AsksInTurn, AsksFront, Fetches, missing_of}
+use Rattle.node_tree.specs.Fetching.{Asking, CountsCalls, calls_of, HasEntry, node_answer, NodeOpens, NodeEnds, FetchEnds, EachOpens, Asks, AsksInTurn, AsksUpTo, AsksBefore, AsksFront, Fetches, missing_of}
 use Rattle.node_tree.specs.declared.fault.TreeFault.{TreeFault}
 use Rattle.node_tree.specs.declared.fault.TreeFault.TheVariants as faults
 use Rattle.pf_io.proofs.Answering.{answered_none}
-use Rattle.node_tree.proofs.Asking.{asking_err, asking_as, memory_part}
+use Rattle.node_tree.proofs.Asked.{same_place}
+use Rattle.node_tree.proofs.Asking.{counts_none, counts_one, asking_err, asking_as, memory_part}
 use Rattle.node_tree.proofs.Coming.{opened_by, fails_by, fetched_none}
 
 pub only_one : (P : ℕ → Type 0) (k i : ℕ) → i < 1 → P k → P (slice_index (k ∷ []) i)
@@ -54,8 +55,22 @@ asks_one name f k block missing = subst (λ (l : List ℕ). AsksInTurn name l (n
 asks_front : (name : Name) (f : ℕ → Option (List ℕ)) (k : ℕ) (block : List ℕ) → ¬ (IsAt (At f) k) → AsksFront name (missing_of f (k ∷ [])) (node_answer name k block)
 asks_front name f k block missing = record { done = missing_of f (k ∷ []); left = []; split = sym (append-nil (missing_of f (k ∷ []))); asks = asks_one name f k block missing }
 
-asks_none : (name : Name) (numbers : List ℕ) → AsksFront name numbers []
-asks_none name numbers = record { done = []; left = numbers; split = refl; asks = tt }
+-- it alone was asked for, or nothing before it
+asks_up_to : (name : Name) (f : ℕ → Option (List ℕ)) (k : ℕ) (block : List ℕ) (number : ℕ) → number ≡ k → ¬ (IsAt (At f) k) → AsksUpTo name (missing_of f (k ∷ [])) number (node_answer name k block)
+asks_up_to name f k block number is missing = record {
+  before = [];
+  left = [];
+  split = missing_there f k missing ∙ ap (λ (n : ℕ). n ∷ []) (sym is);
+  asks = subst (λ (n : ℕ). AsksInTurn name (n ∷ []) (node_answer name k block)) (sym is) ((block, refl), tt);
+}
+
+asks_before : (name : Name) (f : ℕ → Option (List ℕ)) (k : ℕ) → ¬ (IsAt (At f) k) → AsksBefore name (missing_of f (k ∷ [])) []
+asks_before name f k missing = record { done = []; next = k; left = []; split = missing_there f k missing; asks = tt }
+
+-- what was given of one node
+given_only : (name : Name) (k : ℕ) (block : List ℕ) (j : ℕ) (other : List ℕ) → Given name (node_answer name k block) j other → k ≡ j
+given_only name k block j other (zero, within, is) = let e = same_place name (4096 * k) (4096 * j) block other is in omega arith
+given_only name k block j other (suc i, within, is) = absurd (omega arith)
 
 module _ (name : Name) (k : ℕ) (root : Entry) where
   -- it is held already
@@ -63,6 +78,7 @@ module _ (name : Name) (k : ℕ) (root : Entry) where
   fetched_already value f state there = record {
     these = [];
     answered = answered_none state;
+    counted = counts_none state;
     fetched = fetched_none (At f) (Given name []) root;
     only = λ j held. inl held;
     asked = subst (λ (l : List ℕ). AsksInTurn name l []) (sym (missing_held f k there.0 there.1)) tt;
@@ -71,13 +87,14 @@ module _ (name : Name) (k : ℕ) (root : Entry) where
 
   -- it does not open, or the host fails
   pub fetch_failed : {T : Type 0} (fault : TreeFault) (f : ℕ → Option (List ℕ)) (entry : Entry) (old new : HostState) → HasEntry (At f) root k entry → ¬ (IsAt (At f) k)
-      → NodeEnds (Err fault) name k entry old new → Fetches {T = T} (Err fault) name (k ∷ []) f f root old new
-  fetch_failed (faults.Damaged damage) f entry old new has missing ends = record {
+      → CountsRead 4096 old new → NodeEnds (Err fault) name k entry old new → Fetches {T = T} (Err fault) name (k ∷ []) f f root old new
+  fetch_failed (faults.Damaged damage) f entry old new has missing counts ends = record {
     these = node_answer name k ends.block;
     answered = ends.answered;
+    counted = counts_one old new counts;
     fetched = fetched_none (At f) (Given name (node_answer name k ends.block)) root;
     only = λ j there. inl there;
-    asked = asks_front name f k ends.block missing;
+    asked = asks_up_to name f k ends.block damage.node ends.node_is missing;
     ends = record {
       i = 0;
       within = omega arith;
@@ -86,18 +103,19 @@ module _ (name : Name) (k : ℕ) (root : Entry) where
       fails = subst (λ (n : ℕ). Fails (At f) (Given name (node_answer name k ends.block)) root n damage.kind) (sym ends.node_is) (fails_by (At f) (Given name (node_answer name k ends.block)) root entry k ends.block damage.kind missing has (given_one name k ends.block) ends.fails);
     };
   }
-  fetch_failed faults.Host f entry old new has missing ends = record {
+  fetch_failed faults.Host f entry old new has missing counts ends = record {
     these = [];
     answered = ends;
+    counted = counts_one old new counts;
     fetched = fetched_none (At f) (Given name []) root;
     only = λ j there. inl there;
-    asked = asks_none name (missing_of f (k ∷ []));
-    ends = tt;
+    asked = asks_before name f k missing;
+    ends = λ j block there. absurd (omega (arith, there.1));
   }
-  fetch_failed faults.Memory f entry old new has missing ends = absurd ends
+  fetch_failed faults.Memory f entry old new has missing counts ends = absurd ends
 
   -- it opens, and is kept where there is memory
-  module _ (f f' : ℕ → Option (List ℕ)) (entry : Entry) (plain : List ℕ) (old new : HostState) (has : HasEntry (At f) root k entry) (missing : ¬ (IsAt (At f) k)) (opens : NodeOpens name k entry old new plain) where
+  module _ (f f' : ℕ → Option (List ℕ)) (entry : Entry) (plain : List ℕ) (old new : HostState) (has : HasEntry (At f) root k entry) (missing : ¬ (IsAt (At f) k)) (counts : CountsRead 4096 old new) (opens : NodeOpens name k entry old new plain) where
     kept_others : ((j : ℕ) → f' j ≡ cond (eqb j k) (Some plain) (f j)) → (j : ℕ) (p : List ℕ) → f j ≡ Some p → f' j ≡ Some p
     kept_others is j p there =
         elim (cases_eq j k) [
@@ -105,13 +123,15 @@ module _ (name : Name) (k : ℕ) (root : Entry) where
           | inr ne ↦ is j ∙ cond-false (eqb j k) _ _ (ne_eqb j k ne) ∙ there
         ]
 
+    this_opens : Opened (At f) (Given name (node_answer name k opens.block)) root k plain
+    this_opens = opened_by (At f) (Given name (node_answer name k opens.block)) root entry k opens.block plain missing has (given_one name k opens.block) opens.opens_to
+
     came_by : ((j : ℕ) → f' j ≡ cond (eqb j k) (Some plain) (f j)) → (j : ℕ) (p : List ℕ) → f' j ≡ Some p → Opened (At f) (Given name (node_answer name k opens.block)) root j p
     came_by is j p there =
         elim (cases_eq j k) [
           | inl same ↦
               let q : plain ≡ p = same_Some plain p (sym (is j ∙ cond-true (eqb j k) _ _ (eq-eqb j k same)) ∙ there) in
-              let here = opened_by (At f) (Given name (node_answer name k opens.block)) root entry k opens.block plain missing has (given_one name k opens.block) opens.opens_to in
-              subst (λ (n : ℕ). Opened (At f) (Given name (node_answer name k opens.block)) root n p) (sym same) (subst (λ (t : List ℕ). Opened (At f) (Given name (node_answer name k opens.block)) root k t) q here)
+              subst (λ (n : ℕ). Opened (At f) (Given name (node_answer name k opens.block)) root n p) (sym same) (subst (λ (t : List ℕ). Opened (At f) (Given name (node_answer name k opens.block)) root k t) q this_opens)
           | inr ne ↦ was_held j p (sym (is j ∙ cond-false (eqb j k) _ _ (ne_eqb j k ne)) ∙ there)
         ]
 
@@ -122,11 +142,15 @@ module _ (name : Name) (k : ℕ) (root : Entry) where
           | inr ne ↦ inl (there.0, sym (is j ∙ cond-false (eqb j k) _ _ (ne_eqb j k ne)) ∙ there.1)
         ]
 
+    each_opens : EachOpens (At f) (Given name (node_answer name k opens.block)) root
+    each_opens j block there = (plain, subst (λ (n : ℕ). Opened (At f) (Given name (node_answer name k opens.block)) root n plain) (given_only name k opens.block j block there) this_opens)
+
     pub fetch_opened : {T : Type 0} (r : Result T TreeFault) → OnOk r ((j : ℕ) → f' j ≡ cond (eqb j k) (Some plain) (f j)) → OnErr r ((j : ℕ) → f' j ≡ f j) → IfErr r (λ fault. fault ≡ faults.Memory)
         → Fetches r name (k ∷ []) f f' root old new
     fetch_opened (Ok value) is same memory = record {
       these = node_answer name k opens.block;
       answered = opens.answered;
+      counted = counts_one old new counts;
       fetched = record { kept = kept_others is; came = came_by is };
       only = only_this is;
       asked = asks_one name f k opens.block missing;
@@ -135,8 +159,9 @@ module _ (name : Name) (k : ℕ) (root : Entry) where
     fetch_opened {T} (Err fault) is same memory = record {
       these = node_answer name k opens.block;
       answered = opens.answered;
+      counted = subst (λ (x : TreeFault). CountsCalls (calls_of {T = T} (Err x) 1) old new) (sym memory) (counts_one old new counts);
       fetched = record { kept = λ j p there. same j ∙ there; came = λ j p there. was_held j p (sym (same j) ∙ there) };
       only = λ j there. inl (there.0, sym (same j) ∙ there.1);
-      asked = asks_front name f k opens.block missing;
-      ends = subst (λ (x : TreeFault). FetchEnds {T = T} (Err x) (k ∷ []) (At f) (At f') (Given name (node_answer name k opens.block)) root) (sym memory) tt;
+      asked = subst (λ (x : TreeFault). Asks {T = T} (Err x) name (missing_of f (k ∷ [])) (node_answer name k opens.block)) (sym memory) (asks_front name f k opens.block missing);
+      ends = subst (λ (x : TreeFault). FetchEnds {T = T} (Err x) (k ∷ []) (At f) (At f') (Given name (node_answer name k opens.block)) root) (sym memory) each_opens;
     }

@@ -5,27 +5,30 @@ use Rattle.std.specs.List.Sorted.{IsStrictlyIncreasing}
 use Rattle.std.proofs.lemmas.Option.{none-some}
 use Rattle.std.proofs.lemmas.Bool.{cases_eq, cases_lt}
 use Rattle.std.proofs.lemmas.List.{length-append, take_more, take_all, take-append-drop}
-use Rattle.std.proofs.lemmas.List.Elements.{filter-append, Contains-get_or, Contains-append_left, Contains-append_right}
+use Rattle.std.proofs.lemmas.List.Elements.{filter-append, Contains-get_or, Contains-append_left, Contains-append_right, Contains-append_cases}
 use Rattle.pf_io.specs.Host.{Name, Answer, Gave, HostState}
 use Rattle.node_layout.specs.Places.{parent_of}
-use Rattle.node_tree.specs.Opened.{AtNodes, At, IsAt, Entry, Given}
-use Rattle.node_tree.specs.Fetching.{Asking, Fetched, FetchEnds, AsksInTurn, AsksFront, Fetches, missing_of, AreRooted}
+use Rattle.node_tree.specs.Opened.{AtNodes, At, IsAt, Entry, Opened, was_held, Given}
+use Rattle.node_tree.specs.Fetching.{Asking, CountsCalls, calls_of, Fetched, FetchEnds, EachOpens, AsksInTurn, Asks, Fetches, missing_of, AreRooted}
 use Rattle.pf_io.specs.Answered.{Answered}
 use Rattle.node_tree.specs.declared.fault.TreeFault.{TreeFault}
 use Rattle.node_tree.specs.declared.fault.TreeFault.TheVariants as faults
 use Rattle.pf_io.proofs.Answering.{answered_none, answered_then}
-use Rattle.node_tree.proofs.Asking.{asking_none, asking_then, asking_as, asking_err}
-use Rattle.node_tree.proofs.Coming.{fetched_none, fetched_then, fails_then}
+use Rattle.node_tree.proofs.Asked.{given_asked}
+use Rattle.node_tree.proofs.Asking.{counts_none, counts_then, calls_then, same_calls, asking_none, asking_then, asking_as, asking_err}
+use Rattle.node_tree.proofs.Coming.{fetched_none, fetched_then, opened_then, fails_then}
 use Rattle.node_tree.proofs.Order.{in_order}
 
 -- so far the first i of some numbers were fetched
 pub record FetchedTo (name : Name) (numbers : List ℕ) (i : ℕ) (f f' : ℕ → Option (List ℕ)) (root : Entry) (old new : HostState) : Type 0 where
   pub these : List Answer
   pub answered : Answered these old new
+  pub counted : CountsCalls (length these) old new
   pub fetched : Fetched (At f) (At f') (Given name these) root
   pub all : (j : ℕ) → j < i → IsAt (At f') (slice_index numbers j)
   pub only : (k : ℕ) → IsAt (At f') k → IsAt (At f) k ⊎ ((j : ℕ) × (j < i) × (slice_index numbers j ≡ k))
   pub asked : AsksInTurn name (missing_of f (take i numbers)) these
+  pub opened : EachOpens (At f) (Given name these) root
   pub asking : Asking {T = Unit {0}} (Ok tt) (length (missing_of f (take i numbers))) old new
 
 module _ (name : Name) (numbers : List ℕ) (f : ℕ → Option (List ℕ)) (root : Entry) (old : HostState) where
@@ -33,10 +36,12 @@ module _ (name : Name) (numbers : List ℕ) (f : ℕ → Option (List ℕ)) (roo
   fetched_to_none = record {
     these = [];
     answered = answered_none old;
+    counted = counts_none old;
     fetched = fetched_none (At f) (Given name []) root;
     all = λ j lt. absurd (omega arith);
     only = λ k there. inl there;
     asked = tt;
+    opened = λ k block there. absurd (omega (arith, there.1));
     asking = asking_none tt 0 old;
   }
 
@@ -55,13 +60,32 @@ asks_then name [] ls (x ∷ xs) ys first second = absurd first
 asks_then name (k ∷ ks) ls [] ys first second = absurd first
 asks_then name (k ∷ ks) ls (x ∷ xs) ys first second = (first.0, asks_then name ks ls xs ys first.1 second)
 
-asks_front_then : (name : Name) (ks ls more all : List ℕ) (xs ys : List Answer) → all ≡ (ks ++ ls) ++ more → AsksInTurn name ks xs → AsksFront name ls ys → AsksFront name all (xs ++ ys)
-asks_front_then name ks ls more all xs ys is first second = record {
+-- some numbers were asked for, and then others until a fault
+asks_fault_then : (T U : Type 0) (fault : TreeFault) (name : Name) (ks ls more all : List ℕ) (xs ys : List Answer) → all ≡ (ks ++ ls) ++ more → AsksInTurn name ks xs → Asks {T = T} (Err fault) name ls ys → Asks {T = U} (Err fault) name all (xs ++ ys)
+asks_fault_then T U (faults.Damaged damage) name ks ls more all xs ys is first second = record {
+  before = ks ++ second.before;
+  left = second.left ++ more;
+  split = is ∙ ap (λ (l : List ℕ). (ks ++ l) ++ more) second.split ∙ simp append_assoc;
+  asks = subst (λ (l : List ℕ). AsksInTurn name l (xs ++ ys)) (simp append_assoc) (asks_then name ks (second.before ++ damage.node ∷ []) xs ys first second.asks);
+}
+asks_fault_then T U faults.Host name ks ls more all xs ys is first second = record {
+  done = ks ++ second.done;
+  next = second.next;
+  left = second.left ++ more;
+  split = is ∙ ap (λ (l : List ℕ). (ks ++ l) ++ more) second.split ∙ simp append_assoc;
+  asks = asks_then name ks second.done xs ys first second.asks;
+}
+asks_fault_then T U faults.Memory name ks ls more all xs ys is first second = record {
   done = ks ++ second.done;
   left = second.left ++ more;
   split = is ∙ ap (λ (l : List ℕ). (ks ++ l) ++ more) second.split ∙ simp append_assoc;
   asks = asks_then name ks second.done xs ys first second.asks;
 }
+
+-- of one number at most that one is missing
+missing_one : (n k : ℕ) (o : Option (List ℕ)) → Contains (cond (is_none o) (n ∷ []) []) k → n ≡ k
+missing_one n k None there = one_of n k there
+missing_one n k (Some x) there = absurd (omega (arith, there.1))
 
 -- what is missing later was missing before
 fewer_missing : (f g : ℕ → Option (List ℕ)) (k : ℕ) → ((plain : List ℕ) → f k ≡ Some plain → g k ≡ Some plain) → length (missing_of g (k ∷ [])) ≤ length (missing_of f (k ∷ []))
@@ -121,12 +145,43 @@ module _ (name : Name) (numbers : List ℕ) (i : ℕ) (f g h : ℕ → Option (L
         | inr here ↦ inr (i, omega arith, one_of (slice_index numbers i) k here)
       ]
 
+  -- what was given before opens still
+  opened_before : (ys : List Answer) (k : ℕ) (block : List ℕ) → Given name to.these k block → (plain : List ℕ) × Opened (At f) (Given name (to.these ++ ys)) root k plain
+  opened_before ys k block there =
+      let first = λ (j : ℕ) (b : List ℕ). Contains-append_left to.these ys (Gave name (4096 * j) 4096 b) in
+      let o = to.opened k block there in
+      (o.0, opened_then (At f) (At f) (Given name to.these) (Given name to.these) (Given name (to.these ++ ys)) root (λ j p held. held) (λ j p held. was_held j p held) first first k o.0 o.1)
+
+  -- and so does what was given then
+  opened_on : {T : Type 0} (value : T) → (fetches : Fetches (Ok value) name (slice_index numbers i ∷ []) g h root mid new) → EachOpens (At f) (Given name (to.these ++ fetches.these)) root
+  opened_on value fetches k block there =
+      elim (Contains-append_cases to.these fetches.these (Gave name (4096 * k) 4096 block) there) [
+        | inl first ↦ opened_before fetches.these k block first
+        | inr second ↦
+            let this = missing_one (slice_index numbers i) k (g (slice_index numbers i)) (given_asked name (missing_of g (slice_index numbers i ∷ [])) fetches.these k block fetches.asked second) in
+            let held = subst (λ (n : ℕ). IsAt (At h) n) this (fetches.ends 0 (omega arith)) in
+            (held.0, (fetched_then (At f) (At g) (At h) root name to.these fetches.these to.fetched fetches.fetched).came k held.0 held.1)
+      ]
+
+  opened_until : (ys : List Answer) → EachOpens (At g) (Given name ys) root → EachOpens (At f) (Given name (to.these ++ ys)) root
+  opened_until ys opened k block there =
+      elim (Contains-append_cases to.these ys (Gave name (4096 * k) 4096 block) there) [
+        | inl first ↦ opened_before ys k block first
+        | inr second ↦
+            let o = opened k block second in (
+              o.0,
+              opened_then (At f) (At g) (Given name to.these) (Given name ys) (Given name (to.these ++ ys)) root to.fetched.kept to.fetched.came
+                  (λ j b. Contains-append_left to.these ys (Gave name (4096 * j) 4096 b)) (λ j b. Contains-append_right to.these ys (Gave name (4096 * j) 4096 b)) k o.0 o.1,
+            )
+      ]
+
   -- one more number
   pub fetched_to_more : {T : Type 0} (value : T) → Asking (Ok value) (length (missing_of g (slice_index numbers i ∷ []))) mid new → Fetches (Ok value) name (slice_index numbers i ∷ []) g h root mid new
       → FetchedTo name numbers (i + 1) f h root old new
   fetched_to_more value asking fetches = record {
     these = to.these ++ fetches.these;
     answered = answered_then to.these fetches.these old mid new to.answered fetches.answered;
+    counted = subst (λ (n : ℕ). CountsCalls n old new) (sym (length-append to.these fetches.these)) (counts_then (length to.these) (length fetches.these) old mid new to.counted fetches.counted);
     fetched = fetched_then (At f) (At g) (At h) root name to.these fetches.these to.fetched fetches.fetched;
     all = λ j below. elim (cases_eq j i) [
       | inl is ↦ subst (λ (k : ℕ). IsAt (At h) (slice_index numbers k)) (sym is) (fetches.ends 0 (omega arith))
@@ -134,6 +189,7 @@ module _ (name : Name) (numbers : List ℕ) (i : ℕ) (f g h : ℕ → Option (L
     ];
     only = only_on value fetches;
     asked = asked_on value fetches;
+    opened = opened_on value fetches;
     asking = asking_then tt (Ok tt) (length (missing_of f (take i numbers))) (length (missing_of g (slice_index numbers i ∷ []))) (length (missing_of f (take (i + 1) numbers))) old mid new to.asking
         (asking_as value (Ok tt) (length (missing_of g (slice_index numbers i ∷ []))) mid new asking refl) few_more;
   }
@@ -159,20 +215,23 @@ module _ (name : Name) (numbers : List ℕ) (i : ℕ) (f g h : ℕ → Option (L
         only : (j : ℕ) → j < 1 → slice_index (slice_index numbers i ∷ []) j ≡ slice_index numbers i
         only zero below = refl
         only (suc j) below = absurd (omega arith)
-  ends_on U faults.Host fetches = tt
-  ends_on U faults.Memory fetches = tt
+  ends_on U faults.Host fetches = opened_until fetches.these fetches.ends
+  ends_on U faults.Memory fetches = opened_until fetches.these fetches.ends
 
   -- it failed at this number
   pub fetches_failed : {T U : Type 0} (fault : TreeFault) → Fetches {T = T} (Err fault) name (slice_index numbers i ∷ []) g h root mid new → Fetches {T = U} (Err fault) name numbers f h root old new
   fetches_failed {T} {U} fault fetches = record {
     these = to.these ++ fetches.these;
     answered = answered_then to.these fetches.these old mid new to.answered fetches.answered;
+    counted = subst (λ (n : ℕ). CountsCalls n old new)
+        (calls_then {T = U} (Err fault) (length to.these) (length fetches.these) ∙ ap (λ (n : ℕ). calls_of {T = U} (Err fault) n) (sym (length-append to.these fetches.these)))
+        (counts_then (length to.these) (calls_of {T = U} (Err fault) (length fetches.these)) old mid new to.counted (same_calls T U fault (length fetches.these) mid new fetches.counted));
     fetched = fetched_then (At f) (At g) (At h) root name to.these fetches.these to.fetched fetches.fetched;
     only = λ k there. elim (fetches.only k there) [
       | inl before ↦ elim (to.only k before) [ inl first ↦ inl first | inr (j, sooner, same) ↦ inr (subst (λ (m : ℕ). Contains numbers m) same (Contains-get_or numbers j 0 (omega arith))) ]
       | inr here ↦ inr (subst (λ (m : ℕ). Contains numbers m) (one_of (slice_index numbers i) k here) (Contains-get_or numbers i 0 lt))
     ];
-    asked = asks_front_then name (missing_of f (take i numbers)) (missing_of g (slice_index numbers i ∷ [])) (missing_of f (drop (i + 1) numbers)) (missing_of f numbers) to.these fetches.these missing_all to.asked fetches.asked;
+    asked = asks_fault_then T U fault name (missing_of f (take i numbers)) (missing_of g (slice_index numbers i ∷ [])) (missing_of f (drop (i + 1) numbers)) (missing_of f numbers) to.these fetches.these missing_all to.asked fetches.asked;
     ends = ends_on {T = T} U fault fetches;
   }
 
@@ -188,6 +247,7 @@ pub fetches_done : {T : Type 0} (value : T) (name : Name) (numbers : List ℕ) (
 fetches_done value name numbers i f g root old new le at_most to = record {
   these = to.these;
   answered = to.answered;
+  counted = to.counted;
   fetched = to.fetched;
   only = λ k there. elim (to.only k there) [
     | inl first ↦ inl first

@@ -1,12 +1,12 @@
 -- Nodes that are fetched of a host, opened and kept.
-use Rattle.std.specs.Prelude.{◌≡◌, ◌⊎◌, ℕ, ◌+◌, ◌*◌, ◌<◌, ◌≤◌, max, List, [], ◌∷◌, ◌++◌, length, filter, slice_index, Contains, Result, Ok, Err, Option, is_none}
+use Rattle.std.specs.Prelude.{◌≡◌, ◌⊎◌, ℕ, zero, suc, ◌+◌, ◌*◌, ◌<◌, ◌≤◌, max, List, [], ◌∷◌, ◌++◌, length, filter, slice_index, Contains, Result, Ok, Err, Option, is_none}
 use Rattle.std.specs.List.{AllZip}
 use Rattle.node_layout.specs.declared.damage.Damage.{Damage}
 use Rattle.node_layout.specs.declared.damage.Kind.{Kind}
 use Rattle.node_layout.specs.declared.damage.Kind.TheVariants.{Short, Tag}
 use Rattle.node_layout.specs.Places.{parent_of, slot_of}
 use Rattle.node_layout.specs.Entries.{entry_at}
-use Rattle.pf_io.specs.Counts.{HasCause}
+use Rattle.pf_io.specs.Counts.{HasCause, counted}
 use Rattle.pf_io.specs.Host.{Name, Answer, Gave, HostState}
 use Rattle.pf_io.specs.Answered.{Answered}
 use Rattle.pf_io.specs.Unchanged.{KeepsDisk}
@@ -32,6 +32,24 @@ pub record Asking {T : Type 0} (result : Result T TreeFault) (n : ℕ) (old new 
   pub cause : HasCause old.faults new.faults (host_part result)
   pub counts : CountsReads n old new
   pub disk : KeepsDisk old new
+
+-- a count after some calls, each counted
+abbrev pub counted_times : ℕ → ℕ → ℕ
+counted_times zero count = count
+counted_times (suc n) count = counted_times n (counted count)
+
+-- n calls were made, each a read, and no other
+pub record CountsCalls (n : ℕ) (old new : HostState) : Type 0 where
+  pub reads : new.reads ≡ counted_times n old.reads
+  pub writes : new.writes ≡ old.writes
+  pub untouched : n ≡ 0 → new ≡ old
+
+-- how many calls were made: one for each answer, and the one that failed
+abbrev pub calls_of : {T : Type 0} → Result T TreeFault → ℕ → ℕ
+calls_of (Ok value) answers = answers
+calls_of (Err (faults.Damaged damage)) answers = answers
+calls_of (Err faults.Host) answers = suc answers
+calls_of (Err faults.Memory) answers = answers
 
 -- the entry of node k: the root's, or that in the plain text of its parent
 pub data HasEntry (held : AtNodes) (root : Entry) (k : ℕ) (entry : Entry) : Type 0 where
@@ -86,12 +104,16 @@ pub record FailsAt (numbers : List ℕ) (held held_now given : AtNodes) (root : 
   pub before : (j : ℕ) → j < i → IsAt held_now (slice_index numbers j)
   pub fails : Fails held given root damage.node damage.kind
 
+-- each block that was given opens
+abbrev pub EachOpens : AtNodes → AtNodes → Entry → Type 0
+EachOpens held given root = (k : ℕ) (block : List ℕ) → given k block → (plain : List ℕ) × Opened held given root k plain
+
 -- how the fetching of some numbers ends
 abbrev pub FetchEnds : {T : Type 0} → Result T TreeFault → List ℕ → AtNodes → AtNodes → AtNodes → Entry → Type 0
 FetchEnds (Ok value) numbers held held_now given root = (i : ℕ) → i < length numbers → IsAt held_now (slice_index numbers i)
 FetchEnds (Err (faults.Damaged damage)) numbers held held_now given root = FailsAt numbers held held_now given root damage
-FetchEnds (Err faults.Host) numbers held held_now given root = Unit {0}
-FetchEnds (Err faults.Memory) numbers held held_now given root = Unit {0}
+FetchEnds (Err faults.Host) numbers held held_now given root = EachOpens held given root
+FetchEnds (Err faults.Memory) numbers held held_now given root = EachOpens held given root
 
 -- each of the numbers was asked for, and these answers came of it, in turn
 abbrev pub AsksInTurn : Name → List ℕ → List Answer → Type 0
@@ -104,15 +126,33 @@ pub record AsksFront (name : Name) (numbers : List ℕ) (these : List Answer) : 
   pub split : numbers ≡ done ++ left
   pub asks : AsksInTurn name done these
 
--- all of them were asked for, or some before it failed
+-- those up to this one were, and none behind it
+pub record AsksUpTo (name : Name) (numbers : List ℕ) (number : ℕ) (these : List Answer) : Type 0 where
+  pub before : List ℕ
+  pub left : List ℕ
+  pub split : numbers ≡ (before ++ number ∷ []) ++ left
+  pub asks : AsksInTurn name (before ++ number ∷ []) these
+
+-- those before another one were
+pub record AsksBefore (name : Name) (numbers : List ℕ) (these : List Answer) : Type 0 where
+  pub done : List ℕ
+  pub next : ℕ
+  pub left : List ℕ
+  pub split : numbers ≡ done ++ next ∷ left
+  pub asks : AsksInTurn name done these
+
+-- All of them were asked for, or those up to the one that is damaged, or those before the one at which the host failed.
 abbrev pub Asks : {T : Type 0} → Result T TreeFault → Name → List ℕ → List Answer → Type 0
 Asks (Ok value) name numbers these = AsksInTurn name numbers these
-Asks (Err fault) name numbers these = AsksFront name numbers these
+Asks (Err (faults.Damaged damage)) name numbers these = AsksUpTo name numbers damage.node these
+Asks (Err faults.Host) name numbers these = AsksBefore name numbers these
+Asks (Err faults.Memory) name numbers these = AsksFront name numbers these
 
 -- the fetching of some numbers, by the answers that came
 pub record Fetches {T : Type 0} (result : Result T TreeFault) (name : Name) (numbers : List ℕ) (held held_now : ℕ → Option (List ℕ)) (root : Entry) (old new : HostState) : Type 0 where
   pub these : List Answer
   pub answered : Answered these old new
+  pub counted : CountsCalls (calls_of result (length these)) old new
   pub fetched : Fetched (At held) (At held_now) (Given name these) root
   pub only : (k : ℕ) → IsAt (At held_now) k → IsAt (At held) k ⊎ Contains numbers k
   pub asked : Asks result name (missing_of held numbers) these

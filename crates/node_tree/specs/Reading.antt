@@ -8,7 +8,7 @@ use Rattle.node_tree.specs.Opened.{AtNodes, IsAt, Given, Opened, NothingHeld, Bl
 use Rattle.node_tree.specs.Parts.{IsBroken, IsPart}
 use Rattle.node_tree.specs.State.{TreeState, held_at, Held, root_in, readable}
 use Rattle.node_tree.specs.Unforged.{GivenOf}
-use Rattle.node_tree.specs.Fetching.{Fetched, Asks, CountsReads, missing_of}
+use Rattle.node_tree.specs.Fetching.{Fetched, EachOpens, Asks, CountsReads, CountsCalls, calls_of, missing_of}
 use Rattle.node_tree.specs.Backing.{Backs, now}
 use Rattle.node_tree.specs.declared.fault.TreeFault.{TreeFault}
 use Rattle.node_tree.specs.declared.fault.TreeFault.TheVariants as faults
@@ -17,17 +17,18 @@ use Rattle.node_tree.specs.declared.fault.TreeFault.TheVariants as faults
 abbrev pub KeepsFields : TreeState → TreeState → Type 0
 KeepsFields old new = record new { held = old.held } ≡ old
 
--- how a read ends, by the nodes that were held and the blocks that were given
+-- how a read ends, by the nodes that were held and the blocks that were given; a fault comes before any block that does not open
 abbrev pub ReadEnds : Result ℕ TreeFault → AtNodes → ℕ → List ℕ → TreeState → TreeState → Type 0
 ReadEnds (Ok n) given at buffer old new = (n ≡ readable old at (length buffer)) × IsPart (Held old) given (root_in old) old.first at n (Ok (take n buffer)) × ((k : ℕ) → IsTouched at (at + n) k → IsAt (Held new) k)
 ReadEnds (Err (faults.Damaged damage)) given at buffer old new = IsPart (Held old) given (root_in old) old.first at (readable old at (length buffer)) (Err damage)
-ReadEnds (Err faults.Host) given at buffer old new = Unit {0}
-ReadEnds (Err faults.Memory) given at buffer old new = Unit {0}
+ReadEnds (Err faults.Host) given at buffer old new = EachOpens (Held old) given (root_in old)
+ReadEnds (Err faults.Memory) given at buffer old new = EachOpens (Held old) given (root_in old)
 
--- Some answers came, of the touched nodes that were not held, in rising number. What is held afterwards was held or opens from what they gave, from the root down, and nothing is let go; and so the read ends.
+-- Some answers came, of the touched nodes that were not held, in rising number, each of one call. What is held afterwards was held or opens from what they gave, from the root down, and nothing is let go; and so the read ends.
 pub record Reads (result : Result ℕ TreeFault) (name : Name) (at : ℕ) (buffer : List ℕ) (old new : TreeState) (before after : HostState) : Type 0 where
   pub these : List Answer
   pub answered : Answered these before after
+  pub counted : CountsCalls (calls_of result (length these)) before after
   pub rest : KeepsFields old new
   pub fetched : Fetched (Held old) (Held new) (Given name these) (root_in old)
   pub numbers : List ℕ

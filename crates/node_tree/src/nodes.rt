@@ -1,6 +1,7 @@
 //! The nodes that a tree keeps, and the fetching of those that it lacks.
 ghost use Rattle.std.specs.Prelude.{◌≡◌, ◌⊎◌, ◌^◌, ◌<◌, ◌≤◌, ◌==◌, ℕ, List, [], ◌∷◌, All, length, OnOk, OnErr, IfErr, if◌then◌else◌, Some};
 ghost use Rattle.std.specs.List.Sorted.{IsStrictlyIncreasing};
+ghost use Rattle.pf_io.specs.Host.{CountsRead};
 ghost use Rattle.node_layout.specs.Places.{parent_of};
 ghost use Rattle.node_tree.specs.Opened.{IsAt};
 ghost use Rattle.node_tree.specs.Nodes.{Keeps, plain_at};
@@ -35,6 +36,7 @@ fn open_node<H: Host>(
 ) -> Result<[u8; 4096], TreeFault>
     requires { number < 2 ^ 30 }
     ensures asking { Asking result 1 (H.state host.old) (H.state host.new) }
+    ensures counts { CountsRead 4096 (H.state host.old) (H.state host.new) }
     ensures ends { NodeEnds result name.now number (key.now, tag.now) (H.state host.old) (H.state host.new) }
 {
     let mut block = [0; 4096];

@@ -11,3 +11,9 @@ mod SideMaking
 mod InputDisk
 mod InputSealing
 mod EncryptEnding
+pub mod Numbered
+pub mod SameBlocks
+pub mod Following
+pub mod OneFile
+pub mod Growing
+pub mod Fronts

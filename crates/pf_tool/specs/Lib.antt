@@ -10,4 +10,5 @@ pub mod SideFiles
 pub mod Keys
 pub mod Encrypting
 pub mod Making
+pub mod Decrypting
 pub mod Runs

@@ -32,7 +32,7 @@ returns-in_err-plain-clause-fetches g c =
     let old = g.H.Host.state c.args.host.now in
     let new = g.H.Host.state c.open_node.new.host in
     let missing = λ (there : IsAt (Keeps c.args.nodes.now) c.args.number). not_there (λ (n : HeldNode). n.plain) (get nat_cmp c.args.nodes.now c.args.number) (sym c.contains_key.ensures ∙ c.if-contains_key.false) there.0 there.1 in
-    rw p.1 (fetch_failed c.args.name.now c.args.number c.args.root.now p.0 (plain_at c.args.nodes.now) c.entry_of.result old new c.entry_of.ensures missing
+    rw p.1 (fetch_failed c.args.name.now c.args.number c.args.root.now p.0 (plain_at c.args.nodes.now) c.entry_of.result old new c.entry_of.ensures missing c.in_err-plain.ensures.counts
     (subst (λ (x : TreeFault). NodeEnds (Err x) c.args.name.now c.args.number c.entry_of.result old new) (sym p.2) c.in_err-plain.ensures.ends))
 
 pub returns-clause-asking : goal.returns-clause-asking
@@ -44,4 +44,4 @@ pub returns-clause-fetches : goal.returns-clause-fetches
 returns-clause-fetches g c =
     let missing = λ (there : IsAt (Keeps c.args.nodes.now) c.args.number). not_there (λ (n : HeldNode). n.plain) (get nat_cmp c.args.nodes.now c.args.number) (sym c.contains_key.ensures ∙ c.if-contains_key.false) there.0 there.1 in
     fetch_opened c.args.name.now c.args.number c.args.root.now (plain_at c.args.nodes.now) (plain_at c.keep.new.nodes) c.entry_of.result c.in_ok-plain.plain
-    (g.H.Host.state c.args.host.now) (g.H.Host.state c.open_node.new.host) c.entry_of.ensures missing c.in_ok-plain.ensures.ends c.keep.result c.keep.ensures.ok c.keep.ensures.err c.keep.ensures.memory
+    (g.H.Host.state c.args.host.now) (g.H.Host.state c.open_node.new.host) c.entry_of.ensures missing c.in_ok-plain.ensures.counts c.in_ok-plain.ensures.ends c.keep.result c.keep.ensures.ok c.keep.ensures.err c.keep.ensures.memory
