@@ -17,3 +17,9 @@ pub mod Following
 pub mod OneFile
 pub mod Growing
 pub mod Fronts
+pub mod KeyOver
+mod RunStops
+mod EncryptLaws
+pub mod DecryptLaws
+mod RunLaws
+mod RunClauses

@@ -1,6 +1,7 @@
 //! The program `pf_tool`: tools for protected and trusted files of enclaves.
 #![tactic(auto)]
 
+mod decrypt;
 mod encrypt;
 #[cfg(test)]
 mod encrypt_tests;
