@@ -23,3 +23,4 @@ mod EncryptLaws
 pub mod DecryptLaws
 mod RunLaws
 mod RunClauses
+mod RunDisk

@@ -168,3 +168,26 @@ unput Leads es (Failed event) old new never stands happened =
 unput Leads es Starved old new never stands happened =
     let both = no_front (pieces_in es) (pieces_in (stands.0 ∷ stands.1)) (sym (pieces_then es (stands.0 ∷ stands.1)) ∙ never (es ++ stands.0 ∷ stands.1) stands.2 stands.3) in
     happened.out.untouched both.0
+
+-- where the work is done the status is 0, and only there
+pub reports_done : (ending : Ending) (old new : SinkState) (status : ℕ) → ending ≡ Done → Reports (AtEnd ending) old new status → status ≡ 0
+reports_done ending old new status is reports = (subst (λ (e : Ending). Reports (AtEnd e) old new status) is reports).0
+
+zero_end : (ending : Ending) → ending_status ending ≡ 0 → ending ≡ Done
+zero_end Done is = refl
+zero_end (Damaged node kind) is = absurd (cc)
+zero_end BadName is = absurd (cc)
+zero_end (NotFound name) is = absurd (cc)
+zero_end (KeyFile number) is = absurd (cc)
+zero_end NotProtected is = absurd (cc)
+zero_end Unbuilt is = absurd (cc)
+
+zero_stop : (stop : Stop) → stop_status stop ≡ 0 → stop ≡ AtEnd Done
+zero_stop (AtEnd ending) is = ap AtEnd (zero_end ending is)
+zero_stop (Failed (Answers answer)) is = absurd (cc)
+zero_stop (Failed (Draws word)) is = absurd (cc)
+zero_stop (Failed (Puts bytes)) is = absurd (cc)
+zero_stop Starved is = absurd (cc)
+
+pub done_at_zero : (stop : Stop) (old new : SinkState) (status : ℕ) → Reports stop old new status → status ≡ 0 → stop ≡ AtEnd Done
+done_at_zero stop old new status reports is = zero_stop stop (sym (status_of stop old new status (said stop old new status reports) (λ seven. omega (arith, seven, is))) ∙ is)
