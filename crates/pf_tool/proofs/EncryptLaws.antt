@@ -9,9 +9,9 @@ use Rattle.pf_io.specs.Host.{Answer, LengthWas, Gave, Wrote, Synced, Made, Swapp
 use Rattle.pf_io.specs.Answered.{IsAnswerOf}
 use Rattle.pf_io.specs.Names.{IsName, IsTarget, side_of}
 use Rattle.pf_tool.specs.Events.{Event, Answers, Draws, Puts, answers_in, words_in, pieces_in}
-use Rattle.pf_tool.specs.Endings.{Ending, Done, BadName, NotFound, KeyFile, Unbuilt}
+use Rattle.pf_tool.specs.Endings.{Ending, Done, BadName, NotFound, KeyFile, Unbuilt, ending_status}
 use Rattle.pf_tool.specs.Keys.{HasKey, KeyRefused, key_unnamed, key_absent, key_length, key_short, key_events, KeyOver}
-use Rattle.pf_tool.specs.Encrypting.{MOST_FIRST, IsInput, read_events, published_events, Seals, output_unnamed, input_unfit, input_absent, input_large, published, EncryptLeads, encrypt_key_refused, encrypt_key_read, EncryptOver, over_no_key, over_unfit, over_no_input, over_large, over_done}
+use Rattle.pf_tool.specs.Encrypting.{MOST_FIRST, IsInput, read_events, published_events, Seals, output_unnamed, input_unfit, input_absent, input_large, published, EncryptLeads, encrypt_key_refused, encrypt_key_read, GaveSealed, EncryptOver, over_no_key, over_unfit, over_no_input, over_large, over_done}
 use Rattle.pf_tool.proofs.KeyOver.{there_of, absent_of, whole_of, key_over_one, key_refused_over, key_read_over}
 
 -- nothing is put out
@@ -189,3 +189,49 @@ module _ (key input output : Name) where
     encrypt_over es ending (encrypt_key_read user rest has is seals) all =
         let answers = subst (λ (l : List Event). AllByRecursion (IsAnswerOf files) (answers_in l)) is all in
         seals_over user rest ending (key_read_over files key user (answers_in rest) has answers) seals answers.1.1
+
+given_sealed : (key : Name) (user : List ℕ) (input output : Name) (rest : List Event) (ending : Ending) → ending ≡ Done → Seals user input output rest ending → GaveSealed key input output (answers_in (key_events key user ++ rest))
+given_sealed key user input output rest ending done (output_unnamed u is ends) = absurd (cc)
+given_sealed key user input output rest ending done (input_unfit target u is ends) = absurd (cc)
+given_sealed key user input output rest ending done (input_absent target fit is ends) = absurd (cc)
+given_sealed key user input output rest ending done (input_large size first second bytes target fit large is ends) = absurd (cc)
+given_sealed key user input output rest ending done (published size first second third fourth content target fit small is ends) =
+    subst (λ (l : List Event). GaveSealed key input output (answers_in (key_events key user ++ l))) (sym is) (record {
+      user = user;
+      nonce = third ++ fourth;
+      content = content;
+      key_given = (1, omega arith, refl);
+      content_given = (6, omega arith, refl);
+      small = small;
+      written = (7, omega arith, refl);
+      named = (9, omega arith, refl);
+    })
+
+key_not_done : (key : Name) (es : List Event) → KeyRefused key es Done → ⊥
+key_not_done key es (key_unnamed u is ends) = absurd (cc)
+key_not_done key es (key_absent named is ends) = absurd (cc)
+key_not_done key es (key_length n named other is ends) = absurd (cc)
+key_not_done key es (key_short bytes named short is ends) = absurd (cc)
+
+-- what was given where the work is done
+pub encrypt_given : (key input output : Name) (es : List Event) → EncryptLeads key input output es Done → GaveSealed key input output (answers_in es)
+encrypt_given key input output es (encrypt_key_refused refuses) = absurd (key_not_done key es refuses)
+encrypt_given key input output es (encrypt_key_read user rest has is seals) = subst (λ (l : List Event). GaveSealed key input output (answers_in l)) (sym is) (given_sealed key user input output rest Done refl seals)
+
+seals_undamaged : (user : List ℕ) (input output : Name) (rest : List Event) (ending : Ending) → Seals user input output rest ending → ending_status ending ≡ 1 → ⊥
+seals_undamaged user input output rest ending (output_unnamed u is ends) one = absurd (omega (arith, one, ap ending_status ends))
+seals_undamaged user input output rest ending (input_unfit target u is ends) one = absurd (omega (arith, one, ap ending_status ends))
+seals_undamaged user input output rest ending (input_absent target fit is ends) one = absurd (omega (arith, one, ap ending_status ends))
+seals_undamaged user input output rest ending (input_large size first second bytes target fit large is ends) one = absurd (omega (arith, one, ap ending_status ends))
+seals_undamaged user input output rest ending (published size first second third fourth content target fit small is ends) one = absurd (omega (arith, one, ap ending_status ends))
+
+key_undamaged : (key : Name) (es : List Event) (ending : Ending) → KeyRefused key es ending → ending_status ending ≡ 1 → ⊥
+key_undamaged key es ending (key_unnamed u is ends) one = absurd (cc)
+key_undamaged key es ending (key_absent named is ends) one = absurd (cc)
+key_undamaged key es ending (key_length n named other is ends) one = absurd (cc)
+key_undamaged key es ending (key_short bytes named short is ends) one = absurd (cc)
+
+-- nothing is damaged
+pub encrypt_undamaged : (key input output : Name) (es : List Event) (ending : Ending) → EncryptLeads key input output es ending → ending_status ending ≡ 1 → ⊥
+encrypt_undamaged key input output es ending (encrypt_key_refused refuses) one = key_undamaged key es ending refuses one
+encrypt_undamaged key input output es ending (encrypt_key_read user rest has is seals) one = seals_undamaged user input output rest ending seals one

@@ -1,11 +1,11 @@
 -- What `encrypt -w KEY -i IN -o OUT` comes to.
-use Rattle.std.specs.Prelude.{◌≡◌, ◌≢◌, ◌⊎◌, ℕ, ◌<◌, ◌≤◌, List, [], ◌∷◌, ◌++◌, length, take, drop, replicate, Option, Some, None, Ok, Err}
+use Rattle.std.specs.Prelude.{◌≡◌, ◌≢◌, ◌⊎◌, ℕ, ◌<◌, ◌≤◌, List, [], ◌∷◌, ◌++◌, length, take, drop, replicate, Contains, Option, Some, None, Ok, Err}
 use Rattle.std.specs.List.{concat}
 use Rattle.node_layout.specs.Metadata.{meta_text, meta_block}
 use Rattle.node_tree.specs.Content.{first_text}
 use Rattle.node_tree.specs.Sheet.{Sheet, Stands}
 use Rattle.pf_io.specs.Disk.{Name, Disk, Files, reading}
-use Rattle.pf_io.specs.Host.{HostState, LengthWas, Gave, Wrote, Synced, Made, Swapped, contents}
+use Rattle.pf_io.specs.Host.{HostState, Answer, LengthWas, Gave, Wrote, Synced, Made, Swapped, contents}
 use Rattle.pf_io.specs.Names.{IsName, IsTarget, side_of, side_recovery_of}
 use Rattle.pf_tool.specs.Events.{Event, Answers, Draws, words_in}
 use Rattle.pf_tool.specs.Endings.{Ending, Done, BadName, NotFound, Unbuilt, Stop}
@@ -83,6 +83,18 @@ IsVersion key input output disk file = (nonce : List ℕ) × StandsFor (user_on 
 
 abbrev pub EncryptLeaves : Name → Name → Name → List Event → Stop → HostState → HostState → Type 0
 EncryptLeaves key input output tried stop old new = LeavesBySide output (IsSealed key input output) tried stop old new
+
+-- At status 0 the answers have this: a key was given, and a content; the side file got node 0 of a sheet that has the content
+-- whole, under the key and with the output's name as path; and it took the output's name.
+pub record GaveSealed (key input output : Name) (these : List Answer) : Type 0 where
+  pub user : List ℕ
+  pub nonce : List ℕ
+  pub content : List ℕ
+  pub key_given : Contains these (Gave key 0 16 user)
+  pub content_given : Contains these (Gave input 0 3073 content)
+  pub small : length content ≤ MOST_FIRST
+  pub written : Contains these (Wrote (side_of output) 0 (node_of user nonce output content))
+  pub named : Contains these (Swapped (side_of output) output)
 
 -- The ending that files give. Where the work is done, what stands at the output is said by `EncryptLeaves`.
 pub data EncryptOver (key input output : Name) (files : Files) (ending : Ending) : Type 0 where
