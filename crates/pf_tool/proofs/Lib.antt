@@ -17,3 +17,6 @@ pub mod Following
 pub mod OneFile
 pub mod Growing
 pub mod Fronts
+pub mod PieceReads
+pub mod PieceRuns
+pub mod NodeReading

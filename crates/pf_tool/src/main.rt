@@ -1,11 +1,13 @@
 //! The program `pf_tool`: tools for protected and trusted files of enclaves.
 #![tactic(auto)]
 
+mod decrypt;
 mod encrypt;
 #[cfg(test)]
 mod encrypt_tests;
 mod fault;
 mod key;
+mod pieces;
 mod run;
 mod side_file;
 #[cfg(test)]
