@@ -45,7 +45,7 @@ writes_then (Wrote name place bytes ∷ xs) ys count = writes_then xs ys (counte
 writes_then (answer ∷ xs) ys count = writes_then xs ys count
 
 -- a list of two parts that is empty
-no_first : {A : Type 0} (xs ys : List A) → xs ++ ys ≡ [] → xs ≡ []
+pub no_first : {A : Type 0} (xs ys : List A) → xs ++ ys ≡ [] → xs ≡ []
 no_first [] ys none = refl
 no_first (x ∷ xs) ys none = absurd (cc)
 

@@ -20,3 +20,9 @@ pub mod Fronts
 pub mod PieceReads
 pub mod PieceRuns
 pub mod NodeReading
+pub mod KeyOver
+mod RunStops
+mod EncryptLaws
+pub mod DecryptLaws
+mod RunLaws
+mod RunClauses

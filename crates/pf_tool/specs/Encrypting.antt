@@ -77,6 +77,10 @@ nonce_in events = concat (take 2 (drop 2 (words_in events)))
 abbrev pub IsSealed : Name → Name → Name → Disk → List Event → Option (List ℕ) → Type 0
 IsSealed key input output disk tried file = StandsFor (user_on disk key) output (nonce_in tried) (content_on disk input) file
 
+-- the same, under some nonce
+abbrev pub IsVersion : Name → Name → Name → Disk → Option (List ℕ) → Type 0
+IsVersion key input output disk file = (nonce : List ℕ) × StandsFor (user_on disk key) output nonce (content_on disk input) file
+
 abbrev pub EncryptLeaves : Name → Name → Name → List Event → Stop → HostState → HostState → Type 0
 EncryptLeaves key input output tried stop old new = LeavesBySide output (IsSealed key input output) tried stop old new
 

@@ -94,7 +94,7 @@ pub(crate) fn decrypt<'a, H: Host, K: Sink>(
     command: &Decrypt<'a>,
     out: &mut K,
 ) -> Result<(), Fault<'a>>
-    ensures ends { (world : World) → Ends (DecryptLeads command.now.key.now command.now.input.now) (λ _ _. KeepsDisk) result
+    ensures { (world : World) → Ends (DecryptLeads command.now.key.now command.now.input.now) (λ _ _. KeepsDisk) result
         (with_out (with_host world (H.state host.old)) (K.state out.old)) (with_out (with_host world (H.state host.new)) (K.state out.new)) }
 {
     let user = read_key(host, command.key)?;

@@ -1,23 +1,43 @@
 // A run of the program.
 ghost use Rattle.std.specs.Prelude.{◌≡◌};
-ghost use Rattle.pf_tool.specs.Requests.{Request, texts, AskFor, AskForNothing};
+ghost use Rattle.pf_io.specs.Streams.{SourceState};
+ghost use Rattle.pf_tool.specs.Requests.{Request, texts, AskFor, AskForNothing, request_of};
 ghost use Rattle.pf_tool.specs.World.{world_of};
 ghost use Rattle.pf_tool.specs.Outcomes.{Concludes};
-ghost use Rattle.pf_tool.specs.Runs.{Runs, Usage, Causes, ByWords, Decided, Honest, OneOver};
+ghost use Rattle.pf_tool.specs.Runs.{Runs, Usage, Causes, ByWords, Decided, Honest, OneOver, OnDisks, Stays};
 
+use crate::decrypt::decrypt;
 use crate::encrypt::encrypt;
 use crate::fault::Fault;
-use crate::words::{Command, Encrypt, command_of};
+use crate::words::{Command, command_of};
 use pf_io::{Host, Sink, Source, Words};
 use std::alloc::Global;
 
 // Says how a command ended, and answers the status.
 fn conclude<L: Sink>(ended: Result<(), Fault<'_>>, log: &mut L) -> u8
-    ensures { Concludes ended.now (L.state log.old) (L.state log.new) result }
+    ensures { Concludes ended.entry (L.state log.old) (L.state log.new) result }
 {
     match ended {
         Ok(()) => 0,
         Err(fault) => fault.report(log),
+    }
+}
+
+// Runs a command, and says how it ended.
+fn run_command<H: Host, K: Sink, L: Sink, R: Words>(
+    alloc: Global,
+    command: &Command<'_>,
+    host: &mut H,
+    out: &mut K,
+    log: &mut L,
+    random: &mut R,
+) -> u8
+    ensures { (input : SourceState) → Runs (request_of command.now) (world_of (H.state host.old) input (K.state out.old) (L.state log.old) (R.state random.old))
+        (world_of (H.state host.new) input (K.state out.new) (L.state log.new) (R.state random.new)) result }
+{
+    match command {
+        Command::Decrypt(command) => conclude(decrypt(alloc, host, command, out), log),
+        Command::Encrypt(command) => conclude(encrypt(alloc, host, random, command), log),
     }
 }
 
@@ -32,14 +52,36 @@ pub fn run<H: Host, S: Source, K: Sink, L: Sink, R: Words>(
     log: &mut L,
     random: &mut R,
 ) -> u8
-    ensures usage { AskForNothing (texts words.now) → Usage (world_of (H.state host.old) (S.state input.old) (K.state out.old) (L.state log.old) (R.state random.old))
-        (world_of (H.state host.new) (S.state input.new) (K.state out.new) (L.state log.new) (R.state random.new)) result }
+    // Words that are no command are named so, and nothing else is done. Status 2 says this alone.
+    ensures usage { AskForNothing (texts words.now) → Usage (world_of (H.state host.old) (S.state input.old) (K.state out.old) (L.state log.old) (R.state random.old)) (world_of (H.state host.new) (S.state input.new) (K.state out.new) (L.state log.new) (R.state random.new)) result }
+    ensures only_usage { result ≡ 2 → AskForNothing (texts words.now) }
+
+    // A command comes to an ending by the answers of the host and the random words, or a call failed, or there was no memory:
+    // then what had happened is a front of a run that comes to an ending.
+    ensures runs { (request : Request) → AskFor (texts words.now) request → Runs request (world_of (H.state host.old) (S.state input.old) (K.state out.old) (L.state log.old) (R.state random.old)) (world_of (H.state host.new) (S.state input.new) (K.state out.new) (L.state log.new) (R.state random.new)) result }
+
+    // Statuses 4, 6 and 7 come only where a count of faults rose. At 5 and at most 3 none did.
+    ensures causes { Causes (world_of (H.state host.old) (S.state input.old) (K.state out.old) (L.state log.old) (R.state random.old)) (world_of (H.state host.new) (S.state input.new) (K.state out.new) (L.state log.new) (R.state random.new)) result }
+
+    // Where the words alone are refused, nothing is asked.
+    ensures by_words { (request : Request) → AskFor (texts words.now) request → ByWords request (world_of (H.state host.old) (S.state input.old) (K.state out.old) (L.state log.old) (R.state random.old)) (world_of (H.state host.new) (S.state input.new) (K.state out.new) (L.state log.new) (R.state random.new)) result }
+
+    // Where the host tells its answers, the ending that they lead to is the one reported.
+    ensures decided { (request : Request) → AskFor (texts words.now) request → Decided request (world_of (H.state host.old) (S.state input.old) (K.state out.old) (L.state log.old) (R.state random.old)) (world_of (H.state host.new) (S.state input.new) (K.state out.new) (L.state log.new) (R.state random.new)) result }
+
+    // Over an honest host, where nothing fails, what comes is what its files give, and they give one ending.
+    ensures honest { (request : Request) → AskFor (texts words.now) request → Honest request (world_of (H.state host.old) (S.state input.old) (K.state out.old) (L.state log.old) (R.state random.old)) (world_of (H.state host.new) (S.state input.new) (K.state out.new) (L.state log.new) (R.state random.new)) result }
+    ensures one_ending { OneOver }
+
+    // On an honest disk, whatever fails: what a crash at any moment leaves, and what stands in the end.
+    ensures disk { (request : Request) → AskFor (texts words.now) request → OnDisks request (world_of (H.state host.old) (S.state input.old) (K.state out.old) (L.state log.old) (R.state random.old)) (world_of (H.state host.new) (S.state input.new) (K.state out.new) (L.state log.new) (R.state random.new)) result }
+
+    // What stays.
+    ensures stays { (request : Request) → AskFor (texts words.now) request → Stays request (world_of (H.state host.old) (S.state input.old) (K.state out.old) (L.state log.old) (R.state random.old)) (world_of (H.state host.new) (S.state input.new) (K.state out.new) (L.state log.new) (R.state random.new)) }
+    ensures unread { S.state input.new ≡ S.state input.old }
 {
-    let Some(command) = command_of(words) else {
-        return Fault::NoCommand.report(log);
-    };
-    match command {
-        Command::Decrypt(_) => 0,
-        Command::Encrypt(command) => conclude(encrypt(alloc, host, random, &command), log),
+    match command_of(words) {
+        Some(command) => run_command(alloc, &command, host, out, log, random),
+        None => Fault::NoCommand.report(log),
     }
 }
