@@ -56,7 +56,7 @@ pub length-whole : (held given : AtNodes) (root : Entry) (first : List ℕ) (at 
 length-whole held given root first at n bytes whole = ap (λ (l : List ℕ). length l) whole.are ∙ length-map-range_with_len (byte_of first whole.plain) at n
 
 module _ (input : Name) (files : Files) (file : List ℕ) (secret : MetaSecret) where
-  nodes_same : (from to : ℕ) → SameTo from file (contents (files input)) → AllByRecursion (IsAnswerOf files) (answers_in (node_events input file from to)) → SameTo to file (contents (files input))
+  pub nodes_same : (from to : ℕ) → SameTo from file (contents (files input)) → AllByRecursion (IsAnswerOf files) (answers_in (node_events input file from to)) → SameTo to file (contents (files input))
   nodes_same from to before all k lt =
       elim (cases_lt k from) [
         | inl below ↦ before k below
@@ -85,5 +85,5 @@ module _ (input : Name) (files : Files) (file : List ℕ) (secret : MetaSecret) 
       )
 
 -- the answers of a file are its own
-own_nodes : (input : Name) (files : Files) (from to : ℕ) → AllByRecursion (IsAnswerOf files) (answers_in (node_events input (contents (files input)) from to))
+pub own_nodes : (input : Name) (files : Files) (from to : ℕ) → AllByRecursion (IsAnswerOf files) (answers_in (node_events input (contents (files input)) from to))
 own_nodes input files from to = own_range input files from (to - from)

@@ -17,6 +17,9 @@ pub mod Following
 pub mod OneFile
 pub mod Growing
 pub mod Fronts
+pub mod PieceReads
+pub mod PieceRuns
+pub mod NodeReading
 pub mod KeyOver
 mod RunStops
 mod EncryptLaws

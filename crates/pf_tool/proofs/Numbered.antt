@@ -40,12 +40,12 @@ of_kept p (x ∷ xs) k (suc i, within, is) passes = later_kept p x xs k (p x) (o
 pub in_range : (a n k : ℕ) → a ≤ k → k < a + n → Contains (range_with_len a n) k
 in_range a n k low high = (k - a, omega (arith, length-range_with_len a n), get_or-range_with_len a n (k - a) k (omega arith) ∙ omega arith)
 
-of_range : (a n k : ℕ) → Contains (range_with_len a n) k → (a ≤ k) × (k < a + n)
+pub of_range : (a n k : ℕ) → Contains (range_with_len a n) k → (a ≤ k) × (k < a + n)
 of_range a n k (i, within, is) =
     let at = get_or-range_with_len a n i k (omega (arith, length-range_with_len a n)) in
     (omega (arith, at, is), omega (arith, at, is, length-range_with_len a n))
 
-rising_range : (a n : ℕ) → IsStrictlyIncreasing (range_with_len a n)
+pub rising_range : (a n : ℕ) → IsStrictlyIncreasing (range_with_len a n)
 rising_range a n i lt =
     let long = length-range_with_len a n in
     omega (arith, get_or-range_with_len a n i 0 (omega (arith, long)), get_or-range_with_len a n (i + 1) 0 (omega (arith, long)))

@@ -64,7 +64,7 @@ refused_one user node e f (node_damaged kind whole fault is) (node_short magic s
 refused_one user node e f (node_damaged kind whole fault is) (node_unbuilt magic long why is2) = absurd (⊎_elim (λ flag. flag whole.flag) (λ other. other whole.plain) why)
 refused_one user node e f (node_damaged kind whole fault is) (node_damaged other whole2 fault2 is2) = is ∙ ap (λ (k : Kind). Damaged 0 k) (fault_one user node kind other fault fault2) ∙ sym is2
 
-not_refused : (user node : List ℕ) (e : Ending) (secret : MetaSecret) → IsWhole node → OpensTo user node secret → NodeRefused user node e → ⊥
+pub not_refused : (user node : List ℕ) (e : Ending) (secret : MetaSecret) → IsWhole node → OpensTo user node secret → NodeRefused user node e → ⊥
 not_refused user node e secret whole opens (not_protected other is) = other whole.plain.magic_is
 not_refused user node e secret whole opens (node_short magic short is) = omega (arith, short, whole.whole)
 not_refused user node e secret whole opens (node_unbuilt magic long why is) = ⊎_elim (λ flag. flag whole.flag) (λ other. other whole.plain) why

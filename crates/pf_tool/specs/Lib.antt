@@ -11,4 +11,5 @@ pub mod Keys
 pub mod Encrypting
 pub mod Making
 pub mod Decrypting
+pub mod Unsealing
 pub mod Runs

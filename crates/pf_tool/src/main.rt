@@ -7,6 +7,7 @@ mod encrypt;
 mod encrypt_tests;
 mod fault;
 mod key;
+mod pieces;
 mod run;
 mod side_file;
 #[cfg(test)]
