@@ -33,7 +33,7 @@ range_words : (input : Name) (file : List ℕ) (from n : ℕ) → words_in (rang
 range_words input file from zero = refl
 range_words input file from (suc n) = range_words input file (from + 1) n
 
-range_pieces : (input : Name) (file : List ℕ) (from n : ℕ) → pieces_in (range_events input file from n) ≡ []
+pub range_pieces : (input : Name) (file : List ℕ) (from n : ℕ) → pieces_in (range_events input file from n) ≡ []
 range_pieces input file from zero = refl
 range_pieces input file from (suc n) = range_pieces input file (from + 1) n
 
@@ -46,7 +46,7 @@ last_words input file at (KeyFile number) = refl
 last_words input file at NotProtected = refl
 last_words input file at Unbuilt = refl
 
-last_pieces : (input : Name) (file : List ℕ) (at : ℕ) (ending : Ending) → pieces_in (last_events input file at ending) ≡ []
+pub last_pieces : (input : Name) (file : List ℕ) (at : ℕ) (ending : Ending) → pieces_in (last_events input file at ending) ≡ []
 last_pieces input file at Done = refl
 last_pieces input file at (Damaged node kind) = range_pieces input file (node_count at) ((node + 1) - node_count at)
 last_pieces input file at BadName = refl
@@ -92,7 +92,7 @@ key_words key es ending (key_absent named is ends) = ap (λ (l : List Event). wo
 key_words key es ending (key_length n named other is ends) = ap (λ (l : List Event). words_in l) is
 key_words key es ending (key_short bytes named short is ends) = ap (λ (l : List Event). words_in l) is
 
-key_pieces : (key : Name) (es : List Event) (ending : Ending) → KeyRefused key es ending → pieces_in es ≡ []
+pub key_pieces : (key : Name) (es : List Event) (ending : Ending) → KeyRefused key es ending → pieces_in es ≡ []
 key_pieces key es ending (key_unnamed u is ends) = ap (λ (l : List Event). pieces_in l) is
 key_pieces key es ending (key_absent named is ends) = ap (λ (l : List Event). pieces_in l) is
 key_pieces key es ending (key_length n named other is ends) = ap (λ (l : List Event). pieces_in l) is
@@ -169,7 +169,7 @@ unseals_one user input es others e f (input_read size file pieces target comes i
     )
 
 -- a front of events that put nothing out puts nothing out, or has them all
-split_front : (xs ys es more : List Event) → es ++ more ≡ xs ++ ys → pieces_in xs ≡ [] → (pieces_in es ≡ []) ⊎ ((rest : List Event) × (es ≡ xs ++ rest) × (rest ++ more ≡ ys))
+pub split_front : (xs ys es more : List Event) → es ++ more ≡ xs ++ ys → pieces_in xs ≡ [] → (pieces_in es ≡ []) ⊎ ((rest : List Event) × (es ≡ xs ++ rest) × (rest ++ more ≡ ys))
 split_front [] ys es more same none = inr (es, refl, same)
 split_front (x ∷ xs) ys [] more same none = inl refl
 split_front (Answers a ∷ xs) ys (e ∷ es) more same none =
@@ -189,7 +189,7 @@ split_front (Draws w ∷ xs) ys (e ∷ es) more same none =
 split_front (Puts b ∷ xs) ys (e ∷ es) more same none = absurd (cc)
 
 -- a front of what puts nothing out puts nothing out
-front_silent : (es more all : List Event) → es ++ more ≡ all → pieces_in all ≡ [] → pieces_in es ≡ []
+pub front_silent : (es more all : List Event) → es ++ more ≡ all → pieces_in all ≡ [] → pieces_in es ≡ []
 front_silent es more all same none = first (pieces_in es) (pieces_in more) (sym (pieces_then es more) ∙ ap (λ (l : List Event). pieces_in l) same ∙ none) where
   first : (xs ys : List (List ℕ)) → xs ++ ys ≡ [] → xs ≡ []
   first [] ys is = refl

@@ -24,6 +24,8 @@ pub mod KeyOver
 mod RunStops
 mod EncryptLaws
 pub mod DecryptLaws
+pub mod SheetNodes
+pub mod ContentLaws
 mod RunLaws
 mod RunClauses
 mod RunDisk

@@ -12,4 +12,5 @@ pub mod Encrypting
 pub mod Making
 pub mod Decrypting
 pub mod Unsealing
+pub mod Contents
 pub mod Runs

@@ -2,6 +2,8 @@
 #![tactic(auto)]
 
 mod decrypt;
+#[cfg(test)]
+mod decrypt_tests;
 mod encrypt;
 #[cfg(test)]
 mod encrypt_tests;
