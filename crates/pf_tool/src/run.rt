@@ -4,7 +4,7 @@ ghost use Rattle.pf_io.specs.Streams.{SourceState};
 ghost use Rattle.pf_tool.specs.Requests.{Request, texts, AskFor, AskForNothing, request_of};
 ghost use Rattle.pf_tool.specs.World.{world_of};
 ghost use Rattle.pf_tool.specs.Outcomes.{Concludes};
-ghost use Rattle.pf_tool.specs.Runs.{Runs, Usage, Causes, ByWords, Decided, Honest, OneOver, OnDisks, Stays};
+ghost use Rattle.pf_tool.specs.Runs.{Runs, Usage, Causes, ByWords, Content, Decided, Honest, OneOver, OnDisks, Stays};
 
 use crate::decrypt::decrypt;
 use crate::encrypt::encrypt;
@@ -65,6 +65,9 @@ pub fn run<H: Host, S: Source, K: Sink, L: Sink, R: Words>(
 
     // Where the words alone are refused, nothing is asked.
     ensures by_words { (request : Request) → AskFor (texts words.now) request → ByWords request (world_of (H.state host.old) (S.state input.old) (K.state out.old) (L.state log.old) (R.state random.old)) (world_of (H.state host.new) (S.state input.new) (K.state out.new) (L.state log.new) (R.state random.new)) result }
+
+    // What is put out is of one sealed version where nothing given is forged, and what is sealed has the bytes given.
+    ensures content { (request : Request) → AskFor (texts words.now) request → Content request (world_of (H.state host.old) (S.state input.old) (K.state out.old) (L.state log.old) (R.state random.old)) (world_of (H.state host.new) (S.state input.new) (K.state out.new) (L.state log.new) (R.state random.new)) result }
 
     // Where the host tells its answers, the ending that they lead to is the one reported.
     ensures decided { (request : Request) → AskFor (texts words.now) request → Decided request (world_of (H.state host.old) (S.state input.old) (K.state out.old) (L.state log.old) (R.state random.old)) (world_of (H.state host.new) (S.state input.new) (K.state out.new) (L.state log.new) (R.state random.new)) result }

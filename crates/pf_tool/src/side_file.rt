@@ -61,8 +61,7 @@ pub(crate) fn begin<H: Host, R: Words>(
     let node = make_node(user, &nonce, output, &[]);
     host.make(side)?;
     host.write_at(side, 0, &node)?;
-    host.sync(side)?;
-    Ok(())
+    Ok(host.sync(side)?)
 }
 
 /// Writes the content into the side file, and gives it the output's name.

@@ -1,9 +1,9 @@
 use Rattle.std.proofs.Common.{◌≡◌, ℕ, List, ◌∙◌, sym, subst, refl, ap}
 use Rattle.pf_tool.specs.World.{World, world_of}
 use Rattle.pf_tool.specs.Requests.{Request, request_of, texts}
-use Rattle.pf_tool.specs.Runs.{Runs, Usage, ByWords, Decided, Honest, OnDisks, Stays}
+use Rattle.pf_tool.specs.Runs.{Runs, Usage, ByWords, Content, Decided, Honest, OnDisks, Stays}
 use Rattle.pf_tool.proofs.RunLaws.{one_request, over_one}
-use Rattle.pf_tool.proofs.RunClauses.{usage_causes, run_causes, run_by_words, run_decided, run_honest, run_not_two, run_unread, run_stays}
+use Rattle.pf_tool.proofs.RunClauses.{usage_causes, run_causes, run_by_words, run_content, run_decided, run_honest, run_not_two, run_unread, run_stays}
 use Rattle.pf_tool.proofs.RunDisk.{run_disk}
 use Rattle.pf_tool.proofs.run.run.Goals as goal
 
@@ -51,6 +51,15 @@ returns-in-Some-clause-by_words g c other asks =
     let status = c.run_command.result in
     let run : Runs request old new status = c.run_command.ensures (g.S.Source.state c.args.input.now) in
     subst (λ (r : Request). ByWords r old new status) (one_request (texts c.args.words.now) request other c.in-Some.ensures.found asks) (run_by_words request old new status run)
+
+pub returns-in-Some-clause-content : goal.returns-in-Some-clause-content
+returns-in-Some-clause-content g c other asks =
+    let request = request_of c.in-Some.command in
+    let old = world_of (g.H.Host.state c.args.host.now) (g.S.Source.state c.args.input.now) (g.K.Sink.state c.args.out.now) (g.L.Sink.state c.args.log.now) (g.R.Words.state c.args.random.now) in
+    let new = world_of (g.H.Host.state c.run_command.new.host) (g.S.Source.state c.args.input.now) (g.K.Sink.state c.run_command.new.out) (g.L.Sink.state c.run_command.new.log) (g.R.Words.state c.run_command.new.random) in
+    let status = c.run_command.result in
+    let run : Runs request old new status = c.run_command.ensures (g.S.Source.state c.args.input.now) in
+    subst (λ (r : Request). Content r old new status) (one_request (texts c.args.words.now) request other c.in-Some.ensures.found asks) (run_content request old new status run)
 
 pub returns-in-Some-clause-decided : goal.returns-in-Some-clause-decided
 returns-in-Some-clause-decided g c other asks =
