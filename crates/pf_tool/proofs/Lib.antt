@@ -29,3 +29,4 @@ pub mod ContentLaws
 mod RunLaws
 mod RunClauses
 mod RunDisk
+pub mod ContentRuns

@@ -9,11 +9,15 @@ use Rattle.node_tree.specs.Parts.{PIECE}
 use Rattle.node_tree.specs.Reading.{IsForeign}
 use Rattle.node_tree.specs.Unforged.{Unforged, Carries}
 use Rattle.pf_io.specs.Disk.{Name}
-use Rattle.pf_io.specs.Host.{Answer, Gave}
+use Rattle.pf_io.specs.Host.{Answer, Gave, Both, IsMore}
+use Rattle.pf_io.specs.Answered.{WereTold}
+use Rattle.pf_io.specs.Streams.{TakesFront}
+use Rattle.pf_tool.specs.World.{World}
 use Rattle.pf_tool.specs.Events.{Event, answers_in, pieces_in}
-use Rattle.pf_tool.specs.Endings.{Done, Damaged, Stop, AtEnd, tried}
+use Rattle.pf_tool.specs.Endings.{Done, Damaged, Stop, AtEnd, tried, ending_line}
 use Rattle.pf_tool.specs.Decrypting.{DecryptLeads}
 use Rattle.pf_tool.specs.Outcomes.{Stands}
+use Rattle.pf_tool.specs.Reports.{Wrote}
 
 -- the pieces of a content from a place on, as far as they go
 abbrev pub ArePiecesOf : List ℕ → ℕ → List (List ℕ) → Type 0
@@ -47,3 +51,21 @@ pub record IsOfSheets (user : List ℕ) (sheets : List Sheet) (input : Name) (ev
 abbrev pub DecryptsSheets : Type 0
 DecryptsSheets = (key input : Name) (events : List Event) (stop : Stop) (user : List ℕ) (sheets : List Sheet) → Stands (DecryptLeads key input) events stop → Contains (answers_in events) (Gave key 0 16 user)
     → Unforged user sheets (answers_in events) → IsOfSheets user sheets input events stop
+
+-- What came of a run of which these answers were told: the output took a front of the sheet's content, at status 0 all of it,
+-- and a damage that is named is of a block that is not the sheet's seal of its node.
+pub record TookOf (input : Name) (sheet : Sheet) (these : List Answer) (old new : World) (status : ℕ) : Type 0 where
+  pub front : Both old.out.bytes new.out.bytes (TakesFront sheet.content)
+  pub all : status ≡ 0 → Both old.out.bytes new.out.bytes (IsMore sheet.content)
+  pub damage : status ≡ 1 → (k : ℕ) × (kind : Kind) × Wrote (ending_line (Damaged k kind)) old.log new.log × (1 ≤ k → IsForeign sheet (Given input these) k)
+
+-- So for each sheet of the list that the node 0 given carries, and where anything was put out, or the work is done, there is one.
+pub record TookOfSheets (user : List ℕ) (sheets : List Sheet) (input : Name) (these : List Answer) (old new : World) (status : ℕ) : Type 0 where
+  pub each : (sheet : Sheet) → Contains sheets sheet → IsCarried user input these sheet → TookOf input sheet these old new status
+  pub some : (new.out ≡ old.out) ⊎ ((sheet : Sheet) × Contains sheets sheet × IsCarried user input these sheet)
+  pub done : status ≡ 0 → (sheet : Sheet) × Contains sheets sheet × IsCarried user input these sheet
+
+-- for each list of sheets with nothing forged of them under the key that was given
+abbrev pub TookContent : Name → Name → World → World → ℕ → Type 0
+TookContent key input old new status = (these : List Answer) (user : List ℕ) (sheets : List Sheet) → WereTold these old.host new.host → Contains these (Gave key 0 16 user) → Unforged user sheets these
+    → TookOfSheets user sheets input these old new status
