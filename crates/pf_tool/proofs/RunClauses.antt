@@ -5,7 +5,7 @@ use Rattle.std.proofs.lemmas.List.{append-nil, append_cancel_left}
 use Rattle.std.proofs.Math.Seq.{take-append_seam}
 use Rattle.pf_io.specs.Counts.{Rose}
 use Rattle.pf_io.specs.Disk.{Name, Files}
-use Rattle.pf_io.specs.Host.{Answer, Gave, HostState, Both, IsMore, OnHonest, files_of}
+use Rattle.pf_io.specs.Host.{Answer, HostState, Both, IsMore, OnHonest, files_of}
 use Rattle.pf_io.specs.Answered.{IsAnswerOf, WereTold}
 use Rattle.pf_io.specs.Streams.{SourceState, SinkState, TakesFront}
 use Rattle.pf_io.specs.Words.{WordsState}
@@ -25,11 +25,8 @@ use Rattle.pf_tool.proofs.RunStops.{not_two, reports_of, stop_low, reported_said
 use Rattle.pf_tool.proofs.RunLaws.{silent, decided, over, over_front}
 use Rattle.pf_tool.proofs.DecryptLaws.{decrypt_undrawn}
 use Rattle.pf_tool.proofs.EncryptLaws.{encrypt_unput, encrypt_given}
-use Rattle.pf_tool.proofs.ContentLaws.{decrypts_sheets}
+use Rattle.pf_tool.proofs.ContentRuns.{took_content}
 use Rattle.pf_tool.specs.Encrypting.{EncryptLeads, GaveSealed}
-use Rattle.node_tree.specs.Sheet.{Sheet}
-use Rattle.node_tree.specs.Unforged.{Unforged}
-use Rattle.std.specs.Prelude.{Contains}
 
 -- a command, and what was said of it
 pub concluded : {T : Type 0} (request : Request) (r : Result T Fault) (h0 h1 : HostState) (input : SourceState) (o0 o1 l0 l1 : SinkState) (r0 r1 : WordsState) (status : ℕ) → Ends (Leads request) (Leaves request) r (world_of h0 input o0 l0 r0) (world_of h1 input o1 l0 r1)
@@ -163,33 +160,17 @@ module _ (request : Request) (old new : World) (status : ℕ) (run : Runs reques
   pub run_unread : new.input ≡ old.input
   run_unread = input_kept run.outcome.events old Now run.stop run.outcome.happened
 
--- what was told of what happened
-happened_told : (es : List Event) (stop : Stop) (old new : World) → Happened es stop old new → Both old.host.given new.host.given (IsMore (answers_in es))
-happened_told es (AtEnd ending) old new happened = happened.host.told
-happened_told es (Failed (Answers answer)) old new happened = subst (λ (o : Option (List Answer)). Both old.host.given o (IsMore (answers_in es))) (sym happened.2.0.told) happened.1.host.told
-happened_told es (Failed (Draws word)) old new happened = subst (λ (w : World). Both old.host.given w.host.given (IsMore (answers_in es))) (sym happened.2.1) happened.1.host.told
-happened_told es (Failed (Puts bytes)) old new happened = subst (λ (w : World). Both old.host.given w.host.given (IsMore (answers_in es))) (sym happened.2.1) happened.1.host.told
-happened_told es Starved old new happened = happened.host.told
-
 done_given : (key input output : Name) (es : List Event) (stop : Stop) → stop ≡ AtEnd Done → Stands (EncryptLeads key input output) es stop → GaveSealed key input output (answers_in es)
 done_given key input output es stop is stands = encrypt_given key input output es (subst (λ (s : Stop). Stands (EncryptLeads key input output) es s) is stands)
 
 pub run_content : (request : Request) (old new : World) (status : ℕ) → Runs request old new status → Content request old new status
-run_content (Decrypt key input) old new status run these user sheets told gave unforged =
-    let es = run.outcome.events in
-    let same : answers_in es ≡ these = one_told old.host new.host (answers_in es) these (happened_told es run.stop old (with_log new old.log) run.outcome.happened) told in
-    record {
-      events = es;
-      stop = run.stop;
-      answers = same;
-      happened = run.outcome.happened;
-      reports = run.reports;
-      of_sheets = decrypts_sheets key input es run.stop user sheets run.outcome.stands (subst (λ (l : List Answer). Contains l (Gave key 0 16 user)) (sym same) gave) (subst (λ (l : List Answer). Unforged user sheets l) (sym same) unforged);
-    }
+run_content (Decrypt key input) old new status run = took_content key input old new status run
 run_content (Encrypt key input output) old new status run these told zero_is =
     let es = run.outcome.events in
-    let same : answers_in es ≡ these = one_told old.host new.host (answers_in es) these (happened_told es run.stop old (with_log new old.log) run.outcome.happened) told in
-    subst (λ (l : List Answer). GaveSealed key input output l) same (done_given key input output es run.stop (done_at_zero run.stop old.log new.log status run.reports zero_is) run.outcome.stands)
+    let done = done_at_zero run.stop old.log new.log status run.reports zero_is in
+    let passed : Passed es old (with_log new old.log) = subst (λ (s : Stop). Happened es s old (with_log new old.log)) done run.outcome.happened in
+    let same : answers_in es ≡ these = one_told old.host new.host (answers_in es) these passed.host.told told in
+    subst (λ (l : List Answer). GaveSealed key input output l) same (done_given key input output es run.stop done run.outcome.stands)
 
 pub run_stays : (request : Request) (old new : World) (status : ℕ) → Runs request old new status → Stays request old new
 run_stays (Decrypt key input) old new status run = undrawn (Leads (Decrypt key input)) run.outcome.events run.stop old (with_log new old.log) (decrypt_undrawn key input) run.outcome.stands run.outcome.happened

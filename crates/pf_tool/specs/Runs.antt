@@ -1,9 +1,9 @@
 -- What a run of the program comes to, by what its words ask for.
-use Rattle.std.specs.Prelude.{◌≡◌, ◌≢◌, ◌⊎◌, ℕ, ◌≤◌, List, [], Contains, Some}
+use Rattle.std.specs.Prelude.{◌≡◌, ◌≢◌, ◌⊎◌, ℕ, ◌≤◌, List, [], Some}
 use Rattle.std.specs.List.{concat}
 use Rattle.pf_io.specs.Counts.{Rose}
 use Rattle.pf_io.specs.Disk.{Name, Files, Disk, Image, IsImageAt}
-use Rattle.pf_io.specs.Host.{Answer, Gave, HostState, Both, OnDisk, files_of}
+use Rattle.pf_io.specs.Host.{Answer, HostState, Both, OnDisk, files_of}
 use Rattle.pf_io.specs.Moments.{Ran}
 use Rattle.pf_io.specs.Names.{side_of}
 use Rattle.pf_io.specs.Streams.{TakesFront}
@@ -18,10 +18,7 @@ use Rattle.pf_tool.specs.Requests.{Request, Decrypt, Encrypt}
 use Rattle.pf_tool.specs.SideFiles.{IsNewFile}
 use Rattle.pf_tool.specs.Decrypting.{DecryptLeads, DecryptOver}
 use Rattle.pf_tool.specs.Encrypting.{EncryptLeads, EncryptLeaves, EncryptOver, GaveSealed, IsVersion}
-use Rattle.pf_tool.specs.Contents.{IsOfSheets}
-use Rattle.node_tree.specs.Sheet.{Sheet}
-use Rattle.node_tree.specs.Unforged.{Unforged}
-use Rattle.pf_tool.specs.Happened.{Happened}
+use Rattle.pf_tool.specs.Contents.{TookContent}
 
 -- all events of a run with this ending
 abbrev pub Leads : Request → List Event → Ending → Type 0
@@ -43,15 +40,6 @@ pub record Runs (request : Request) (old new : World) (status : ℕ) : Type 0 wh
   pub stop : Stop
   pub outcome : Outcome (Leads request) (Leaves request) stop old (with_log new old.log)
   pub reports : Reports stop old.log new.log status
-
--- what happened with these answers, what was said, and that it is of the sheets
-pub record GivesSheets (user : List ℕ) (sheets : List Sheet) (input : Name) (these : List Answer) (old new : World) (status : ℕ) : Type 0 where
-  pub events : List Event
-  pub stop : Stop
-  pub answers : answers_in events ≡ these
-  pub happened : Happened events stop old (with_log new old.log)
-  pub reports : Reports stop old.log new.log status
-  pub of_sheets : IsOfSheets user sheets input events stop
 
 -- words that are no command are named so, and nothing else is done
 pub record Usage (old new : World) (status : ℕ) : Type 0 where
@@ -77,11 +65,10 @@ pub record Causes (old new : World) (status : ℕ) : Type 0 where
 abbrev pub ByWords : Request → World → World → ℕ → Type 0
 ByWords request old new status = (ending : Ending) → Leads request [] ending → Reports (AtEnd ending) old.log new.log status × (with_log new old.log ≡ old)
 
--- What was put out of a protected file is of one sealed version: for every list of sheets with which nothing that the host told
--- is forged under a key that it gave. What was sealed has the bytes given as content.
+-- What was put out of a protected file is of one sealed version, where nothing that was given is forged. What was sealed has the
+-- bytes given as content.
 abbrev pub Content : Request → World → World → ℕ → Type 0
-Content (Decrypt key input) old new status = (these : List Answer) (user : List ℕ) (sheets : List Sheet) → WereTold these old.host new.host → Contains these (Gave key 0 16 user) → Unforged user sheets these
-    → GivesSheets user sheets input these old new status
+Content (Decrypt key input) old new status = TookContent key input old new status
 Content (Encrypt key input output) old new status = (these : List Answer) → WereTold these old.host new.host → status ≡ 0 → GaveSealed key input output these
 
 -- where the host told these answers, and they lead to an ending, it is reported
