@@ -165,7 +165,7 @@ done_given key input output es stop is stands = encrypt_given key input output e
 
 pub run_content : (request : Request) (old new : World) (status : ℕ) → Runs request old new status → Content request old new status
 run_content (Decrypt key input) old new status run = took_content key input old new status run
-run_content (Encrypt key input output) old new status run these told zero_is =
+run_content (Encrypt key input output) old new status run = λ these told zero_is.
     let es = run.outcome.events in
     let done = done_at_zero run.stop old.log new.log status run.reports zero_is in
     let passed : Passed es old (with_log new old.log) = subst (λ (s : Stop). Happened es s old (with_log new old.log)) done run.outcome.happened in
