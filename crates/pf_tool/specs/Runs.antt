@@ -76,7 +76,7 @@ abbrev pub Decided : Request → World → World → ℕ → Type 0
 Decided request old new status = (events : List Event) (ending : Ending) → Leads request events ending → WereTold (answers_in events) old.host new.host → status ≤ 3
     → Reports (AtEnd ending) old.log new.log status
 
--- no count stands or rose to where a fault is told by it
+-- no count of faults rose, and none stands at its last value
 pub record NoneRose (old new : World) : Type 0 where
   pub host : ¬ (Rose old.host.faults new.host.faults)
   pub out : ¬ (Rose old.out.faults new.out.faults)

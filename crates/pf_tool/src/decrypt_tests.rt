@@ -213,6 +213,10 @@ fn an_output_that_fails_has_the_pieces_before(rt: HostRuntime) -> Result<(), Fai
     Ok(())
 }
 
+fn put_part(node: &mut [u8; 4096], part: &[u8; 3880]) {
+    node[59..3939].copy_from_slice(part);
+}
+
 // Node 0 of version 1.0, from its parts.
 fn node_of_parts(nonce: &[u8; 32], tag: &[u8; 16], part: &[u8; 3880]) -> [u8; 4096] {
     let mut node = [0; 4096];
@@ -220,7 +224,7 @@ fn node_of_parts(nonce: &[u8; 32], tag: &[u8; 16], part: &[u8; 3880]) -> [u8; 40
     node[8] = 1;
     node[10..42].copy_from_slice(nonce);
     node[42..58].copy_from_slice(tag);
-    node[59..3939].copy_from_slice(part);
+    put_part(&mut node, part);
     node
 }
 
