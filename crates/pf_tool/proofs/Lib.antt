@@ -1,17 +1,32 @@
-pub mod Lists
 pub mod Writing
-pub mod Answering
-pub mod Given
-pub mod Ending
-pub mod Running
-pub mod Drawing
-pub mod OnlyReading
-pub mod SideDisk
-pub mod SealDisk
-pub mod SealInput
-pub mod AfterKey
-pub mod Tracing
-pub mod EncryptRunning
-pub mod OneEnding
-pub mod Decided
-pub mod FilesDecide
+pub mod Composing
+pub mod Calls
+pub mod Stopping
+pub mod KeyReading
+mod Lists
+mod Drawing
+mod SideDisk
+mod SealDisk
+mod SideMaking
+mod InputDisk
+mod InputSealing
+mod EncryptEnding
+pub mod Numbered
+pub mod SameBlocks
+pub mod Following
+pub mod OneFile
+pub mod Growing
+pub mod Fronts
+pub mod PieceReads
+pub mod PieceRuns
+pub mod NodeReading
+pub mod KeyOver
+mod RunStops
+mod EncryptLaws
+pub mod DecryptLaws
+pub mod SheetNodes
+pub mod ContentLaws
+mod RunLaws
+mod RunClauses
+mod RunDisk
+pub mod ContentRuns

@@ -1,13 +1,27 @@
 -- The side file on an honest disk.
-use Rattle.std.proofs.Common.{◌≡◌, ℕ, ◌+◌, ◌-◌, ◌<◌, ◌≤◌, List, [], ◌∷◌, ◌++◌, length, drop, replicate, subst, ap, ◌∙◌, Option, Result, Ok, Err, IsOk, arith}
+use Rattle.std.proofs.Common.{◌≡◌, ◌≢◌, inl, inr, ⊎_elim, ℕ, ◌+◌, ◌-◌, ◌<◌, ◌≤◌, List, [], ◌∷◌, ◌++◌, length, drop, replicate, refl, subst, ap, ◌∙◌, Option, Result, Ok, Err, IsOk, arith}
 use Rattle.std.proofs.lemmas.List.{append-nil, drop_all}
-use Rattle.pf_io.specs.Disk.{Name, Disk}
+use Rattle.pf_io.specs.Disk.{Name, Disk, Image, IsImageAt}
 use Rattle.pf_io.specs.Host.{Both}
+use Rattle.pf_io.proofs.Telling.{both_weaker}
 use Rattle.pf_io.specs.Moments.{Honest, Does, Ran}
 use Rattle.pf_io.specs.Steps.{overwrite, KeepsOthers, Changes, Writes, Syncs, Makes}
-use Rattle.pf_io.proofs.Images.{others_image, others_then, follows_at}
-use Rattle.pf_tool.specs.Crash.{LeavesOthers, HasShort}
+use Rattle.pf_io.proofs.Images.{others_image, others_then, follows_at, made_others}
+use Rattle.pf_io.specs.Names.{side_of}
+use Rattle.pf_tool.specs.Events.{Event}
+use Rattle.pf_tool.specs.Endings.{Done, Stop, AtEnd}
+use Rattle.pf_tool.specs.SideFiles.{IsMade}
+use Rattle.pf_tool.specs.Making.{HasShort, SideAlone, SideBegun}
 use Rattle.pf_io.proofs.Runs.{started, goes_on}
+
+-- a crash leaves every name but one as before
+abbrev pub LeavesOthers : Name → Disk → Image → Type 0
+LeavesOthers name disk image = (other : Name) → other ≢ name → IsImageAt (disk other) (image other)
+
+-- no other name changed, and the name has a file of at most n bytes
+pub record Begun (n : ℕ) (name : Name) (old new : Disk) : Type 0 where
+  pub others : KeepsOthers name old new
+  pub begun : HasShort n name new
 
 -- from where nothing was done, one call that changes this name alone
 pub first_change : (name : Name) (R : Disk → Disk → Type 0) (step : Disk → Disk → Type 0) (o q : Option Honest) → Both o q (Does step)
@@ -50,3 +64,38 @@ pub synced_short : {T E : Type 0} (r : Result T E) (n : ℕ) (name : Name) (e f 
 synced_short r n name e f has change =
     let next = follows_at _ (e name) (f name) has.file has.there change.there in
     record { file = next.0; there = next.1; short = omega (arith, has.short, ap (λ (l : List ℕ). length l) next.2.reads) }
+
+alone_image : (tried : List Event) (output side : Name) (disk : Disk) (image : Image) → side ≡ side_of output → IsMade tried output → LeavesOthers side disk image → SideAlone tried output disk image
+alone_image tried output side disk image is made left = record { side = λ never. absurd (never made); others = subst (λ (n : Name). LeavesOthers n disk image) is left }
+
+-- a run that changed the side name alone, which was to be made
+pub alone : (tried : List Event) (stop : Stop) (output side : Name) (R : Disk → Disk → Type 0) (o q : Option Honest) → side ≡ side_of output → IsMade tried output → Both o q (Ran (LeavesOthers side) R)
+    → ((d e : Disk) → R d e → KeepsOthers side d e) → ((d e : Disk) → R d e → stop ≡ AtEnd Done → HasShort 4096 side e) → Both o q (Ran (SideAlone tried output) (SideBegun tried stop output))
+alone tried stop output side R o q is made ran keeps short =
+    both_weaker (Ran (LeavesOthers side) R) (Ran (SideAlone tried output) (SideBegun tried stop output)) o q ran
+    (λ a b run. record {
+      leaves = record {
+        later = run.leaves.later;
+        each = λ image left. alone_image tried output side a.now image is made (run.leaves.each image left);
+        earlier = λ t image le left. ⊎_elim (λ was. inl was) (λ has. inr (alone_image tried output side a.now image is made has)) (run.leaves.earlier t image le left);
+      };
+      ends = record {
+        begun = λ done. subst (λ (n : Name). HasShort 4096 n b.now) is (short a.now b.now run.ends done);
+        side = λ never. absurd (never made);
+        others = subst (λ (n : Name). KeepsOthers n a.now b.now) is (keeps a.now b.now run.ends);
+      };
+    })
+
+-- nothing was asked of the disk
+pub untouched : (tried : List Event) (stop : Stop) (output : Name) (o : Option Honest) → (stop ≡ AtEnd Done → ⊥) → Both o o (Ran (SideAlone tried output) (SideBegun tried stop output))
+untouched tried stop output o never =
+    both_weaker (Ran (SideAlone tried output) (λ old new. new ≡ old)) (Ran (SideAlone tried output) (SideBegun tried stop output)) o o
+    (started (SideAlone tried output) o (λ d image is. record { side = λ none. is (side_of output); others = λ other ne. is other }))
+    (λ a b run. record {
+      leaves = run.leaves;
+      ends = record {
+        begun = λ done. absurd (never done);
+        side = λ none. ap (λ (x : Disk). x (side_of output)) run.ends;
+        others = λ other ne. ap (λ (x : Disk). x other) run.ends;
+      };
+    })

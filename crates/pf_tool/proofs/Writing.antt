@@ -1,11 +1,13 @@
 -- Several writes to a sink, one after the other.
-use Rattle.std.proofs.Common.{◌≡◌, ℕ, ◌+◌, ◌≤◌, min, List, ◌++◌, length, take, Option, Result, Ok, Err, ap, ◌∙◌, sym, arith, append_assoc}
+use Rattle.std.proofs.Common.{◌≡◌, ℕ, ◌+◌, ◌≤◌, min, List, [], ◌∷◌, ◌++◌, length, take, Option, Result, Ok, Err, ap, ◌∙◌, sym, subst, arith, append_assoc}
 use Rattle.std.proofs.lemmas.List.{take_min, take-append-le}
 use Rattle.std.proofs.Math.Seq.{take-append-add}
-use Rattle.pf_io.specs.Counts.{Rose}
+use Rattle.pf_io.specs.Counts.{Rose, HasCause}
 use Rattle.pf_io.specs.Host.{Both, IsMore}
-use Rattle.pf_io.specs.Streams.{Takes, TakesFront}
+use Rattle.pf_io.specs.Streams.{SinkState, Takes, TakesFront}
 use Rattle.pf_io.proofs.Telling.{both_then, both_weaker}
+use Rattle.pf_tool.specs.Endings.{line}
+use Rattle.pf_tool.specs.Reports.{Wrote, FailedIn, Written}
 
 -- a front of the first text is a front of both
 front_of_both : (x y before now : List ℕ) → TakesFront x before now → TakesFront (x ++ y) before now
@@ -23,24 +25,61 @@ front_of_second x y before mid now whole front =
       taken = front.taken ∙ ap (λ (l : List ℕ). l ++ take front.count y) whole ∙ append_assoc before x (take front.count y) ∙ ap (λ (l : List ℕ). before ++ l) (sym (take-append-add x y front.count));
     }
 
-pub wrote_then : (x y : List ℕ) (o p q : Option (List ℕ)) → Both o p (IsMore x) → Both p q (IsMore y) → Both o q (IsMore (x ++ y))
-wrote_then x y o p q first second =
+pub told_both : (x y : List ℕ) (o p q : Option (List ℕ)) → Both o p (IsMore x) → Both p q (IsMore y) → Both o q (IsMore (x ++ y))
+told_both x y o p q first second =
     both_then (IsMore x) (IsMore y) (IsMore (x ++ y)) o p q first second
     (λ a b c one two. two ∙ ap (λ (l : List ℕ). l ++ y) one ∙ append_assoc a x y)
 
--- a whole write, and then one that was cut short
-pub front_after : (x y : List ℕ) (o p q : Option (List ℕ)) → Both o p (IsMore x) → Both p q (TakesFront y) → Both o q (TakesFront (x ++ y))
-front_after x y o p q first second = both_then (IsMore x) (TakesFront y) (TakesFront (x ++ y)) o p q first second (front_of_second x y)
+-- a whole write, and then a front of another
+pub told_front : (x y : List ℕ) (o p q : Option (List ℕ)) → Both o p (IsMore x) → Both p q (TakesFront y) → Both o q (TakesFront (x ++ y))
+told_front x y o p q first second = both_then (IsMore x) (TakesFront y) (TakesFront (x ++ y)) o p q first second (front_of_second x y)
 
--- a whole write, and then one that is done or cut short
-pub takes_then : {T E : Type 0} (r : Result T E) (x y : List ℕ) (o p q : Option (List ℕ)) → Both o p (IsMore x) → Takes r y p q → Takes r (x ++ y) o q
-takes_then (Ok v) x y o p q first second = wrote_then x y o p q first second
-takes_then (Err e) x y o p q first second = front_after x y o p q first second
-
--- a write that was cut short, of a text that goes on
+-- a front of a text that goes on
 pub front_then : (x y : List ℕ) (o p : Option (List ℕ)) → Both o p (TakesFront x) → Both o p (TakesFront (x ++ y))
 front_then x y o p front = both_weaker (TakesFront x) (TakesFront (x ++ y)) o p front (front_of_both x y)
 
--- a count that rose after it had not fallen
-pub rose_later : (before mid now : ℕ) → before ≤ mid → Rose mid now → Rose before now
-rose_later before mid now later rose = omega arith
+-- a count that rose after it had stayed
+pub rose_after : (before mid now : ℕ) → mid ≡ before → Rose mid now → Rose before now
+rose_after before mid now calm rose = subst (λ (n : ℕ). Rose n now) calm rose
+
+pub wrote_both : (x y : List ℕ) (old mid new : SinkState) → Wrote x old mid → Wrote y mid new → Wrote (x ++ y) old new
+wrote_both x y old mid new first second = record {
+  told = told_both x y old.bytes mid.bytes new.bytes first.told second.told;
+  calm = second.calm ∙ first.calm;
+}
+
+-- the second write failed
+pub failed_second : (x y : List ℕ) (old mid new : SinkState) → Wrote x old mid → FailedIn y mid new → FailedIn (x ++ y) old new
+failed_second x y old mid new first second = record {
+  told = told_front x y old.bytes mid.bytes new.bytes first.told second.told;
+  rose = rose_after old.faults mid.faults new.faults first.calm second.rose;
+}
+
+-- the first did
+pub failed_first : (x y : List ℕ) (old new : SinkState) → FailedIn x old new → FailedIn (x ++ y) old new
+failed_first x y old new failed = record { told = front_then x y old.bytes new.bytes failed.told; rose = failed.rose }
+
+-- one write
+pub written_by : {T E : Type 0} (r : Result T E) (bytes : List ℕ) (old new : SinkState) → HasCause old.faults new.faults r → Takes r bytes old.bytes new.bytes → Written r bytes old new
+written_by (Ok v) bytes old new cause takes = record { told = takes; calm = cause.still }
+written_by (Err e) bytes old new cause takes = record { told = takes; rose = cause.rose }
+
+pub written_second : {T E : Type 0} (r : Result T E) (x y : List ℕ) (old mid new : SinkState) → Wrote x old mid → Written r y mid new → Written r (x ++ y) old new
+written_second (Ok v) x y old mid new first second = wrote_both x y old mid new first second
+written_second (Err e) x y old mid new first second = failed_second x y old mid new first second
+
+-- a line of three texts
+module _ (a b c : List ℕ) (old : SinkState) where
+  pub line_fails_first : (new : SinkState) → FailedIn a old new → FailedIn (line (a ++ b ++ c)) old new
+  line_fails_first new failed = failed_first (a ++ b ++ c) (10 ∷ []) old new (failed_first (a ++ b) c old new (failed_first a b old new failed))
+
+  pub line_fails_second : (mid new : SinkState) → Wrote a old mid → FailedIn b mid new → FailedIn (line (a ++ b ++ c)) old new
+  line_fails_second mid new first failed = failed_first (a ++ b ++ c) (10 ∷ []) old new (failed_first (a ++ b) c old new (failed_second a b old mid new first failed))
+
+  pub line_fails_third : (mid then_ new : SinkState) → Wrote a old mid → Wrote b mid then_ → FailedIn c then_ new → FailedIn (line (a ++ b ++ c)) old new
+  line_fails_third mid then_ new first second failed =
+      failed_first (a ++ b ++ c) (10 ∷ []) old new (failed_second (a ++ b) c old then_ new (wrote_both a b old mid then_ first second) failed)
+
+  pub line_ends : {T E : Type 0} (r : Result T E) (mid then_ last new : SinkState) → Wrote a old mid → Wrote b mid then_ → Wrote c then_ last → Written r (10 ∷ []) last new → Written r (line (a ++ b ++ c)) old new
+  line_ends r mid then_ last new first second third ends =
+      written_second r (a ++ b ++ c) (10 ∷ []) old last new (wrote_both (a ++ b) c old then_ last (wrote_both a b old mid then_ first second) third) ends

@@ -1,36 +1,104 @@
 // The command `decrypt`.
-ghost use Rattle.std.specs.Prelude.{List, ℕ, OnOk, IfErr};
+ghost use Rattle.std.specs.Prelude.{◌≡◌, ◌≤◌, ◌↔◌, IsTrue, IfOk, IfErr, OnOk, List, ℕ, take};
+ghost use Rattle.node_layout.specs.Metadata.{magic};
+ghost use Rattle.node_layout.specs.Opening.{OpensTo};
 ghost use Rattle.pf_io.specs.Host.{KeepsFiles};
 ghost use Rattle.pf_io.specs.Unchanged.{KeepsDisk};
-ghost use Rattle.pf_tool.specs.Steps.{Decrypts, Done};
-ghost use Rattle.pf_tool.specs.Faults.{Finished};
-ghost use Rattle.pf_tool.specs.Reports.{Wrote};
-ghost use Rattle.pf_tool.specs.Run.{DecryptFails};
+ghost use Rattle.pf_tool.specs.World.{World, with_host, with_out};
+ghost use Rattle.pf_tool.specs.Outcomes.{Falls, Ends};
+ghost use Rattle.pf_tool.specs.Decrypting.{IsWhole, NodeRefused, Unseals, DecryptLeads};
+ghost use Rattle.pf_tool.specs.Unsealing.{Refuses, HasNode};
 
 use crate::fault::Fault;
-use crate::steps::{open_node, read_key, read_node};
+use crate::key::read_key;
+use crate::pieces::write_pieces;
 use crate::words::Decrypt;
-use pf_io::{Host, Sink};
+use node_layout::{Damage, Kind, MetaPlain, MetaSecret, PlainFault, open_meta};
+use pf_io::{Host, Sink, is_target};
+use std::alloc::Global;
 
-/// Writes the content of the protected file to `out`. Nothing is written before all of it was accepted.
+fn has_magic(node: &[u8; 4096]) -> bool
+    ensures { IsTrue result ↔ (take 8 node.now ≡ magic) }
+{
+    match MetaPlain::read(node) {
+        Err(PlainFault::NotProtected) => false,
+        Err(PlainFault::BadVersion { .. }) => true,
+        Ok(_) => true,
+    }
+}
+
+// A damage of node 0.
+fn damaged(kind: Kind) -> Fault<'static>
+    ensures { result ≡ Fault.Damaged (record { node = 0; kind = kind }) }
+{
+    Fault::Damaged(Damage { node: 0, kind })
+}
+
+// Whether the bytes given of node 0 are whole, of version 1.0 and with no update pending.
+fn check_node(node: &[u8; 4096], given: usize) -> Result<(), Fault<'static>>
+    requires { given ≤ 4096 }
+    ensures whole { OnOk result (IsWhole (take given node.now)) }
+    ensures refused { IfErr result (λ fault. (user : List ℕ) → Refuses (NodeRefused user (take given node.now)) fault) }
+{
+    if given < 8 || !has_magic(node) {
+        return Err(Fault::NotProtected);
+    }
+    if given < 4096 {
+        return Err(damaged(Kind::Short));
+    }
+    if node[58] != 0 {
+        return Err(Fault::Unbuilt);
+    }
+    match MetaPlain::read(node) {
+        Ok(_) => Ok(()),
+        Err(_) => Err(Fault::Unbuilt),
+    }
+}
+
+// Reads node 0 of a protected file, whole and of a form that can be opened.
+fn read_node<'a, H: Host>(host: &mut H, name: &'a str) -> Result<[u8; 4096], Fault<'a>>
+    ensures files { KeepsFiles (H.state host.old) (H.state host.new) }
+    ensures disk { KeepsDisk (H.state host.old) (H.state host.new) }
+    ensures read { IfOk result (λ node. HasNode name.now node (H.state host.old) (H.state host.new)) }
+    ensures refused { IfErr result (λ fault. (user : List ℕ) (world : World) → Falls (Unseals user name.now) (λ _ _. KeepsDisk) fault (with_host world (H.state host.old)) (with_host world (H.state host.new))) }
+{
+    if !is_target(name) {
+        return Err(Fault::BadName);
+    }
+    let Some(_) = host.len(name)? else {
+        return Err(Fault::NotFound(name));
+    };
+    let mut node = [0; 4096];
+    let given = host.read_at(name, 0, &mut node)?;
+    check_node(&node, given)?;
+    Ok(node)
+}
+
+// Opens node 0 under the user's key.
+fn open_node(user: &[u8; 16], node: &[u8; 4096]) -> Result<MetaSecret, Fault<'static>>
+    requires { IsWhole node.now }
+    ensures opened { IfOk result (OpensTo user.now node.now) }
+    ensures refused { IfErr result (Refuses (NodeRefused user.now node.now)) }
+{
+    match open_meta(user, node) {
+        Ok(secret) => Ok(secret),
+        Err(kind) => Err(damaged(kind)),
+    }
+}
+
+/// Writes the content of the protected file to `out`, in pieces of 32,768 bytes. Where a node is damaged, the pieces before
+/// the one that has it were written.
 pub(crate) fn decrypt<'a, H: Host, K: Sink>(
+    alloc: Global,
     host: &mut H,
     command: &Decrypt<'a>,
     out: &mut K,
 ) -> Result<(), Fault<'a>>
-    ensures files { KeepsFiles (H.state host.old) (H.state host.new) }
-    ensures disk { KeepsDisk (H.state host.old) (H.state host.new) }
-    ensures done { OnOk result ((content : List ℕ)
-        × Finished (Decrypts command.now.key.now command.now.input.now) (H.state host.old) (H.state host.new) (Done content)
-        × Wrote content (K.state out.old) (K.state out.new)) }
-    ensures failed { IfErr result (DecryptFails command.now.key.now command.now.input.now (H.state host.old) (H.state host.new) (K.state out.old) (K.state out.new)) }
+    ensures { (world : World) → Ends (DecryptLeads command.now.key.now command.now.input.now) (λ _ _. KeepsDisk) result
+        (with_out (with_host world (H.state host.old)) (K.state out.old)) (with_out (with_host world (H.state host.new)) (K.state out.new)) }
 {
     let user = read_key(host, command.key)?;
     let node = read_node(host, command.input)?;
     let secret = open_node(&user, &node)?;
-    let size = secret.size as usize;
-    match out.write(&secret.first[..size]) {
-        Ok(()) => Ok(()),
-        Err(_) => Err(Fault::Stream),
-    }
+    write_pieces(alloc, host, command.input, &secret, out)
 }

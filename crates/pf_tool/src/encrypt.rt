@@ -1,16 +1,14 @@
 // The command `encrypt`.
-ghost use Rattle.std.specs.Prelude.{◌≡◌, ◌≤◌, ◌++◌, ◌↔◌, IsTrue, length};
+ghost use Rattle.std.specs.Prelude.{◌≡◌, ◌++◌, ◌↔◌, IsTrue};
 ghost use Rattle.pf_io.specs.Names.{IsTarget};
-ghost use Rattle.pf_tool.specs.Encrypting.{IsInput, EncryptsTo, Encrypts};
-ghost use Rattle.pf_tool.specs.Sealing.{Ends};
-ghost use Rattle.pf_io.specs.Host.{OnDisk};
-ghost use Rattle.pf_io.specs.Moments.{Ran};
-ghost use Rattle.pf_io.specs.Unchanged.{KeepsDisk};
-ghost use Rattle.pf_tool.specs.Crash.{LeavesSealed, InputEnds, LeavesEncrypted, EncryptEnds};
+ghost use Rattle.pf_tool.specs.World.{World, with_host, with_random};
+ghost use Rattle.pf_tool.specs.Outcomes.{Ends};
+ghost use Rattle.pf_tool.specs.Encrypting.{IsInput, Seals, EncryptLeads, EncryptLeaves};
+ghost use Rattle.pf_tool.specs.Making.{LeavesSealed};
 
 use crate::fault::Fault;
+use crate::key::read_key;
 use crate::side_file::{begin, publish};
-use crate::steps::read_key;
 use crate::words::Encrypt;
 use pf_io::{Host, Text, Words, is_name, is_target};
 use std::alloc::Global;
@@ -44,11 +42,8 @@ fn seal_input<'a, H: Host, R: Words>(
 ) -> Result<(), Fault<'a>>
     requires target { IsTarget command.now.output.now }
     requires input { IsInput command.now.input.now command.now.output.now }
-    ensures faults { (H.state host.old).faults ≤ (H.state host.new).faults }
-    ensures random_faults { (R.state random.old).faults ≤ (R.state random.new).faults }
-    ensures ends { Ends (EncryptsTo user.now command.now.input.now command.now.output.now) (H.state host.old) (H.state host.new) (R.state random.old) (R.state random.new) result }
-    ensures disk { OnDisk (H.state host.old) (H.state host.new) (Ran (LeavesSealed user.now command.now.input.now command.now.output.now)
-        (InputEnds result user.now command.now.input.now command.now.output.now)) }
+    ensures { (world : World) → Ends (Seals user.now command.now.input.now command.now.output.now) (LeavesSealed user.now command.now.input.now command.now.output.now) result
+        (with_random (with_host world (H.state host.old)) (R.state random.old)) (with_random (with_host world (H.state host.new)) (R.state random.new)) }
 {
     let Some(_) = host.len(command.input)? else {
         return Err(Fault::NotFound(command.input));
@@ -77,10 +72,8 @@ pub(crate) fn encrypt<'a, H: Host, R: Words>(
     random: &mut R,
     command: &Encrypt<'a>,
 ) -> Result<(), Fault<'a>>
-    ensures ends { Ends (Encrypts command.now.key.now command.now.input.now command.now.output.now) (H.state host.old) (H.state host.new) (R.state random.old) (R.state random.new) result }
-    ensures unfit { ¬ (IsTarget command.now.output.now × IsInput command.now.input.now command.now.output.now) → KeepsDisk (H.state host.old) (H.state host.new) }
-    ensures disk { OnDisk (H.state host.old) (H.state host.new) (Ran (LeavesEncrypted command.now.key.now command.now.input.now command.now.output.now)
-        (EncryptEnds result command.now.key.now command.now.input.now command.now.output.now)) }
+    ensures { (world : World) → Ends (EncryptLeads command.now.key.now command.now.input.now command.now.output.now) (EncryptLeaves command.now.key.now command.now.input.now command.now.output.now) result
+        (with_random (with_host world (H.state host.old)) (R.state random.old)) (with_random (with_host world (H.state host.new)) (R.state random.new)) }
 {
     let user = read_key(host, command.key)?;
     if !is_target(command.output) || !is_input(command.input, command.output) {

@@ -83,6 +83,39 @@ fn refusals_leave_the_output(rt: HostRuntime) -> Result<(), Fail> {
     Ok(())
 }
 
+// A bad KEY is refused before any call of the host, and bad names of the others after the two calls that read the key.
+#[test]
+fn bad_names_are_refused_before_a_call(rt: HostRuntime) -> Result<(), Fail> {
+    let alloc = rt.alloc();
+    let rows: [(&str, u64); 4] = [
+        ("decrypt -w  -i a.pf", 0),
+        ("encrypt -w  -i a -o a.pf", 0),
+        ("decrypt -w k -i a.new", 2),
+        ("encrypt -w k -i a -o a.pf.new", 2),
+    ];
+    for (line, calls) in rows {
+        let mut host = host_with(alloc, b"")?;
+        host.stop_at(calls);
+        let refused = ran_drawing(alloc, &mut host, line, 0)?;
+        expect(&rt, &refused, 3, b"", b"refused bad name\n", line);
+    }
+    Ok(())
+}
+
+#[test]
+fn the_nonce_is_the_second_pair_of_words(rt: HostRuntime) -> Result<(), Fail> {
+    let alloc = rt.alloc();
+    let mut host = host_with(alloc, b"hello")?;
+    ran_drawing(alloc, &mut host, ENCRYPT, 4)?;
+    let mut nonce = [2; 32];
+    nonce[16..].copy_from_slice(&[3; 16]);
+    let Some(node) = host.bytes("a.pf") else {
+        return Err(Fail::from("no file"));
+    };
+    assert_eq!(rt; node.get(10..42), Some(&nonce[..]));
+    Ok(())
+}
+
 #[test]
 fn an_input_that_the_side_file_would_take_stays(rt: HostRuntime) -> Result<(), Fail> {
     let alloc = rt.alloc();
@@ -103,6 +136,9 @@ fn want_of_random_words_and_failing_calls_are_faults(rt: HostRuntime) -> Result<
         let failed = ran_drawing(alloc, &mut host, ENCRYPT, count)?;
         expect(&rt, &failed, 6, b"", b"random fault\n", "words");
         expect_file(&rt, &host, "a.pf", None);
+        if count < 2 {
+            expect_file(&rt, &host, "a.pf.new", None);
+        }
     }
     for call in 0..10 {
         let mut host = host_with(alloc, b"after")?;

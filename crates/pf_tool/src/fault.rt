@@ -1,14 +1,14 @@
 // Why a command ends before its work is done, and what it then says.
-ghost use Rattle.std.specs.Prelude.{◌≡◌, ◌+◌, ◌≤◌, ◌++◌, IfSome, length, take};
+ghost use Rattle.std.specs.Prelude.{◌≡◌, ◌+◌, ◌≤◌, ◌++◌, IfSome, length, take, codes};
 ghost use Rattle.std.specs.Fmt.{decimal};
-ghost use Rattle.pf_tool.specs.Faults.{fault_line, fault_status, line, kind_word, memory_line};
-ghost use Rattle.pf_tool.specs.Reports.{Says, Written};
-ghost use Rattle.pf_tool.specs.declared.fault.Fault.TheVariants.{Host as HostFailed, Random as RandomFailed, Memory as MemoryFailed};
-ghost use Rattle.pf_tool.specs.declared.fault.Unsaid.TheVariants as unsaids;
+ghost use Rattle.pf_tool.specs.Endings.{line, kind_word};
+ghost use Rattle.pf_tool.specs.Faults.{fault_line, fault_status};
+ghost use Rattle.pf_tool.specs.Reports.{Written, Reported};
+ghost use Rattle.pf_tool.specs.declared.fault.Fault.TheVariants.{Host as HostFailed, Random as RandomFailed, Memory as MemoryFailed, Stream as StreamFailed};
 
-use node_layout::Kind;
+use itoa::Buffer;
+use node_layout::{Damage, Kind};
 use pf_io::{HostFault, Memory, Sink, StreamFault, WordsFault};
-use std::alloc::{AllocError, Global};
 
 /// Why a command ends before its work is done.
 #[derive(Drop)]
@@ -23,8 +23,8 @@ pub(crate) enum Fault<'a> {
     KeyFile(u64),
     /// The file is no protected file.
     NotProtected,
-    /// Node 0 of the protected file is damaged.
-    Damaged(Kind),
+    /// A node of the protected file is damaged.
+    Damaged(Damage),
     /// The case is not built yet.
     Unbuilt,
     /// A call of the host failed.
@@ -45,28 +45,11 @@ impl From<HostFault> for Fault<'_> {
     }
 }
 
-/// Why a line was not written to the log.
-#[derive(Drop)]
-pub(crate) enum Unsaid {
-    /// There was no memory for it, and nothing was written.
-    Memory,
-    /// The log failed.
-    Stream,
-}
-
-impl From<AllocError> for Unsaid {
-    ghost from_gives = { λ _ unsaid. unsaid ≡ unsaids.Memory };
-
-    fn from(_: AllocError) -> Self {
-        Unsaid::Memory
-    }
-}
-
-impl From<StreamFault> for Unsaid {
-    ghost from_gives = { λ _ unsaid. unsaid ≡ unsaids.Stream };
+impl From<StreamFault> for Fault<'_> {
+    ghost from_gives = { λ _ fault. fault ≡ StreamFailed };
 
     fn from(_: StreamFault) -> Self {
-        Unsaid::Stream
+        Fault::Stream
     }
 }
 
@@ -97,72 +80,88 @@ fn put(to: &mut [u8; LONGEST_LINE], at: usize, bytes: &[u8])
     to[at..at + bytes.len()].copy_from_slice(bytes);
 }
 
-// Puts the line of two texts into a buffer, where it fits, and answers its length.
-fn put_line(to: &mut [u8; LONGEST_LINE], first: &str, second: &str) -> Option<usize>
-    ensures { IfSome result (λ n. (n ≤ length to.new) × (take n to.new ≡ line (first.now ++ second.now))) }
+// Puts the line of three texts into a buffer, where it fits, and answers its length.
+fn put_line(to: &mut [u8; LONGEST_LINE], first: &str, second: &str, third: &str) -> Option<usize>
+    ensures { IfSome result (λ n. (n ≤ length to.new) × (take n to.new ≡ line (first.now ++ second.now ++ third.now))) }
 {
-    let len = first.len().saturating_add(second.len());
+    let at_third = first.len().saturating_add(second.len());
+    let len = at_third.saturating_add(third.len());
     if len >= LONGEST_LINE {
         return None;
     }
     put(to, 0, first.as_bytes());
     put(to, first.len(), second.as_bytes());
+    put(to, at_third, third.as_bytes());
     put(to, len, b"\n");
     Some(len + 1)
 }
 
-// A line of two texts, in parts.
-fn write_parts<L: Sink>(log: &mut L, first: &str, second: &str) -> Result<(), StreamFault>
-    ensures { Written result (line (first.now ++ second.now)) (L.state log.old) (L.state log.new) }
+// A line of three texts, in parts.
+fn write_parts<L: Sink>(
+    log: &mut L,
+    first: &str,
+    second: &str,
+    third: &str,
+) -> Result<(), StreamFault>
+    ensures { Written result (line (first.now ++ second.now ++ third.now)) (L.state log.old) (L.state log.new) }
 {
     log.write(first.as_bytes())?;
     log.write(second.as_bytes())?;
-    log.write(b"\n")?;
-    Ok(())
+    log.write(third.as_bytes())?;
+    log.write(b"\n")
 }
 
-// A line of two texts, in one write, so that the lines of several runs do not mix. A longer one goes out in parts.
-fn write_line<L: Sink>(log: &mut L, first: &str, second: &str) -> Result<(), StreamFault>
-    ensures { Written result (line (first.now ++ second.now)) (L.state log.old) (L.state log.new) }
+// A line of three texts, in one write, so that the lines of several runs do not mix. A longer one goes out in parts.
+fn write_line<L: Sink>(
+    log: &mut L,
+    first: &str,
+    second: &str,
+    third: &str,
+) -> Result<(), StreamFault>
+    ensures { Written result (line (first.now ++ second.now ++ third.now)) (L.state log.old) (L.state log.new) }
 {
     let mut line = [0; LONGEST_LINE];
-    match put_line(&mut line, first, second) {
+    match put_line(&mut line, first, second, third) {
         Some(len) => log.write(&line[..len]),
-        None => write_parts(log, first, second),
+        None => write_parts(log, first, second, third),
     }
 }
 
-fn say_line<L: Sink>(log: &mut L, first: &str, second: &str) -> Result<(), Unsaid>
-    ensures { Says result (line (first.now ++ second.now)) (L.state log.old) (L.state log.new) }
+fn write_text<L: Sink>(log: &mut L, text: &str) -> Result<(), StreamFault>
+    ensures { Written result (line text.now) (L.state log.old) (L.state log.new) }
 {
-    write_line(log, first, second)?;
-    Ok(())
+    write_line(log, text, "", "")
 }
 
-/// Writes the line that there is no memory, for which none is taken.
-pub(crate) fn say_memory<L: Sink>(log: &mut L) -> Result<(), StreamFault>
-    ensures { Written result memory_line (L.state log.old) (L.state log.new) }
+fn write_name<L: Sink>(log: &mut L, text: &str, name: &str) -> Result<(), StreamFault>
+    ensures { Written result (line (text.now ++ name.now)) (L.state log.old) (L.state log.new) }
 {
-    write_line(log, "want of memory", "")
+    write_line(log, text, name, "")
 }
 
+// A line with a number, for whose digits no memory is taken.
+fn write_number<L: Sink>(
+    log: &mut L,
+    text: &str,
+    number: u64,
+    rest: &str,
+) -> Result<(), StreamFault>
+    ensures { Written result (line (text.now ++ decimal number ++ rest.now)) (L.state log.old) (L.state log.new) }
+{
+    let mut digits = Buffer::new();
+    write_line(log, text, digits.format(number), rest)
+}
+
+// A kind of damage, behind the number of its node.
 fn word_of(kind: Kind) -> &'static str
-    ensures { result.now ≡ kind_word kind }
+    ensures { result.now ≡ codes " " ++ kind_word kind }
 {
     match kind {
-        Kind::Short => "short",
-        Kind::Tag => "tag",
-        Kind::Text => "text",
-        Kind::Log => "log",
+        Kind::Short => " short",
+        Kind::Tag => " tag",
+        Kind::Text => " text",
+        Kind::Log => " log",
     }
-}
-
-// A line of a text and a number.
-fn write_number<L: Sink>(alloc: Global, log: &mut L, text: &str, number: u64) -> Result<(), Unsaid>
-    ensures { Says result (line (text.now ++ decimal number)) (L.state log.old) (L.state log.new) }
-{
-    let digits = number.to_string(alloc)?;
-    say_line(log, text, digits.as_str())
 }
 
 impl Fault<'_> {
@@ -185,22 +184,34 @@ impl Fault<'_> {
         }
     }
 
-    /// Writes the line that names it.
-    pub(crate) fn say<L: Sink>(&self, alloc: Global, log: &mut L) -> Result<(), Unsaid>
-        ensures { Says result (fault_line self.now) (L.state log.old) (L.state log.new) }
+    /// Writes the line that names it. No memory is taken for it.
+    pub(crate) fn say<L: Sink>(&self, log: &mut L) -> Result<(), StreamFault>
+        ensures { Written result (fault_line self.now) (L.state log.old) (L.state log.new) }
     {
         match self {
-            Fault::NoCommand => say_line(log, "usage: unbuilt words", ""),
-            Fault::BadName => say_line(log, "refused bad name", ""),
-            Fault::NotFound(name) => say_line(log, "refused not found ", name),
-            Fault::KeyFile(number) => write_number(alloc, log, "refused key file ", *number),
-            Fault::NotProtected => say_line(log, "refused not protected", ""),
-            Fault::Damaged(kind) => say_line(log, "damaged node 0 ", word_of(*kind)),
-            Fault::Unbuilt => say_line(log, "refused unbuilt", ""),
-            Fault::Host => say_line(log, "host fault", ""),
-            Fault::Memory => say_line(log, "want of memory", ""),
-            Fault::Random => say_line(log, "random fault", ""),
-            Fault::Stream => say_line(log, "stream fault", ""),
+            Fault::NoCommand => write_text(log, "usage: unbuilt words"),
+            Fault::BadName => write_text(log, "refused bad name"),
+            Fault::NotFound(name) => write_name(log, "refused not found ", name),
+            Fault::KeyFile(number) => write_number(log, "refused key file ", *number, ""),
+            Fault::NotProtected => write_text(log, "refused not protected"),
+            Fault::Damaged(damage) => {
+                write_number(log, "damaged node ", damage.node, word_of(damage.kind))
+            }
+            Fault::Unbuilt => write_text(log, "refused unbuilt"),
+            Fault::Host => write_text(log, "host fault"),
+            Fault::Memory => write_text(log, "want of memory"),
+            Fault::Random => write_text(log, "random fault"),
+            Fault::Stream => write_text(log, "stream fault"),
+        }
+    }
+
+    /// Writes the line that names it, and answers the status that the run ends with.
+    pub(crate) fn report<L: Sink>(&self, log: &mut L) -> u8
+        ensures { Reported (fault_line self.now) (fault_status self.now) (L.state log.old) (L.state log.new) result }
+    {
+        match self.say(log) {
+            Ok(()) => self.status(),
+            Err(_) => 7,
         }
     }
 }

@@ -2,13 +2,16 @@
 #![tactic(auto)]
 
 mod decrypt;
+#[cfg(test)]
+mod decrypt_tests;
 mod encrypt;
 #[cfg(test)]
 mod encrypt_tests;
 mod fault;
+mod key;
+mod pieces;
 mod run;
 mod side_file;
-mod steps;
 #[cfg(test)]
 mod tests;
 mod words;

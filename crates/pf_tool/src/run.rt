@@ -1,72 +1,43 @@
 // A run of the program.
-ghost use Rattle.std.specs.Prelude.{◌≡◌, ◌≢◌, ◌≤◌, ◌⊎◌, List, ℕ, Some};
-ghost use Rattle.pf_io.specs.Counts.{Rose};
-ghost use Rattle.pf_io.specs.Host.{Name, Files, KeepsFiles, WhereTold, files_of};
-ghost use Rattle.pf_tool.specs.Words.{texts, decrypt_words, encrypt_words};
-ghost use Rattle.pf_tool.specs.Commands.{IsNoCommand};
-ghost use Rattle.pf_io.specs.Names.{IsTarget};
-ghost use Rattle.pf_io.specs.Unchanged.{KeepsDisk};
-ghost use Rattle.pf_tool.specs.Encrypting.{IsInput};
-ghost use Rattle.pf_tool.specs.Faults.{fault_line, fault_status, no_command_line};
-ghost use Rattle.pf_tool.specs.Steps.{Ending};
-ghost use Rattle.pf_tool.specs.Reports.{Reported, Wrote};
-ghost use Rattle.pf_tool.specs.Run.{DecryptRuns, DecryptDecided, GaveContent, GaveDamage, HonestEnding, HonestRun};
-ghost use Rattle.pf_tool.specs.EncryptRun.{EncryptRuns, EncryptDecided, EncryptEnding, HonestEncrypt, EncryptDisk, IsNoEncrypt};
+ghost use Rattle.std.specs.Prelude.{◌≡◌};
+ghost use Rattle.pf_io.specs.Streams.{SourceState};
+ghost use Rattle.pf_tool.specs.Requests.{Request, texts, AskFor, AskForNothing, request_of};
+ghost use Rattle.pf_tool.specs.World.{world_of};
+ghost use Rattle.pf_tool.specs.Outcomes.{Concludes};
+ghost use Rattle.pf_tool.specs.Runs.{Runs, Usage, Causes, ByWords, Content, Decided, Honest, OneOver, OnDisks, Stays};
 
 use crate::decrypt::decrypt;
 use crate::encrypt::encrypt;
-use crate::fault::{Fault, Unsaid, say_memory};
-use crate::words::{Command, Decrypt, Encrypt, command_of};
+use crate::fault::Fault;
+use crate::words::{Command, command_of};
 use pf_io::{Host, Sink, Source, Words};
 use std::alloc::Global;
 
-// Writes the line of a fault, and answers the status that the run ends with.
-fn report<L: Sink>(alloc: Global, log: &mut L, fault: &Fault<'_>) -> u8
-    ensures { Reported (fault_line fault.now) (fault_status fault.now) (L.state log.old) (L.state log.new) result }
+// Says how a command ended, and answers the status.
+fn conclude<L: Sink>(ended: Result<(), Fault<'_>>, log: &mut L) -> u8
+    ensures { Concludes ended.entry (L.state log.old) (L.state log.new) result }
 {
-    match fault.say(alloc, log) {
-        Ok(()) => fault.status(),
-        Err(Unsaid::Stream) => 7,
-        Err(Unsaid::Memory) => match say_memory(log) {
-            Ok(()) => 5,
-            Err(_) => 7,
-        },
+    match ended {
+        Ok(()) => 0,
+        Err(fault) => fault.report(log),
     }
 }
 
-// Runs `decrypt` and says how it ended.
-fn run_decrypt<H: Host, K: Sink, L: Sink>(
+// Runs a command, and says how it ended.
+fn run_command<H: Host, K: Sink, L: Sink, R: Words>(
     alloc: Global,
-    command: &Decrypt<'_>,
+    command: &Command<'_>,
     host: &mut H,
     out: &mut K,
     log: &mut L,
-) -> u8
-    ensures runs { DecryptRuns command.now.key.now command.now.input.now (H.state host.old) (H.state host.new) (K.state out.old) (K.state out.new) (L.state log.old) (L.state log.new) result }
-    ensures files { KeepsFiles (H.state host.old) (H.state host.new) }
-    ensures disk { KeepsDisk (H.state host.old) (H.state host.new) }
-{
-    match decrypt(host, command, out) {
-        Ok(()) => 0,
-        Err(fault) => report(alloc, log, &fault),
-    }
-}
-
-// Runs `encrypt` and says how it ended.
-fn run_encrypt<H: Host, L: Sink, R: Words>(
-    alloc: Global,
-    command: &Encrypt<'_>,
-    host: &mut H,
-    log: &mut L,
     random: &mut R,
 ) -> u8
-    ensures runs { EncryptRuns command.now.key.now command.now.input.now command.now.output.now (H.state host.old) (H.state host.new) (R.state random.old) (R.state random.new) (L.state log.old) (L.state log.new) result }
-    ensures unfit { ¬ (IsTarget command.now.output.now × IsInput command.now.input.now command.now.output.now) → KeepsDisk (H.state host.old) (H.state host.new) }
-    ensures disk { EncryptDisk result command.now.key.now command.now.input.now command.now.output.now (H.state host.old) (H.state host.new) }
+    ensures { (input : SourceState) → Runs (request_of command.now) (world_of (H.state host.old) input (K.state out.old) (L.state log.old) (R.state random.old))
+        (world_of (H.state host.new) input (K.state out.new) (L.state log.new) (R.state random.new)) result }
 {
-    match encrypt(alloc, host, random, command) {
-        Ok(()) => 0,
-        Err(fault) => report(alloc, log, &fault),
+    match command {
+        Command::Decrypt(command) => conclude(decrypt(alloc, host, command, out), log),
+        Command::Encrypt(command) => conclude(encrypt(alloc, host, random, command), log),
     }
 }
 
@@ -81,67 +52,39 @@ pub fn run<H: Host, S: Source, K: Sink, L: Sink, R: Words>(
     log: &mut L,
     random: &mut R,
 ) -> u8
-    // Words that are no command are named so, and nothing else is done.
-    ensures usage { IsNoCommand (texts words.now) → Reported no_command_line 2 (L.state log.old) (L.state log.new) result
-        × (H.state host.new ≡ H.state host.old) × (K.state out.new ≡ K.state out.old) }
-    ensures only_usage { result ≡ 2 → IsNoCommand (texts words.now) }
+    // Words that are no command are named so, and nothing else is done. Status 2 says this alone.
+    ensures usage { AskForNothing (texts words.now) → Usage (world_of (H.state host.old) (S.state input.old) (K.state out.old) (L.state log.old) (R.state random.old)) (world_of (H.state host.new) (S.state input.new) (K.state out.new) (L.state log.new) (R.state random.new)) result }
+    ensures only_usage { result ≡ 2 → AskForNothing (texts words.now) }
 
-    // `decrypt` ends by what the host answered, or because the host, the output or the log failed.
-    ensures decrypts { (key name : Name) → texts words.now ≡ decrypt_words key name
-        → DecryptRuns key name (H.state host.old) (H.state host.new) (K.state out.old) (K.state out.new) (L.state log.old) (L.state log.new) result }
-    ensures content { (key name : Name) → texts words.now ≡ decrypt_words key name → result ≡ 0 → WhereTold (H.state host.old) (H.state host.new)
-        (λ these. (content : List ℕ) × GaveContent key name these content × Wrote content (K.state out.old) (K.state out.new)) }
-    ensures damage { (key name : Name) → texts words.now ≡ decrypt_words key name → result ≡ 1 → WhereTold (H.state host.old) (H.state host.new)
-        (λ these. GaveDamage key name these) }
+    // A command comes to an ending by the answers of the host and the random words, or a call failed, or there was no memory:
+    // then what had happened is a front of a run that comes to an ending.
+    ensures runs { (request : Request) → AskFor (texts words.now) request → Runs request (world_of (H.state host.old) (S.state input.old) (K.state out.old) (L.state log.old) (R.state random.old)) (world_of (H.state host.new) (S.state input.new) (K.state out.new) (L.state log.new) (R.state random.new)) result }
 
-    // `encrypt` ends by what the host answered and which random words came, or because the host, the random words, the
-    // memory or the log failed.
-    ensures encrypts { (key name output : Name) → texts words.now ≡ encrypt_words key name output
-        → EncryptRuns key name output (H.state host.old) (H.state host.new) (R.state random.old) (R.state random.new) (L.state log.old) (L.state log.new) result }
+    // Statuses 4, 6 and 7 come only where a count of faults rose. At 5 and at most 3 none did.
+    ensures causes { Causes (world_of (H.state host.old) (S.state input.old) (K.state out.old) (L.state log.old) (R.state random.old)) (world_of (H.state host.new) (S.state input.new) (K.state out.new) (L.state log.new) (R.state random.new)) result }
 
-    // Where the host tells its answers and did not fail, the refusal or the damage that they lead to is the one reported.
-    ensures decided { (key name : Name) → texts words.now ≡ decrypt_words key name → ¬ (Rose (H.state host.old).faults (H.state host.new).faults)
-        → DecryptDecided key name (H.state host.old) (H.state host.new) (L.state log.old) (L.state log.new) result }
-    ensures decided_encrypt { (key name output : Name) → texts words.now ≡ encrypt_words key name output → ¬ (Rose (H.state host.old).faults (H.state host.new).faults)
-        → ¬ (Rose (R.state random.old).faults (R.state random.new).faults)
-        → EncryptDecided key name output (H.state host.old) (H.state host.new) (L.state log.old) (L.state log.new) result }
+    // Where the words alone are refused, nothing is asked.
+    ensures by_words { (request : Request) → AskFor (texts words.now) request → ByWords request (world_of (H.state host.old) (S.state input.old) (K.state out.old) (L.state log.old) (R.state random.old)) (world_of (H.state host.new) (S.state input.new) (K.state out.new) (L.state log.new) (R.state random.new)) result }
 
-    ensures host_fault { result ≡ 4 → Rose (H.state host.old).faults (H.state host.new).faults }
-    ensures random_fault { result ≡ 6 → Rose (R.state random.old).faults (R.state random.new).faults }
-    ensures stream_fault { result ≡ 7 → Rose (K.state out.old).faults (K.state out.new).faults ⊎ Rose (L.state log.old).faults (L.state log.new).faults }
-    ensures statuses { result ≤ 7 }
+    // What is put out is of one sealed version where nothing given is forged, and what is sealed has the bytes given.
+    ensures content { (request : Request) → AskFor (texts words.now) request → Content request (world_of (H.state host.old) (S.state input.old) (K.state out.old) (L.state log.old) (R.state random.old)) (world_of (H.state host.new) (S.state input.new) (K.state out.new) (L.state log.new) (R.state random.new)) result }
 
-    // Over an honest host, where nothing fails, what comes is what the steps give over its files.
-    ensures honest { (key name : Name) (files : Files) → texts words.now ≡ decrypt_words key name → files_of (H.state host.old) ≡ Some files
-        → ¬ (Rose (H.state host.old).faults (H.state host.new).faults) → ¬ (Rose (K.state out.old).faults (K.state out.new).faults)
-        → ¬ (Rose (L.state log.old).faults (L.state log.new).faults)
-        → HonestRun key name files (K.state out.old) (K.state out.new) (L.state log.old) (L.state log.new) result }
-    ensures honest_encrypt { (key name output : Name) (files : Files) → texts words.now ≡ encrypt_words key name output → files_of (H.state host.old) ≡ Some files
-        → ¬ (Rose (H.state host.old).faults (H.state host.new).faults) → ¬ (Rose (R.state random.old).faults (R.state random.new).faults)
-        → ¬ (Rose (L.state log.old).faults (L.state log.new).faults)
-        → HonestEncrypt key name output files (L.state log.old) (L.state log.new) result }
+    // Where the host tells its answers, the ending that they lead to is the one reported.
+    ensures decided { (request : Request) → AskFor (texts words.now) request → Decided request (world_of (H.state host.old) (S.state input.old) (K.state out.old) (L.state log.old) (R.state random.old)) (world_of (H.state host.new) (S.state input.new) (K.state out.new) (L.state log.new) (R.state random.new)) result }
 
-    // The files have one ending for each command.
-    ensures one_ending { (key name : Name) (files : Files) (ending other : Ending) → HonestEnding key name files ending → HonestEnding key name files other → ending ≡ other }
-    ensures one_ending_encrypt { (key name output : Name) (files : Files) (ending other : Ending) → EncryptEnding key name output files ending → EncryptEnding key name output files other → ending ≡ other }
+    // Over an honest host, where nothing fails, what comes is what its files give, and they give one ending.
+    ensures honest { (request : Request) → AskFor (texts words.now) request → Honest request (world_of (H.state host.old) (S.state input.old) (K.state out.old) (L.state log.old) (R.state random.old)) (world_of (H.state host.new) (S.state input.new) (K.state out.new) (L.state log.new) (R.state random.new)) result }
+    ensures one_ending { OneOver }
 
-    // On an honest disk, whatever fails: a crash at any moment of `encrypt` leaves the output as it was or whole, and every
-    // other name but the side file's as it was. Where the names do not fit, and for all other words, nothing changes.
-    ensures disk { (key name output : Name) → texts words.now ≡ encrypt_words key name output → EncryptDisk result key name output (H.state host.old) (H.state host.new) }
-    ensures disk_unfit { (key name output : Name) → texts words.now ≡ encrypt_words key name output → ¬ (IsTarget output × IsInput name output) → KeepsDisk (H.state host.old) (H.state host.new) }
-    ensures disk_kept { IsNoEncrypt (texts words.now) → KeepsDisk (H.state host.old) (H.state host.new) }
+    // On an honest disk, whatever fails: what a crash at any moment leaves, and what stands in the end.
+    ensures disk { (request : Request) → AskFor (texts words.now) request → OnDisks request (world_of (H.state host.old) (S.state input.old) (K.state out.old) (L.state log.old) (R.state random.old)) (world_of (H.state host.new) (S.state input.new) (K.state out.new) (L.state log.new) (R.state random.new)) result }
 
     // What stays.
-    ensures files { IsNoEncrypt (texts words.now) → KeepsFiles (H.state host.old) (H.state host.new) }
-    ensures undrawn { IsNoEncrypt (texts words.now) → R.state random.new ≡ R.state random.old }
-    ensures unwritten { (key name output : Name) → texts words.now ≡ encrypt_words key name output → K.state out.new ≡ K.state out.old }
+    ensures stays { (request : Request) → AskFor (texts words.now) request → Stays request (world_of (H.state host.old) (S.state input.old) (K.state out.old) (L.state log.old) (R.state random.old)) (world_of (H.state host.new) (S.state input.new) (K.state out.new) (L.state log.new) (R.state random.new)) }
     ensures unread { S.state input.new ≡ S.state input.old }
 {
-    let Some(command) = command_of(words) else {
-        return report(alloc, log, &Fault::NoCommand);
-    };
-    match command {
-        Command::Decrypt(command) => run_decrypt(alloc, &command, host, out, log),
-        Command::Encrypt(command) => run_encrypt(alloc, &command, host, log, random),
+    match command_of(words) {
+        Some(command) => run_command(alloc, &command, host, out, log, random),
+        None => Fault::NoCommand.report(log),
     }
 }

@@ -1,14 +1,11 @@
 // The side file in which a protected file of one node is made.
-ghost use Rattle.std.specs.Prelude.{◌≡◌, ◌≤◌, IfOk, OnOk, IfErr, length};
-ghost use Rattle.pf_io.specs.Counts.{HasCause};
+ghost use Rattle.std.specs.Prelude.{◌≡◌, ◌≤◌, IfOk, OnErr, length};
 ghost use Rattle.node_layout.specs.Metadata.{IsPath};
-ghost use Rattle.pf_tool.specs.Steps.{MOST_FIRST};
 ghost use Rattle.pf_io.specs.Names.{side_of};
-ghost use Rattle.pf_tool.specs.Encrypting.{node_of};
-ghost use Rattle.pf_io.specs.Host.{OnDisk};
-ghost use Rattle.pf_io.specs.Moments.{Ran, Where};
-ghost use Rattle.pf_tool.specs.Crash.{HasShort, LeavesOthers, BeginEnds, LeavesEither, SealEnds};
-ghost use Rattle.pf_tool.specs.SideFile.{Draws, Begins, Publishes, ChangeFault};
+ghost use Rattle.pf_tool.specs.World.{World, with_host, with_random};
+ghost use Rattle.pf_tool.specs.Outcomes.{Ends};
+ghost use Rattle.pf_tool.specs.Encrypting.{MOST_FIRST, node_of};
+ghost use Rattle.pf_tool.specs.Making.{IsDrawn, DrawFails, Begins, LeavesBegun, Publishes, LeavesPublished};
 
 use crate::fault::Fault;
 use node_layout::{MetaSecret, PathText, seal_meta};
@@ -36,8 +33,8 @@ fn make_node(user: &[u8; 16], nonce: &[u8; 32], output: &str, content: &[u8]) ->
 
 // A nonce of two random words.
 fn draw_nonce<R: Words>(random: &mut R) -> Result<[u8; 32], WordsFault>
-    ensures cause { HasCause (R.state random.old).faults (R.state random.new).faults result }
-    ensures drawn { IfOk result (λ nonce. Draws nonce (R.state random.old) (R.state random.new)) }
+    ensures drawn { IfOk result (λ nonce. IsDrawn nonce (R.state random.old) (R.state random.new)) }
+    ensures failed { OnErr result (DrawFails (R.state random.old) (R.state random.new)) }
 {
     let first = random.next16()?;
     let second = random.next16()?;
@@ -57,11 +54,8 @@ pub(crate) fn begin<H: Host, R: Words>(
 ) -> Result<(), Fault<'static>>
     requires path { IsPath output.now }
     requires side { side.now ≡ side_of output.now }
-    ensures faults { (H.state host.old).faults ≤ (H.state host.new).faults }
-    ensures random_faults { (R.state random.old).faults ≤ (R.state random.new).faults }
-    ensures begun { OnOk result (Begins user.now output.now (H.state host.old) (H.state host.new) (R.state random.old) (R.state random.new)) }
-    ensures failed { IfErr result (ChangeFault (H.state host.old) (H.state host.new) (R.state random.old) (R.state random.new)) }
-    ensures disk { OnDisk (H.state host.old) (H.state host.new) (Ran (LeavesOthers side.now) (BeginEnds result side.now)) }
+    ensures { (world : World) → Ends (Begins user.now output.now) (LeavesBegun output.now) result
+        (with_random (with_host world (H.state host.old)) (R.state random.old)) (with_random (with_host world (H.state host.new)) (R.state random.new)) }
 {
     let nonce = draw_nonce(random)?;
     let node = make_node(user, &nonce, output, &[]);
@@ -82,12 +76,8 @@ pub(crate) fn publish<H: Host, R: Words>(
     requires path { IsPath output.now }
     requires side { side.now ≡ side_of output.now }
     requires small { length content.now ≤ MOST_FIRST }
-    ensures faults { (H.state host.old).faults ≤ (H.state host.new).faults }
-    ensures random_faults { (R.state random.old).faults ≤ (R.state random.new).faults }
-    ensures published { OnOk result (Publishes user.now output.now content.now (H.state host.old) (H.state host.new) (R.state random.old) (R.state random.new)) }
-    ensures failed { IfErr result (ChangeFault (H.state host.old) (H.state host.new) (R.state random.old) (R.state random.new)) }
-    ensures disk { OnDisk (H.state host.old) (H.state host.new) (Where (HasShort 4096 side.now)
-        (Ran (LeavesEither user.now output.now content.now) (SealEnds result user.now output.now content.now))) }
+    ensures { (world : World) → Ends (Publishes user.now output.now content.now) (LeavesPublished user.now output.now content.now) result
+        (with_random (with_host world (H.state host.old)) (R.state random.old)) (with_random (with_host world (H.state host.new)) (R.state random.new)) }
 {
     let nonce = draw_nonce(random)?;
     let node = make_node(user, &nonce, output, content);

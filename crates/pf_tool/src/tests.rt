@@ -141,7 +141,7 @@ fn refusals_name_their_rule(rt: HostRuntime) -> Result<(), Fail> {
         ("decrypt -w k -i pending", 3, "refused unbuilt\n"),
         ("decrypt -w k -i newer", 3, "refused unbuilt\n"),
         ("decrypt -w zero -i hello.pf", 1, "damaged node 0 tag\n"),
-        ("decrypt -w k -i large", 3, "refused unbuilt\n"),
+        ("decrypt -w k -i large", 1, "damaged node 1 short\n"),
         ("decrypt -w k -i over", 1, "damaged node 0 text\n"),
     ];
     for (line, status, log) in rows {

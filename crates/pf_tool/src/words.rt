@@ -1,7 +1,6 @@
 // The words of the command line.
 ghost use Rattle.std.specs.Prelude.{◌≡◌, ◌↔◌, IsTrue, IfSome, IfNone, List, ℕ, codes};
-ghost use Rattle.pf_tool.specs.Words.{texts, decrypt_words, encrypt_words};
-ghost use Rattle.pf_tool.specs.Commands.{IsCommandOf, IsNoCommand};
+ghost use Rattle.pf_tool.specs.Requests.{texts, decrypt_words, encrypt_words, AskFor, AskForNothing, request_of};
 
 /// The words `decrypt -w KEY -i IN`.
 #[derive(Drop)]
@@ -91,8 +90,8 @@ fn encrypt_of(words: &[String]) -> Option<Encrypt<'_>>
 
 /// The command of the words, or `None` where they are none.
 pub fn command_of(words: &[String]) -> Option<Command<'_>>
-    ensures found { IfSome result (IsCommandOf (texts words.now)) }
-    ensures none { IfNone result (IsNoCommand (texts words.now)) }
+    ensures found { IfSome result (λ command. AskFor (texts words.now) (request_of command)) }
+    ensures none { IfNone result (AskForNothing (texts words.now)) }
 {
     if let Some(command) = decrypt_of(words) {
         return Some(Command::Decrypt(command));

@@ -1,30 +1,47 @@
-use Rattle.std.proofs.Common.{◌++◌, ◌∷◌, [], append_assoc}
 use Rattle.std.proofs.lemmas.Result.{err_from_is_err_and}
-use Rattle.pf_tool.proofs.Writing.{front_then, front_after, wrote_then, rose_later}
+use Rattle.pf_tool.specs.Reports.{Wrote}
+use Rattle.pf_tool.proofs.Writing.{written_by, line_fails_first, line_fails_second, line_fails_third, line_ends}
 use Rattle.pf_tool.proofs.fault.write_parts.Goals as goal
 
 pub returns-in_err-write : goal.returns-in_err-write
 returns-in_err-write g c =
     let p = err_from_is_err_and c.from_residual.result c.from_residual.ensures.1 in
-    rw p.1 (record {
-      rose = c.in_err-write.ensures.cause.rose;
-      front = rw append_assoc (front_then c.args.first.now (c.args.second.now ++ 10 ∷ []) _ _ (rw c.as_bytes.ensures.value at c.in_err-write.ensures.taken));
-    })
+    let s0 = g.L.Sink.state c.args.log.now in
+    let s1 = g.L.Sink.state c.write.new.self in
+    rw p.1 (line_fails_first c.args.first.now c.args.second.now c.args.third.now s0 s1
+    (record { rose = c.in_err-write.ensures.cause.rose; told = rw c.as_bytes.ensures.value at c.in_err-write.ensures.taken }))
 
 pub returns-in_err-write-2 : goal.returns-in_err-write-2
 returns-in_err-write-2 g c =
     let p = err_from_is_err_and c.from_residual-in_err-write-2.result c.from_residual-in_err-write-2.ensures.1 in
-    rw p.1 (record {
-      rose = rose_later _ _ _ c.in_ok-write.ensures.cause.later c.in_err-write-2.ensures.cause.rose;
-      front = rw append_assoc (front_after c.args.first.now (c.args.second.now ++ 10 ∷ []) _ _ _ (rw c.as_bytes.ensures.value at c.in_ok-write.ensures.taken)
-          (front_then c.args.second.now (10 ∷ []) _ _ (rw c.as_bytes-2.ensures.value at c.in_err-write-2.ensures.taken)));
-    })
+    let s0 = g.L.Sink.state c.args.log.now in
+    let s1 = g.L.Sink.state c.write.new.self in
+    let s2 = g.L.Sink.state c.write-2.new.self in
+    let first : Wrote c.args.first.now s0 s1 = record { calm = c.in_ok-write.ensures.cause.still; told = rw c.as_bytes.ensures.value at c.in_ok-write.ensures.taken } in
+    rw p.1 (line_fails_second c.args.first.now c.args.second.now c.args.third.now s0 s1 s2 first
+    (record { rose = c.in_err-write-2.ensures.cause.rose; told = rw c.as_bytes-2.ensures.value at c.in_err-write-2.ensures.taken }))
 
 pub returns-in_err-write-3 : goal.returns-in_err-write-3
 returns-in_err-write-3 g c =
     let p = err_from_is_err_and c.from_residual-in_err-write-3.result c.from_residual-in_err-write-3.ensures.1 in
-    let both = wrote_then c.args.first.now c.args.second.now _ _ _ (rw c.as_bytes.ensures.value at c.in_ok-write.ensures.taken) (rw c.as_bytes-2.ensures.value at c.in_ok-write-2.ensures.taken) in
-    rw p.1 (record {
-      rose = rose_later _ _ _ c.in_ok-write.ensures.cause.later (rose_later _ _ _ c.in_ok-write-2.ensures.cause.later c.in_err-write-3.ensures.cause.rose);
-      front = front_after (c.args.first.now ++ c.args.second.now) (10 ∷ []) _ _ _ both c.in_err-write-3.ensures.taken;
-    })
+    let s0 = g.L.Sink.state c.args.log.now in
+    let s1 = g.L.Sink.state c.write.new.self in
+    let s2 = g.L.Sink.state c.write-2.new.self in
+    let s3 = g.L.Sink.state c.write-3.new.self in
+    let first : Wrote c.args.first.now s0 s1 = record { calm = c.in_ok-write.ensures.cause.still; told = rw c.as_bytes.ensures.value at c.in_ok-write.ensures.taken } in
+    let second : Wrote c.args.second.now s1 s2 = record { calm = c.in_ok-write-2.ensures.cause.still; told = rw c.as_bytes-2.ensures.value at c.in_ok-write-2.ensures.taken } in
+    rw p.1 (line_fails_third c.args.first.now c.args.second.now c.args.third.now s0 s1 s2 s3 first second
+    (record { rose = c.in_err-write-3.ensures.cause.rose; told = rw c.as_bytes-3.ensures.value at c.in_err-write-3.ensures.taken }))
+
+pub returns : goal.returns
+returns g c =
+    let s0 = g.L.Sink.state c.args.log.now in
+    let s1 = g.L.Sink.state c.write.new.self in
+    let s2 = g.L.Sink.state c.write-2.new.self in
+    let s3 = g.L.Sink.state c.write-3.new.self in
+    let s4 = g.L.Sink.state c.write-4.new.self in
+    let first : Wrote c.args.first.now s0 s1 = record { calm = c.in_ok-write.ensures.cause.still; told = rw c.as_bytes.ensures.value at c.in_ok-write.ensures.taken } in
+    let second : Wrote c.args.second.now s1 s2 = record { calm = c.in_ok-write-2.ensures.cause.still; told = rw c.as_bytes-2.ensures.value at c.in_ok-write-2.ensures.taken } in
+    let third : Wrote c.args.third.now s2 s3 = record { calm = c.in_ok-write-3.ensures.cause.still; told = rw c.as_bytes-3.ensures.value at c.in_ok-write-3.ensures.taken } in
+    line_ends c.args.first.now c.args.second.now c.args.third.now s0 c.write-4.result s1 s2 s3 s4 first second third
+    (written_by c.write-4.result _ s3 s4 c.write-4.ensures.cause c.write-4.ensures.taken)

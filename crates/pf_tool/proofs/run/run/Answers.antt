@@ -1,120 +1,110 @@
-use Rattle.std.proofs.Common.{ℕ, List, ◌∙◌, sym, subst}
-use Rattle.pf_io.specs.Host.{WhereTold}
-use Rattle.pf_tool.specs.Commands.{IsCommandOf}
-use Rattle.pf_tool.specs.EncryptRun.{HonestEncrypt, EncryptDecided}
-use Rattle.pf_tool.specs.Reports.{Wrote}
-use Rattle.pf_tool.specs.Run.{DecryptRuns, DecryptDecided, GaveContent, GaveDamage, HonestRun}
-use Rattle.pf_tool.specs.Words.{texts}
-use Rattle.pf_tool.proofs.Decided.{decrypt_decided, encrypt_decided}
-use Rattle.pf_tool.proofs.FilesDecide.{decrypt_ending_one, encrypt_ending_one}
-use Rattle.pf_tool.proofs.EncryptRunning.{encrypt_honest, for_encrypt_names}
-use Rattle.pf_tool.proofs.Running.{run_content, run_damage, run_honest, for_names}
+use Rattle.std.proofs.Common.{◌≡◌, ℕ, List, ◌∙◌, sym, subst, refl, ap}
+use Rattle.pf_tool.specs.World.{World, world_of}
+use Rattle.pf_tool.specs.Requests.{Request, request_of, texts}
+use Rattle.pf_tool.specs.Runs.{Runs, Usage, ByWords, Content, Decided, Honest, OnDisks, Stays}
+use Rattle.pf_tool.proofs.RunLaws.{one_request, over_one}
+use Rattle.pf_tool.proofs.RunClauses.{usage_causes, run_causes, run_by_words, run_content, run_decided, run_honest, run_not_two, run_unread, run_stays}
+use Rattle.pf_tool.proofs.RunDisk.{run_disk}
 use Rattle.pf_tool.proofs.run.run.Goals as goal
 
-pub returns-in-Decrypt-clause-decrypts : goal.returns-in-Decrypt-clause-decrypts
-returns-in-Decrypt-clause-decrypts g c key name is =
-    let old = g.H.Host.state c.args.host.now in
-    let new = g.H.Host.state c.run_decrypt.new.host in
-    let before = g.K.Sink.state c.args.out.now in
-    let after = g.K.Sink.state c.run_decrypt.new.out in
-    let log = g.L.Sink.state c.args.log.now in
-    let said = g.L.Sink.state c.run_decrypt.new.log in
-    let command = c.in-Decrypt.command in
-    let found = subst (IsCommandOf (texts c.args.words.now)) c.in-Decrypt.is c.in-Some.ensures.found in
-    for_names (λ k n. DecryptRuns k n old new before after log said c.run_decrypt.result) command.key.now command.input.now key name (sym found ∙ is) c.run_decrypt.ensures.runs
+pub returns-in-Some-clause-usage : goal.returns-in-Some-clause-usage
+returns-in-Some-clause-usage g c none =
+    let request = request_of c.in-Some.command in
+    let old = world_of (g.H.Host.state c.args.host.now) (g.S.Source.state c.args.input.now) (g.K.Sink.state c.args.out.now) (g.L.Sink.state c.args.log.now) (g.R.Words.state c.args.random.now) in
+    let new = world_of (g.H.Host.state c.run_command.new.host) (g.S.Source.state c.args.input.now) (g.K.Sink.state c.run_command.new.out) (g.L.Sink.state c.run_command.new.log) (g.R.Words.state c.run_command.new.random) in
+    let status = c.run_command.result in
+    let run : Runs request old new status = c.run_command.ensures (g.S.Source.state c.args.input.now) in
+    absurd (none request c.in-Some.ensures.found)
 
-pub returns-in-Decrypt-clause-content : goal.returns-in-Decrypt-clause-content
-returns-in-Decrypt-clause-content g c key name is zero =
-    let old = g.H.Host.state c.args.host.now in
-    let new = g.H.Host.state c.run_decrypt.new.host in
-    let before = g.K.Sink.state c.args.out.now in
-    let after = g.K.Sink.state c.run_decrypt.new.out in
-    let log = g.L.Sink.state c.args.log.now in
-    let said = g.L.Sink.state c.run_decrypt.new.log in
-    let command = c.in-Decrypt.command in
-    let found = subst (IsCommandOf (texts c.args.words.now)) c.in-Decrypt.is c.in-Some.ensures.found in
-    for_names (λ k n. WhereTold old new (λ these. (x : List ℕ) × GaveContent k n these x × Wrote x before after)) command.key.now command.input.now key name (sym found ∙ is)
-    (run_content command.key.now command.input.now old new before after log said c.run_decrypt.result c.run_decrypt.ensures.runs zero)
+pub returns-in-Some-clause-only_usage : goal.returns-in-Some-clause-only_usage
+returns-in-Some-clause-only_usage g c two =
+    let request = request_of c.in-Some.command in
+    let old = world_of (g.H.Host.state c.args.host.now) (g.S.Source.state c.args.input.now) (g.K.Sink.state c.args.out.now) (g.L.Sink.state c.args.log.now) (g.R.Words.state c.args.random.now) in
+    let new = world_of (g.H.Host.state c.run_command.new.host) (g.S.Source.state c.args.input.now) (g.K.Sink.state c.run_command.new.out) (g.L.Sink.state c.run_command.new.log) (g.R.Words.state c.run_command.new.random) in
+    let status = c.run_command.result in
+    let run : Runs request old new status = c.run_command.ensures (g.S.Source.state c.args.input.now) in
+    absurd (run_not_two request old new status run two)
 
-pub returns-in-Decrypt-clause-damage : goal.returns-in-Decrypt-clause-damage
-returns-in-Decrypt-clause-damage g c key name is one =
-    let old = g.H.Host.state c.args.host.now in
-    let new = g.H.Host.state c.run_decrypt.new.host in
-    let before = g.K.Sink.state c.args.out.now in
-    let after = g.K.Sink.state c.run_decrypt.new.out in
-    let log = g.L.Sink.state c.args.log.now in
-    let said = g.L.Sink.state c.run_decrypt.new.log in
-    let command = c.in-Decrypt.command in
-    let found = subst (IsCommandOf (texts c.args.words.now)) c.in-Decrypt.is c.in-Some.ensures.found in
-    for_names (λ k n. WhereTold old new (GaveDamage k n)) command.key.now command.input.now key name (sym found ∙ is)
-    (run_damage command.key.now command.input.now old new before after log said c.run_decrypt.result c.run_decrypt.ensures.runs one)
+pub returns-in-Some-clause-runs : goal.returns-in-Some-clause-runs
+returns-in-Some-clause-runs g c other asks =
+    let request = request_of c.in-Some.command in
+    let old = world_of (g.H.Host.state c.args.host.now) (g.S.Source.state c.args.input.now) (g.K.Sink.state c.args.out.now) (g.L.Sink.state c.args.log.now) (g.R.Words.state c.args.random.now) in
+    let new = world_of (g.H.Host.state c.run_command.new.host) (g.S.Source.state c.args.input.now) (g.K.Sink.state c.run_command.new.out) (g.L.Sink.state c.run_command.new.log) (g.R.Words.state c.run_command.new.random) in
+    let status = c.run_command.result in
+    let run : Runs request old new status = c.run_command.ensures (g.S.Source.state c.args.input.now) in
+    subst (λ (r : Request). Runs r old new status) (one_request (texts c.args.words.now) request other c.in-Some.ensures.found asks) run
 
-pub returns-in-Decrypt-clause-honest : goal.returns-in-Decrypt-clause-honest
-returns-in-Decrypt-clause-honest g c key name files is of_files host_calm out_calm log_calm =
-    let old = g.H.Host.state c.args.host.now in
-    let new = g.H.Host.state c.run_decrypt.new.host in
-    let before = g.K.Sink.state c.args.out.now in
-    let after = g.K.Sink.state c.run_decrypt.new.out in
-    let log = g.L.Sink.state c.args.log.now in
-    let said = g.L.Sink.state c.run_decrypt.new.log in
-    let command = c.in-Decrypt.command in
-    let found = subst (IsCommandOf (texts c.args.words.now)) c.in-Decrypt.is c.in-Some.ensures.found in
-    for_names (λ k n. HonestRun k n files before after log said c.run_decrypt.result) command.key.now command.input.now key name (sym found ∙ is)
-    (run_honest command.key.now command.input.now files old new before after log said c.run_decrypt.result c.run_decrypt.ensures.runs of_files host_calm out_calm log_calm)
+pub returns-in-Some-clause-causes : goal.returns-in-Some-clause-causes
+returns-in-Some-clause-causes g c =
+    let request = request_of c.in-Some.command in
+    let old = world_of (g.H.Host.state c.args.host.now) (g.S.Source.state c.args.input.now) (g.K.Sink.state c.args.out.now) (g.L.Sink.state c.args.log.now) (g.R.Words.state c.args.random.now) in
+    let new = world_of (g.H.Host.state c.run_command.new.host) (g.S.Source.state c.args.input.now) (g.K.Sink.state c.run_command.new.out) (g.L.Sink.state c.run_command.new.log) (g.R.Words.state c.run_command.new.random) in
+    let status = c.run_command.result in
+    let run : Runs request old new status = c.run_command.ensures (g.S.Source.state c.args.input.now) in
+    run_causes request old new status run
 
-pub returns-in-Encrypt-clause-honest_encrypt : goal.returns-in-Encrypt-clause-honest_encrypt
-returns-in-Encrypt-clause-honest_encrypt g c key name output files is of_files host_calm random_calm log_calm =
-    let old = g.H.Host.state c.args.host.now in
-    let new = g.H.Host.state c.run_encrypt.new.host in
-    let before = g.R.Words.state c.args.random.now in
-    let after = g.R.Words.state c.run_encrypt.new.random in
-    let log = g.L.Sink.state c.args.log.now in
-    let said = g.L.Sink.state c.run_encrypt.new.log in
-    let command = c.in-Encrypt.command in
-    let found = subst (IsCommandOf (texts c.args.words.now)) c.in-Encrypt.is c.in-Some.ensures.found in
-    for_encrypt_names (λ k i o. HonestEncrypt k i o files log said c.run_encrypt.result) command.key.now command.input.now command.output.now key name output (sym found ∙ is)
-    (encrypt_honest command.key.now command.input.now command.output.now old new before after log said files c.run_encrypt.result c.run_encrypt.ensures.runs of_files host_calm random_calm log_calm)
+pub returns-in-Some-clause-by_words : goal.returns-in-Some-clause-by_words
+returns-in-Some-clause-by_words g c other asks =
+    let request = request_of c.in-Some.command in
+    let old = world_of (g.H.Host.state c.args.host.now) (g.S.Source.state c.args.input.now) (g.K.Sink.state c.args.out.now) (g.L.Sink.state c.args.log.now) (g.R.Words.state c.args.random.now) in
+    let new = world_of (g.H.Host.state c.run_command.new.host) (g.S.Source.state c.args.input.now) (g.K.Sink.state c.run_command.new.out) (g.L.Sink.state c.run_command.new.log) (g.R.Words.state c.run_command.new.random) in
+    let status = c.run_command.result in
+    let run : Runs request old new status = c.run_command.ensures (g.S.Source.state c.args.input.now) in
+    subst (λ (r : Request). ByWords r old new status) (one_request (texts c.args.words.now) request other c.in-Some.ensures.found asks) (run_by_words request old new status run)
 
-pub returns-in-Decrypt-clause-decided : goal.returns-in-Decrypt-clause-decided
-returns-in-Decrypt-clause-decided g c key name is calm =
-    let old = g.H.Host.state c.args.host.now in
-    let new = g.H.Host.state c.run_decrypt.new.host in
-    let before = g.K.Sink.state c.args.out.now in
-    let after = g.K.Sink.state c.run_decrypt.new.out in
-    let log = g.L.Sink.state c.args.log.now in
-    let said = g.L.Sink.state c.run_decrypt.new.log in
-    let command = c.in-Decrypt.command in
-    let found = subst (IsCommandOf (texts c.args.words.now)) c.in-Decrypt.is c.in-Some.ensures.found in
-    for_names (λ k n. DecryptDecided k n old new log said c.run_decrypt.result) command.key.now command.input.now key name (sym found ∙ is)
-    (decrypt_decided command.key.now command.input.now old new before after log said c.run_decrypt.result c.run_decrypt.ensures.runs calm)
+pub returns-in-Some-clause-content : goal.returns-in-Some-clause-content
+returns-in-Some-clause-content g c other asks =
+    let request = request_of c.in-Some.command in
+    let old = world_of (g.H.Host.state c.args.host.now) (g.S.Source.state c.args.input.now) (g.K.Sink.state c.args.out.now) (g.L.Sink.state c.args.log.now) (g.R.Words.state c.args.random.now) in
+    let new = world_of (g.H.Host.state c.run_command.new.host) (g.S.Source.state c.args.input.now) (g.K.Sink.state c.run_command.new.out) (g.L.Sink.state c.run_command.new.log) (g.R.Words.state c.run_command.new.random) in
+    let status = c.run_command.result in
+    let run : Runs request old new status = c.run_command.ensures (g.S.Source.state c.args.input.now) in
+    subst (λ (r : Request). Content r old new status) (one_request (texts c.args.words.now) request other c.in-Some.ensures.found asks) (run_content request old new status run)
 
-pub returns-in-Encrypt-clause-decided_encrypt : goal.returns-in-Encrypt-clause-decided_encrypt
-returns-in-Encrypt-clause-decided_encrypt g c key name output is host_calm random_calm =
-    let old = g.H.Host.state c.args.host.now in
-    let new = g.H.Host.state c.run_encrypt.new.host in
-    let before = g.R.Words.state c.args.random.now in
-    let after = g.R.Words.state c.run_encrypt.new.random in
-    let log = g.L.Sink.state c.args.log.now in
-    let said = g.L.Sink.state c.run_encrypt.new.log in
-    let command = c.in-Encrypt.command in
-    let found = subst (IsCommandOf (texts c.args.words.now)) c.in-Encrypt.is c.in-Some.ensures.found in
-    for_encrypt_names (λ k i o. EncryptDecided k i o old new log said c.run_encrypt.result) command.key.now command.input.now command.output.now key name output (sym found ∙ is)
-    (encrypt_decided command.key.now command.input.now command.output.now old new before after log said c.run_encrypt.result c.run_encrypt.ensures.runs host_calm random_calm)
+pub returns-in-Some-clause-decided : goal.returns-in-Some-clause-decided
+returns-in-Some-clause-decided g c other asks =
+    let request = request_of c.in-Some.command in
+    let old = world_of (g.H.Host.state c.args.host.now) (g.S.Source.state c.args.input.now) (g.K.Sink.state c.args.out.now) (g.L.Sink.state c.args.log.now) (g.R.Words.state c.args.random.now) in
+    let new = world_of (g.H.Host.state c.run_command.new.host) (g.S.Source.state c.args.input.now) (g.K.Sink.state c.run_command.new.out) (g.L.Sink.state c.run_command.new.log) (g.R.Words.state c.run_command.new.random) in
+    let status = c.run_command.result in
+    let run : Runs request old new status = c.run_command.ensures (g.S.Source.state c.args.input.now) in
+    subst (λ (r : Request). Decided r old new status) (one_request (texts c.args.words.now) request other c.in-Some.ensures.found asks) (run_decided request old new status run)
 
-pub returns-in_default-clause-one_ending : goal.returns-in_default-clause-one_ending
-returns-in_default-clause-one_ending g c key name files ending other a b = decrypt_ending_one files key name ending other a b
+pub returns-in-Some-clause-honest : goal.returns-in-Some-clause-honest
+returns-in-Some-clause-honest g c other asks =
+    let request = request_of c.in-Some.command in
+    let old = world_of (g.H.Host.state c.args.host.now) (g.S.Source.state c.args.input.now) (g.K.Sink.state c.args.out.now) (g.L.Sink.state c.args.log.now) (g.R.Words.state c.args.random.now) in
+    let new = world_of (g.H.Host.state c.run_command.new.host) (g.S.Source.state c.args.input.now) (g.K.Sink.state c.run_command.new.out) (g.L.Sink.state c.run_command.new.log) (g.R.Words.state c.run_command.new.random) in
+    let status = c.run_command.result in
+    let run : Runs request old new status = c.run_command.ensures (g.S.Source.state c.args.input.now) in
+    subst (λ (r : Request). Honest r old new status) (one_request (texts c.args.words.now) request other c.in-Some.ensures.found asks) (run_honest request old new status run)
 
-pub returns-in_default-clause-one_ending_encrypt : goal.returns-in_default-clause-one_ending_encrypt
-returns-in_default-clause-one_ending_encrypt g c key name output files ending other a b = encrypt_ending_one files key name output ending other a b
+pub returns-in-Some-clause-one_ending : goal.returns-in-Some-clause-one_ending
+returns-in-Some-clause-one_ending g c =
+    let request = request_of c.in-Some.command in
+    let old = world_of (g.H.Host.state c.args.host.now) (g.S.Source.state c.args.input.now) (g.K.Sink.state c.args.out.now) (g.L.Sink.state c.args.log.now) (g.R.Words.state c.args.random.now) in
+    let new = world_of (g.H.Host.state c.run_command.new.host) (g.S.Source.state c.args.input.now) (g.K.Sink.state c.run_command.new.out) (g.L.Sink.state c.run_command.new.log) (g.R.Words.state c.run_command.new.random) in
+    let status = c.run_command.result in
+    let run : Runs request old new status = c.run_command.ensures (g.S.Source.state c.args.input.now) in
+    over_one
 
-pub returns-in-Decrypt-clause-one_ending : goal.returns-in-Decrypt-clause-one_ending
-returns-in-Decrypt-clause-one_ending g c key name files ending other a b = decrypt_ending_one files key name ending other a b
+pub returns-in-Some-clause-disk : goal.returns-in-Some-clause-disk
+returns-in-Some-clause-disk g c other asks =
+    let request = request_of c.in-Some.command in
+    let old = world_of (g.H.Host.state c.args.host.now) (g.S.Source.state c.args.input.now) (g.K.Sink.state c.args.out.now) (g.L.Sink.state c.args.log.now) (g.R.Words.state c.args.random.now) in
+    let new = world_of (g.H.Host.state c.run_command.new.host) (g.S.Source.state c.args.input.now) (g.K.Sink.state c.run_command.new.out) (g.L.Sink.state c.run_command.new.log) (g.R.Words.state c.run_command.new.random) in
+    let status = c.run_command.result in
+    let run : Runs request old new status = c.run_command.ensures (g.S.Source.state c.args.input.now) in
+    subst (λ (r : Request). OnDisks r old new status) (one_request (texts c.args.words.now) request other c.in-Some.ensures.found asks) (run_disk request old new status run)
 
-pub returns-in-Decrypt-clause-one_ending_encrypt : goal.returns-in-Decrypt-clause-one_ending_encrypt
-returns-in-Decrypt-clause-one_ending_encrypt g c key name output files ending other a b = encrypt_ending_one files key name output ending other a b
+pub returns-in-Some-clause-stays : goal.returns-in-Some-clause-stays
+returns-in-Some-clause-stays g c other asks =
+    let request = request_of c.in-Some.command in
+    let old = world_of (g.H.Host.state c.args.host.now) (g.S.Source.state c.args.input.now) (g.K.Sink.state c.args.out.now) (g.L.Sink.state c.args.log.now) (g.R.Words.state c.args.random.now) in
+    let new = world_of (g.H.Host.state c.run_command.new.host) (g.S.Source.state c.args.input.now) (g.K.Sink.state c.run_command.new.out) (g.L.Sink.state c.run_command.new.log) (g.R.Words.state c.run_command.new.random) in
+    let status = c.run_command.result in
+    let run : Runs request old new status = c.run_command.ensures (g.S.Source.state c.args.input.now) in
+    subst (λ (r : Request). Stays r old new) (one_request (texts c.args.words.now) request other c.in-Some.ensures.found asks) (run_stays request old new status run)
 
-pub returns-in-Encrypt-clause-one_ending : goal.returns-in-Encrypt-clause-one_ending
-returns-in-Encrypt-clause-one_ending g c key name files ending other a b = decrypt_ending_one files key name ending other a b
-
-pub returns-in-Encrypt-clause-one_ending_encrypt : goal.returns-in-Encrypt-clause-one_ending_encrypt
-returns-in-Encrypt-clause-one_ending_encrypt g c key name output files ending other a b = encrypt_ending_one files key name output ending other a b
+pub returns-in-None-clause-one_ending : goal.returns-in-None-clause-one_ending
+returns-in-None-clause-one_ending g c = over_one

@@ -1,6 +1,6 @@
 use Rattle.std.proofs.Common.{◌≡◌, ap, ◌∙◌, rules}
 use Rattle.std.specs.Prelude.{codes}
-use Rattle.pf_tool.specs.Words.{texts}
+use Rattle.pf_tool.specs.Requests.{texts}
 use Rattle.pf_tool.proofs.Lists.{five}
 use Rattle.pf_tool.proofs.words.decrypt_of.Goals as goal
 

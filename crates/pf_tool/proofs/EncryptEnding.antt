@@ -1,0 +1,121 @@
+-- `encrypt` from its parts: the reading of the key, and then the sealing of the input.
+use Rattle.std.proofs.Common.{◌≡◌, ◌≢◌, ◌⊎◌, inl, inr, ⊎_elim, ℕ, List, [], ◌∷◌, ◌++◌, take, refl, subst, ap, ◌∙◌, sym, Option, Some, None, Result, Ok, Err, IfSome}
+use Rattle.std.specs.Prelude.{option_map}
+use Rattle.std.proofs.lemmas.List.Elements.{Contains-append_right}
+use Rattle.std.proofs.lemmas.Option.{IfSome_then}
+use Rattle.pf_io.specs.Disk.{Name, Files, File, Disk, Image, IsImage, IsImageAt, reading}
+use Rattle.pf_io.specs.Host.{Answer, Made, Swapped, HostState, Both, KeepsFiles, OnHonest, files_of, contents}
+use Rattle.pf_io.specs.Moments.{Honest, Ran}
+use Rattle.pf_io.specs.Names.{IsTarget, side_of}
+use Rattle.pf_io.specs.Steps.{Stays}
+use Rattle.pf_io.specs.Unchanged.{KeepsDisk}
+use Rattle.pf_io.specs.Words.{WordsState}
+use Rattle.pf_io.proofs.Runs.{started, goes_on_ran}
+use Rattle.pf_io.proofs.Telling.{both_weaker}
+use Rattle.pf_tool.specs.World.{World, with_host, with_random}
+use Rattle.pf_tool.specs.Events.{Event, Answers}
+use Rattle.pf_tool.specs.Endings.{Ending, Done, BadName, Stop, AtEnd, tried, stop_status}
+use Rattle.pf_tool.specs.Happened.{Passed}
+use Rattle.pf_tool.specs.Outcomes.{Outcome, Falls, Ends}
+use Rattle.pf_tool.specs.SideFiles.{IsMade, IsSwapped, SideLeaves, SideEnds, IsNewFile}
+use Rattle.pf_tool.specs.Keys.{HasKey, KeyRefused, key_events}
+use Rattle.pf_tool.specs.Encrypting.{IsInput, Seals, output_unnamed, input_unfit, EncryptLeads, encrypt_key_refused, encrypt_key_read, EncryptLeaves, IsSealed, user_on, StandsFor, content_on, nonce_in}
+use Rattle.pf_tool.specs.Making.{IsSealedUnder, LeavesSealed}
+use Rattle.pf_tool.specs.declared.fault.Fault.{Fault}
+use Rattle.pf_tool.specs.declared.fault.Fault.TheVariants as faults
+use Rattle.pf_tool.proofs.Composing.{passed_none}
+use Rattle.pf_tool.proofs.Stopping.{not_done, outcome_then, refused}
+use Rattle.pf_tool.proofs.InputDisk.{kept_leaves}
+
+-- what is known of the files at the start of a run
+knowing_first : (F : Files → Type 0) (P : Disk → Image → Type 0) (Q : Disk → Disk → Type 0) (o p : Option Honest) → Both o p (Ran P Q) → IfSome (option_map (λ host. reading host.now) o) F
+    → Both o p (Ran P (λ d e. Q d e × F (reading d)))
+knowing_first F P Q (Some a) (Some b) ran fact = record { leaves = ran.leaves; ends = (ran.ends, fact) }
+knowing_first F P Q None None ran fact = tt
+knowing_first F P Q (Some a) None ran fact = absurd ran
+knowing_first F P Q None (Some b) ran fact = absurd ran
+
+names_unfit : (user : List ℕ) (input output : Name) → ¬ (IsTarget output) ⊎ (IsTarget output × ¬ (IsInput input output)) → Seals user input output [] BadName
+names_unfit user input output (inl unnamed) = output_unnamed unnamed refl refl
+names_unfit user input output (inr both) = input_unfit both.0 both.1 refl refl
+
+module _ (key input output : Name) where
+  abbrev Leading : List Event → Ending → Type 0
+  Leading events ending = EncryptLeads key input output events ending
+
+  abbrev Leaving : List Event → Stop → HostState → HostState → Type 0
+  Leaving tried stop old new = EncryptLeaves key input output tried stop old new
+
+  -- no key was read
+  pub no_key : (fault : Fault) (old new : World) → Falls (KeyRefused key) (λ _ _. KeepsDisk) fault old new → Falls (EncryptLeads key input output) (EncryptLeaves key input output) fault old new
+  no_key fault old new falls =
+      let o = falls.outcome in
+      record {
+        stop = falls.stop;
+        is_fault = falls.is_fault;
+        outcome = outcome_then [] (KeyRefused key) Leading (λ _ _. KeepsDisk) Leaving falls.stop old old new o (passed_none old) refl (λ es ending refuses. encrypt_key_refused refuses)
+            (λ kept. kept_leaves output (IsSealed key input output) (tried o.events falls.stop) falls.stop old.host new.host (λ is. not_done fault (falls.is_fault.ends ∙ ap stop_status is)) kept);
+      }
+
+  module _ (user : List ℕ) (has : HasKey key user) where
+    -- names that cannot be used
+    pub names_refused : (old new : World) → ¬ (IsTarget output) ⊎ (IsTarget output × ¬ (IsInput input output)) → Passed (key_events key user) old new → KeepsDisk old.host new.host
+        → Falls (EncryptLeads key input output) (EncryptLeaves key input output) faults.BadName old new
+    names_refused old new unfit passed kept =
+        refused Leading Leaving (key_events key user) BadName faults.BadName old new refl refl (encrypt_key_read user [] has refl (names_unfit user input output unfit)) passed
+        (kept_leaves output (IsSealed key input output) (key_events key user) (AtEnd BadName) old.host new.host (λ same. absurd (cc)) kept)
+
+    module _ (last : List Event) (stop : Stop) where
+      abbrev All : List Event
+      All = key_events key user ++ last
+
+      stands_back : (d : Disk) (file : Option (List ℕ)) → user ≡ user_on d key → IsSealedUnder user input output d last file → IsSealed key input output d All file
+      stands_back d file same stands = subst (λ (u : List ℕ). StandsFor u output (nonce_in last) (content_on d input) file) same stands
+
+      new_back : (d : Disk) (file : Option File) → user ≡ user_on d key → IsNewFile (IsSealedUnder user input output d last) file → IsNewFile (IsSealed key input output d All) file
+      new_back d file same new = record { file = new.file; there = new.there; settled = new.settled; is_new = stands_back d (Some new.file.bytes) same new.is_new }
+
+      made_then : IsMade last output → IsMade All output
+      made_then made = Contains-append_right (key_events key user) last (Answers (Made (side_of output))) made
+
+      swapped_then : IsSwapped last output → IsSwapped All output
+      swapped_then swapped = Contains-append_right (key_events key user) last (Answers (Swapped (side_of output) output)) swapped
+
+      left_back : (d : Disk) (image : Image) → user ≡ user_on d key → SideLeaves last output (IsSealedUnder user input output d last) d image → SideLeaves All output (IsSealed key input output d All) d image
+      left_back d image same left = record {
+        here = ⊎_elim (λ before. inl before) (λ new. inr (swapped_then new.0, stands_back d (image output) same new.1)) left.here;
+        side = λ none. left.side (λ made. none (made_then made));
+        others = left.others;
+      }
+
+      ends_back : (d f : Disk) → user ≡ user_on d key → SideEnds last stop output (IsSealedUnder user input output d last) d f → SideEnds All stop output (IsSealed key input output d All) d f
+      ends_back d f same ends = record {
+        done = λ done. new_back d (f output) same (ends.done done);
+        here = ⊎_elim (λ before. inl before) (λ new. inr (swapped_then new.0, new_back d (f output) same new.1)) ends.here;
+        side = λ none. ends.side (λ made. none (made_then made));
+        others = ends.others;
+      }
+
+      sealed_leaves : (s0 s1 s2 : HostState) → KeepsDisk s0 s1 → OnHonest s0 (λ files. user ≡ take 16 (contents (files key))) → LeavesSealed user input output last stop s1 s2 → EncryptLeaves key input output All stop s0 s2
+      sealed_leaves s0 s1 s2 kept known next =
+          goes_on_ran (λ disk image. SideLeaves All output (IsSealed key input output disk All) disk image) (λ disk image. SideLeaves last output (IsSealedUnder user input output disk last) disk image)
+          (λ d e. (e ≡ d) × (user ≡ user_on d key)) (λ before now. SideEnds last stop output (IsSealedUnder user input output before last) before now) (λ before now. SideEnds All stop output (IsSealed key input output before All) before now)
+          s0.honest s1.honest s2.honest
+          (knowing_first (λ files. user ≡ take 16 (contents (files key))) (λ disk image. SideLeaves All output (IsSealed key input output disk All) disk image) (λ d e. e ≡ d) s0.honest s1.honest
+          (goes_on_ran (λ disk image. SideLeaves All output (IsSealed key input output disk All) disk image) IsImage (λ d e. e ≡ d) Stays (λ d e. e ≡ d) s0.honest s0.honest s1.honest
+          (started (λ disk image. SideLeaves All output (IsSealed key input output disk All) disk image) s0.honest (λ d image is. record { here = inl (is output); side = λ none. is (side_of output); others = λ other ne side. is other })) kept
+          (λ d e same image is. let there = subst (λ (x : Disk). IsImage x image) same is in record { here = inl (there output); side = λ none. there (side_of output); others = λ other ne side. there other })
+          (λ d e f same stays. stays ∙ same)) known) next
+          (λ d e holds image left. left_back d image holds.1 (subst (λ (x : Disk). SideLeaves last output (IsSealedUnder user input output x last) x image) holds.0 left))
+          (λ d e f holds ends. ends_back d f holds.1 (subst (λ (x : Disk). SideEnds last stop output (IsSealedUnder user input output x last) x f) holds.0 ends))
+
+    -- the sealing after the reading of the key
+    module _ (old mid new : World) (passed : Passed (key_events key user) old mid) (files : KeepsFiles old.host mid.host) (kept : KeepsDisk old.host mid.host) where
+      sealing_outcome : (stop : Stop) → Outcome (Seals user input output) (LeavesSealed user input output) stop mid new → Outcome (EncryptLeads key input output) (EncryptLeaves key input output) stop old new
+      sealing_outcome stop o =
+          outcome_then (key_events key user) (Seals user input output) Leading (LeavesSealed user input output) Leaving stop old mid new o passed files (λ es ending seals. encrypt_key_read user es has refl seals)
+          (λ left. sealed_leaves (tried o.events stop) stop old.host mid.host new.host kept (IfSome_then (files_of old.host) passed.host.honest (λ (f : Files) all. all.1.0)) left)
+
+      pub sealing_ends : {T : Type 0} (r : Result T Fault) → Ends (Seals user input output) (LeavesSealed user input output) r mid new → Ends (EncryptLeads key input output) (EncryptLeaves key input output) r old new
+      sealing_ends (Ok v) ends = sealing_outcome (AtEnd Done) ends
+      sealing_ends (Err fault) ends = record { stop = ends.stop; is_fault = ends.is_fault; outcome = sealing_outcome ends.stop ends.outcome }

@@ -1,0 +1,177 @@
+-- The clauses of a run, each from what the whole run came to.
+use Rattle.std.proofs.Common.{◌≡◌, ◌⊎◌, inl, inr, ⊎_elim, ℕ, ◌<◌, ◌≤◌, List, [], ◌∷◌, ◌++◌, length, take, refl, subst, ap, ◌∙◌, sym, arith, Option, Some, None, Result, Ok, Err, IfSome}
+use Rattle.std.specs.List.{AllByRecursion, concat}
+use Rattle.std.proofs.lemmas.List.{append-nil, append_cancel_left}
+use Rattle.std.proofs.Math.Seq.{take-append_seam}
+use Rattle.pf_io.specs.Counts.{Rose}
+use Rattle.pf_io.specs.Disk.{Name, Files}
+use Rattle.pf_io.specs.Host.{Answer, HostState, Both, IsMore, OnHonest, files_of}
+use Rattle.pf_io.specs.Answered.{IsAnswerOf, WereTold}
+use Rattle.pf_io.specs.Streams.{SourceState, SinkState, TakesFront}
+use Rattle.pf_io.specs.Words.{WordsState}
+use Rattle.pf_io.proofs.Telling.{both_weaker}
+use Rattle.pf_tool.specs.World.{World, world_of, with_log}
+use Rattle.pf_tool.specs.Events.{Event, Answers, Draws, Puts, answers_in, words_in, pieces_in, bytes_in}
+use Rattle.pf_tool.specs.Endings.{Ending, Done, Stop, AtEnd, Failed, Starved, stop_line, stop_status, no_command_line}
+use Rattle.pf_tool.specs.declared.fault.Fault.{Fault}
+use Rattle.pf_tool.proofs.Stopping.{not_done}
+use Rattle.pf_tool.specs.Happened.{Passed, Happened}
+use Rattle.pf_tool.specs.Faults.{fault_line, fault_status}
+use Rattle.pf_tool.specs.Outcomes.{Stands, Outcome, Ends, Concludes}
+use Rattle.pf_tool.specs.Reports.{Wrote, Reported, Reports}
+use Rattle.pf_tool.specs.Requests.{Request, Decrypt, Encrypt}
+use Rattle.pf_tool.specs.Runs.{Leads, Leaves, Runs, Usage, Calm, Causes, ByWords, Content, Decided, NoneRose, Honestly, as_files_give, starved, Honest, OnDisks, Stays}
+use Rattle.pf_tool.proofs.RunStops.{not_two, reports_of, stop_low, reported_said, said, status_of, host_rose, random_rose, out_rose, all_passed, none_failed, input_kept, undrawn, unput, done_at_zero}
+use Rattle.pf_tool.proofs.RunLaws.{silent, decided, over, over_front}
+use Rattle.pf_tool.proofs.DecryptLaws.{decrypt_undrawn}
+use Rattle.pf_tool.proofs.EncryptLaws.{encrypt_unput, encrypt_given}
+use Rattle.pf_tool.proofs.ContentRuns.{took_content}
+use Rattle.pf_tool.specs.Encrypting.{EncryptLeads, GaveSealed}
+
+-- a command, and what was said of it
+pub concluded : {T : Type 0} (request : Request) (r : Result T Fault) (h0 h1 : HostState) (input : SourceState) (o0 o1 l0 l1 : SinkState) (r0 r1 : WordsState) (status : ℕ) → Ends (Leads request) (Leaves request) r (world_of h0 input o0 l0 r0) (world_of h1 input o1 l0 r1)
+    → Concludes r l0 l1 status → Runs request (world_of h0 input o0 l0 r0) (world_of h1 input o1 l1 r1) status
+concluded request (Ok v) h0 h1 input o0 o1 l0 l1 r0 r1 status ends said = record { stop = AtEnd Done; outcome = ends; reports = said }
+concluded request (Err fault) h0 h1 input o0 o1 l0 l1 r0 r1 status ends said = record {
+  stop = ends.stop;
+  outcome = ends.outcome;
+  reports = reports_of ends.stop l0 l1 status (λ is. not_done fault (ends.is_fault.ends ∙ ap stop_status is))
+      (subst (λ (n : ℕ). Reported (stop_line ends.stop) n l0 l1 status) ends.is_fault.ends (subst (λ (l : List ℕ). Reported l (fault_status fault) l0 l1 status) ends.is_fault.says said));
+}
+
+-- worlds of the same parts
+same_world : (host host2 : HostState) (input input2 : SourceState) (out out2 log log2 : SinkState) (random random2 : WordsState) → host2 ≡ host → input2 ≡ input → out2 ≡ out → log2 ≡ log → random2 ≡ random
+    → world_of host2 input2 out2 log2 random2 ≡ world_of host input out log random
+same_world host host2 input input2 out out2 log log2 random random2 a b c d e =
+    ap (λ (x : HostState). world_of x input2 out2 log2 random2) a ∙ ap (λ (x : SourceState). world_of host x out2 log2 random2) b ∙ ap (λ (x : SinkState). world_of host input x log2 random2) c
+    ∙ ap (λ (x : SinkState). world_of host input out x random2) d ∙ ap (λ (x : WordsState). world_of host input out log x) e
+
+-- nothing happened
+nothing_passed : (es : List Event) (old new : World) → es ≡ [] → Passed es old new → new ≡ old
+nothing_passed es old new none passed =
+    same_world old.host new.host old.input new.input old.out new.out old.log new.log old.random new.random (passed.host.untouched (ap (λ (l : List Event). answers_in l) none)) passed.input
+    (passed.out.untouched (ap (λ (l : List Event). pieces_in l) none)) passed.log (passed.random.untouched (ap (λ (l : List Event). words_in l) none))
+
+-- the answers that were told are one list
+one_told : (old new : HostState) (these those : List Answer) → Both old.given new.given (IsMore these) → WereTold those old new → these ≡ those
+one_told old new these those told were =
+    let more : Both (Some were.before) (Some (were.before ++ those)) (IsMore these) = subst (λ (o : Option (List Answer)). Both (Some were.before) o (IsMore these)) were.now (subst (λ (o : Option (List Answer)). Both o new.given (IsMore these)) were.was told) in
+    sym (append_cancel_left were.before those these more)
+
+front_taken : (bytes rest : List ℕ) (all before now : List ℕ) → all ≡ bytes ++ rest → IsMore bytes before now → TakesFront all before now
+front_taken bytes rest all before now is more = record { count = length bytes; taken = more ∙ ap (λ (l : List ℕ). before ++ l) (sym (take-append_seam bytes rest) ∙ ap (λ (l : List ℕ). take (length bytes) l) (sym is)) }
+
+all_of : (files : Files) (o : Option Files) (these : List Answer) → o ≡ Some files → IfSome o (λ f. AllByRecursion (IsAnswerOf f) these) → AllByRecursion (IsAnswerOf files) these
+all_of files o these is honest = subst (λ (x : Option Files). IfSome x (λ f. AllByRecursion (IsAnswerOf f) these)) is honest
+
+-- a list with an event in it
+some_event : (es : List Event) (event : Event) (rest : List Event) → es ++ event ∷ rest ≡ [] → ⊥
+some_event [] event rest none = absurd (cc)
+some_event (x ∷ es) event rest none = absurd (cc)
+
+-- a failure has a status above 3
+failed_high : (event : Event) → 4 ≤ stop_status (Failed event)
+failed_high (Answers answer) = omega arith
+failed_high (Draws word) = omega arith
+failed_high (Puts bytes) = omega arith
+
+-- words that are no command
+pub usage_causes : (old new : World) (status : ℕ) → Usage old new status → Causes old new status
+usage_causes old new status usage =
+    let what = reported_said no_command_line 2 old.log new.log status usage.said in
+    let two_or_seven : (status ≡ 2) ⊎ (status ≡ 7) = ⊎_elim (λ both. inl both.0) (λ both. inr both.0) what in
+    let same = usage.untouched in
+    record {
+      host_fault = λ is. absurd (⊎_elim (λ e. omega (arith, e, is)) (λ e. omega (arith, e, is)) two_or_seven);
+      random_fault = λ is. absurd (⊎_elim (λ e. omega (arith, e, is)) (λ e. omega (arith, e, is)) two_or_seven);
+      stream_fault = λ is. inr (⊎_elim (λ both. absurd (omega (arith, both.0, is))) (λ both. both.1) what);
+      calm = λ low. record {
+        host = ap (λ (w : World). w.host.faults) same;
+        out = ap (λ (w : World). w.out.faults) same;
+        log = ⊎_elim (λ both. both.1.calm) (λ both. absurd (⊎_elim (λ le. omega (arith, le, both.0)) (λ e. omega (arith, e, both.0)) low)) what;
+        random = ap (λ (w : World). w.random.faults) same;
+      };
+      most = ⊎_elim (λ e. omega (arith, e)) (λ e. omega (arith, e)) two_or_seven;
+    }
+
+module _ (request : Request) (old new : World) (status : ℕ) (run : Runs request old new status) where
+  abbrev Now : World
+  Now = with_log new old.log
+
+  pub run_causes : Causes old new status
+  run_causes =
+      let what = said run.stop old.log new.log status run.reports in
+      let es = run.outcome.events in
+      let happened = run.outcome.happened in
+      record {
+        host_fault = λ is. host_rose es old Now run.stop happened (sym (status_of run.stop old.log new.log status what (λ seven. omega (arith, seven, is))) ∙ is);
+        random_fault = λ is. random_rose es old Now run.stop happened (sym (status_of run.stop old.log new.log status what (λ seven. omega (arith, seven, is))) ∙ is);
+        stream_fault = λ is. ⊎_elim (λ both. inl (out_rose es old Now run.stop happened (sym both.0 ∙ is))) (λ both. inr both.1) what;
+        calm = λ low.
+            let same = status_of run.stop old.log new.log status what (λ seven. ⊎_elim (λ le. omega (arith, le, seven)) (λ e. omega (arith, e, seven)) low) in
+            let passed = all_passed es old Now run.stop happened (⊎_elim (λ le. inl (omega (arith, le, same))) (λ e. inr (sym same ∙ e)) low) in
+            record {
+              host = passed.host.calm;
+              out = passed.out.calm;
+              log = ⊎_elim (λ both. both.1.calm) (λ both. absurd (⊎_elim (λ le. omega (arith, le, both.0)) (λ e. omega (arith, e, both.0)) low)) what;
+              random = passed.random.calm;
+            };
+        most = ⊎_elim (λ both. omega (arith, both.0, stop_low run.stop)) (λ both. omega (arith, both.0)) what;
+      }
+
+  by_words_at : (stop : Stop) (es : List Event) (ending : Ending) → Leads request [] ending → Stands (Leads request) es stop → Happened es stop old Now → Reports stop old.log new.log status → Reports (AtEnd ending) old.log new.log status × (Now ≡ old)
+  by_words_at (AtEnd other) es ending leads stands happened reports =
+      let alone = silent request ending other es leads stands in
+      (subst (λ (e : Ending). Reports (AtEnd e) old.log new.log status) (sym alone.1) reports, nothing_passed es old Now alone.0 happened)
+  by_words_at (Failed event) es ending leads stands happened reports = absurd (some_event es event stands.0 (silent request ending stands.1 (es ++ event ∷ stands.0) leads stands.2).0)
+  by_words_at Starved es ending leads stands happened reports = absurd (some_event es stands.0 stands.1 (silent request ending stands.2 (es ++ stands.0 ∷ stands.1) leads stands.3).0)
+
+  pub run_by_words : ByWords request old new status
+  run_by_words ending leads = by_words_at run.stop run.outcome.events ending leads run.outcome.stands run.outcome.happened run.reports
+
+  decided_at : (stop : Stop) (es events : List Event) (ending : Ending) → Leads request events ending → WereTold (answers_in events) old.host new.host → status ≤ 3 → Stands (Leads request) es stop → Happened es stop old Now → Reports stop old.log new.log status
+      → Reports (AtEnd ending) old.log new.log status
+  decided_at (AtEnd other) es events ending leads told low stands happened reports =
+      let same : other ≡ ending = decided request es events other ending stands leads (one_told old.host new.host (answers_in es) (answers_in events) happened.host.told told) in
+      subst (λ (e : Ending). Reports (AtEnd e) old.log new.log status) same reports
+  decided_at (Failed event) es events ending leads told low stands happened reports = absurd (⊎_elim (λ both. omega (arith, both.0, low, failed_high event)) (λ both. omega (arith, both.0, low)) (said (Failed event) old.log new.log status reports))
+  decided_at Starved es events ending leads told low stands happened reports = absurd (⊎_elim (λ both. omega (arith, both.0, low)) (λ both. omega (arith, both.0, low)) (said Starved old.log new.log status reports))
+
+  pub run_decided : Decided request old new status
+  run_decided events ending leads told low = decided_at run.stop run.outcome.events events ending leads told low run.outcome.stands run.outcome.happened run.reports
+
+  honest_at : (stop : Stop) (es : List Event) (files : Files) → files_of old.host ≡ Some files → NoneRose old new → Stands (Leads request) es stop → Happened es stop old Now → Reports stop old.log new.log status → Honestly request files old new status
+  honest_at (AtEnd ending) es files is none stands happened reports =
+      ⊎_elim (λ both. as_files_give (pieces_in es) ending (over request files es ending stands (all_of files (files_of old.host) (answers_in es) is happened.host.honest)) both.0 (record { told = happened.out.told; calm = happened.out.calm }) both.1)
+      (λ both. absurd (none.log both.1)) (said (AtEnd ending) old.log new.log status reports)
+  honest_at (Failed event) es files is none stands happened reports = absurd (none_failed es old Now event happened none.host none.random none.out)
+  honest_at Starved es files is none stands happened reports =
+      ⊎_elim (λ both. starved (λ pieces ending gives.
+      let front = over_front request files es (stands.0 ∷ stands.1) stands.2 ending pieces stands.3 (all_of files (files_of old.host) (answers_in es) is happened.host.honest) gives in
+      both_weaker (IsMore (bytes_in es)) (TakesFront (concat pieces)) old.out.bytes new.out.bytes happened.out.told (λ before now more. front_taken (bytes_in es) front.0 (concat pieces) before now front.1 more)) both.0 both.1)
+      (λ both. absurd (none.log both.1)) (said Starved old.log new.log status reports)
+
+  pub run_honest : Honest request old new status
+  run_honest files is none = honest_at run.stop run.outcome.events files is none run.outcome.stands run.outcome.happened run.reports
+
+  pub run_not_two : status ≡ 2 → ⊥
+  run_not_two is = ⊎_elim (λ both. not_two run.stop (sym both.0 ∙ is)) (λ both. omega (arith, both.0, is)) (said run.stop old.log new.log status run.reports)
+
+  pub run_unread : new.input ≡ old.input
+  run_unread = input_kept run.outcome.events old Now run.stop run.outcome.happened
+
+done_given : (key input output : Name) (es : List Event) (stop : Stop) → stop ≡ AtEnd Done → Stands (EncryptLeads key input output) es stop → GaveSealed key input output (answers_in es)
+done_given key input output es stop is stands = encrypt_given key input output es (subst (λ (s : Stop). Stands (EncryptLeads key input output) es s) is stands)
+
+pub run_content : (request : Request) (old new : World) (status : ℕ) → Runs request old new status → Content request old new status
+run_content (Decrypt key input) old new status run = took_content key input old new status run
+run_content (Encrypt key input output) old new status run = λ these told zero_is.
+    let es = run.outcome.events in
+    let done = done_at_zero run.stop old.log new.log status run.reports zero_is in
+    let passed : Passed es old (with_log new old.log) = subst (λ (s : Stop). Happened es s old (with_log new old.log)) done run.outcome.happened in
+    let same : answers_in es ≡ these = one_told old.host new.host (answers_in es) these passed.host.told told in
+    subst (λ (l : List Answer). GaveSealed key input output l) same (done_given key input output es run.stop done run.outcome.stands)
+
+pub run_stays : (request : Request) (old new : World) (status : ℕ) → Runs request old new status → Stays request old new
+run_stays (Decrypt key input) old new status run = undrawn (Leads (Decrypt key input)) run.outcome.events run.stop old (with_log new old.log) (decrypt_undrawn key input) run.outcome.stands run.outcome.happened
+run_stays (Encrypt key input output) old new status run = unput (Leads (Encrypt key input output)) run.outcome.events run.stop old (with_log new old.log) (encrypt_unput key input output) run.outcome.stands run.outcome.happened

@@ -1,0 +1,47 @@
+-- What holds of each command.
+use Rattle.std.proofs.Common.{◌≡◌, ℕ, List, [], ◌∷◌, ◌++◌, refl, ap, ◌∙◌, sym}
+use Rattle.std.specs.List.{AllByRecursion, concat}
+use Rattle.pf_io.specs.Disk.{Files}
+use Rattle.pf_io.specs.Answered.{IsAnswerOf}
+use Rattle.pf_tool.specs.Events.{Event, answers_in, pieces_in, words_in, bytes_in}
+use Rattle.pf_tool.specs.Endings.{Ending}
+use Rattle.pf_tool.specs.Requests.{Request, Decrypt, Encrypt, AskFor}
+use Rattle.pf_tool.specs.Runs.{Leads, Over}
+use Rattle.pf_tool.proofs.Composing.{pieces_then, no_first}
+use Rattle.pf_tool.proofs.EncryptLaws.{encrypt_unput, encrypt_silent, encrypt_one, encrypt_over, encrypt_over_one}
+use Rattle.pf_tool.proofs.DecryptLaws.{decrypt_silent, decrypt_one, decrypt_over, decrypt_front, decrypt_over_one}
+
+-- words ask for one thing
+pub one_request : (words : List (List ℕ)) (request other : Request) → AskFor words request → AskFor words other → request ≡ other
+one_request words (Decrypt key input) (Decrypt key2 input2) first second = cc
+one_request words (Decrypt key input) (Encrypt key2 input2 output2) first second = absurd (cc)
+one_request words (Encrypt key input output) (Decrypt key2 input2) first second = absurd (cc)
+one_request words (Encrypt key input output) (Encrypt key2 input2 output2) first second = cc
+
+-- where the words alone lead to an ending, nothing else does
+pub silent : (request : Request) (ending other : Ending) (es : List Event) → Leads request [] ending → Leads request es other → (es ≡ []) × (ending ≡ other)
+silent (Decrypt key input) ending other es first second = decrypt_silent key input ending other es first second
+silent (Encrypt key input output) ending other es first second = encrypt_silent key input output ending other es first second
+
+-- the same answers lead to one ending
+pub decided : (request : Request) (es others : List Event) (ending other : Ending) → Leads request es ending → Leads request others other → answers_in es ≡ answers_in others → ending ≡ other
+decided (Decrypt key input) es others ending other first second same = decrypt_one key input es others ending other first second same
+decided (Encrypt key input output) es others ending other first second same = encrypt_one key input output es others ending other first second same
+
+-- what came of what files answered is what they give
+pub over : (request : Request) (files : Files) (es : List Event) (ending : Ending) → Leads request es ending → AllByRecursion (IsAnswerOf files) (answers_in es) → Over request files (pieces_in es) ending
+over (Decrypt key input) files es ending leads all = decrypt_over key input files es ending leads all
+over (Encrypt key input output) files es ending leads all = (encrypt_unput key input output es ending leads, encrypt_over key input output files es ending leads all)
+
+-- so far the output took a front of it
+pub over_front : (request : Request) (files : Files) (es more : List Event) (ending given : Ending) (pieces : List (List ℕ)) → Leads request (es ++ more) ending → AllByRecursion (IsAnswerOf files) (answers_in es) → Over request files pieces given
+    → (rest : List ℕ) × (concat pieces ≡ bytes_in es ++ rest)
+over_front (Decrypt key input) files es more ending given pieces leads all gives = decrypt_front key input files es more ending given pieces leads all gives
+over_front (Encrypt key input output) files es more ending given pieces leads all gives =
+    let none : pieces_in es ≡ [] = no_first (pieces_in es) (pieces_in more) (sym (pieces_then es more) ∙ encrypt_unput key input output (es ++ more) ending leads) in
+    ([], ap (λ (l : List (List ℕ)). concat l) gives.0 ∙ ap (λ (l : List (List ℕ)). concat l ++ []) (sym none))
+
+-- files give one output and one ending
+pub over_one : (request : Request) (files : Files) (pieces others : List (List ℕ)) (ending other : Ending) → Over request files pieces ending → Over request files others other → (pieces ≡ others) × (ending ≡ other)
+over_one (Decrypt key input) files pieces others ending other first second = decrypt_over_one key input files pieces others ending other first second
+over_one (Encrypt key input output) files pieces others ending other first second = (first.0 ∙ sym second.0, encrypt_over_one key input output files ending other first.1 second.1)

@@ -1,0 +1,33 @@
+use Rattle.std.proofs.Common.{sym, subst}
+use Rattle.pf_tool.specs.World.{world_of}
+use Rattle.pf_tool.specs.Requests.{Decrypt, Encrypt, request_of}
+use Rattle.pf_tool.specs.Runs.{Runs}
+use Rattle.pf_tool.specs.declared.words.Command.{Command}
+use Rattle.pf_tool.proofs.RunClauses.{concluded}
+use Rattle.pf_tool.proofs.run.run_command.Goals as goal
+
+pub returns-in-Decrypt : goal.returns-in-Decrypt
+returns-in-Decrypt g c input =
+    let h0 = g.H.Host.state c.args.host.now in
+    let h1 = g.H.Host.state c.decrypt.new.host in
+    let o0 = g.K.Sink.state c.args.out.now in
+    let o1 = g.K.Sink.state c.decrypt.new.out in
+    let l0 = g.L.Sink.state c.args.log.now in
+    let l1 = g.L.Sink.state c.conclude.new.log in
+    let r0 = g.R.Words.state c.args.random.now in
+    let command = c.in-Decrypt.command in
+    subst (λ (x : Command). Runs (request_of x) (world_of h0 input o0 l0 r0) (world_of h1 input o1 l1 r0) c.conclude.result) (sym c.in-Decrypt.is)
+    (concluded (Decrypt command.key.now command.input.now) c.decrypt.result h0 h1 input o0 o1 l0 l1 r0 r0 c.conclude.result (c.decrypt.ensures (world_of h0 input o0 l0 r0)) c.conclude.ensures)
+
+pub returns-in-Encrypt : goal.returns-in-Encrypt
+returns-in-Encrypt g c input =
+    let h0 = g.H.Host.state c.args.host.now in
+    let h1 = g.H.Host.state c.encrypt.new.host in
+    let o0 = g.K.Sink.state c.args.out.now in
+    let l0 = g.L.Sink.state c.args.log.now in
+    let l1 = g.L.Sink.state c.conclude-in-Encrypt.new.log in
+    let r0 = g.R.Words.state c.args.random.now in
+    let r1 = g.R.Words.state c.encrypt.new.random in
+    let command = c.in-Encrypt.command in
+    subst (λ (x : Command). Runs (request_of x) (world_of h0 input o0 l0 r0) (world_of h1 input o0 l1 r1) c.conclude-in-Encrypt.result) (sym c.in-Encrypt.is)
+    (concluded (Encrypt command.key.now command.input.now command.output.now) c.encrypt.result h0 h1 input o0 o0 l0 l1 r0 r1 c.conclude-in-Encrypt.result (c.encrypt.ensures (world_of h0 input o0 l0 r0)) c.conclude-in-Encrypt.ensures)

@@ -1,0 +1,87 @@
+-- How a run ends, and what it then says.
+use Rattle.std.specs.Prelude.{ℕ, List, [], ◌∷◌, ◌++◌, codes}
+use Rattle.std.specs.Fmt.{decimal}
+use Rattle.node_layout.specs.declared.damage.Kind.{Kind}
+use Rattle.node_layout.specs.declared.damage.Kind.TheVariants as kinds
+use Rattle.pf_io.specs.Disk.{Name}
+use Rattle.pf_tool.specs.Events.{Event, Answers, Draws, Puts}
+
+-- what the events of a command lead to: its work is done, or a damage or a refusal by name
+pub data Ending : Type 0 where
+  Done : Ending
+  Damaged : (node : ℕ) → (kind : Kind) → Ending
+  BadName : Ending
+  NotFound : (name : Name) → Ending
+  KeyFile : (number : ℕ) → Ending
+  NotProtected : Ending
+  Unbuilt : Ending
+
+-- Where a run stops: at an ending, in a call that failed and was to give this event, or for want of memory.
+pub data Stop : Type 0 where
+  AtEnd : (ending : Ending) → Stop
+  Failed : (event : Event) → Stop
+  Starved : Stop
+
+-- the events, and the one that failed
+abbrev pub tried : List Event → Stop → List Event
+tried events (AtEnd ending) = events
+tried events (Failed event) = events ++ event ∷ []
+tried events Starved = events
+
+-- a text and the end of its line
+abbrev pub line : List ℕ → List ℕ
+line text = text ++ 10 ∷ []
+
+abbrev pub kind_word : Kind → List ℕ
+kind_word kinds.Short = codes "short"
+kind_word kinds.Tag = codes "tag"
+kind_word kinds.Text = codes "text"
+kind_word kinds.Log = codes "log"
+
+-- what an ending writes to the log
+abbrev pub ending_line : Ending → List ℕ
+ending_line Done = []
+ending_line (Damaged node kind) = line (codes "damaged node " ++ decimal node ++ codes " " ++ kind_word kind)
+ending_line BadName = line (codes "refused bad name")
+ending_line (NotFound name) = line (codes "refused not found " ++ name)
+ending_line (KeyFile number) = line (codes "refused key file " ++ decimal number)
+ending_line NotProtected = line (codes "refused not protected")
+ending_line Unbuilt = line (codes "refused unbuilt")
+
+abbrev pub ending_status : Ending → ℕ
+ending_status Done = 0
+ending_status (Damaged node kind) = 1
+ending_status BadName = 3
+ending_status (NotFound name) = 3
+ending_status (KeyFile number) = 3
+ending_status NotProtected = 3
+ending_status Unbuilt = 3
+
+abbrev pub no_command_line : List ℕ
+no_command_line = line (codes "usage: unbuilt words")
+
+abbrev pub host_line : List ℕ
+host_line = line (codes "host fault")
+
+abbrev pub memory_line : List ℕ
+memory_line = line (codes "want of memory")
+
+abbrev pub random_line : List ℕ
+random_line = line (codes "random fault")
+
+abbrev pub stream_line : List ℕ
+stream_line = line (codes "stream fault")
+
+abbrev pub stop_line : Stop → List ℕ
+stop_line (AtEnd ending) = ending_line ending
+stop_line (Failed (Answers answer)) = host_line
+stop_line (Failed (Draws word)) = random_line
+stop_line (Failed (Puts bytes)) = stream_line
+stop_line Starved = memory_line
+
+abbrev pub stop_status : Stop → ℕ
+stop_status (AtEnd ending) = ending_status ending
+stop_status (Failed (Answers answer)) = 4
+stop_status (Failed (Draws word)) = 6
+stop_status (Failed (Puts bytes)) = 7
+stop_status Starved = 5

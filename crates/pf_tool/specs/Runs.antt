@@ -1,0 +1,124 @@
+-- What a run of the program comes to, by what its words ask for.
+use Rattle.std.specs.Prelude.{◌≡◌, ◌≢◌, ◌⊎◌, ℕ, ◌≤◌, List, [], Some}
+use Rattle.std.specs.List.{concat}
+use Rattle.pf_io.specs.Counts.{Rose}
+use Rattle.pf_io.specs.Disk.{Name, Files, Disk, Image, IsImageAt}
+use Rattle.pf_io.specs.Host.{Answer, HostState, Both, OnDisk, files_of}
+use Rattle.pf_io.specs.Moments.{Ran}
+use Rattle.pf_io.specs.Names.{side_of}
+use Rattle.pf_io.specs.Streams.{TakesFront}
+use Rattle.pf_io.specs.Answered.{WereTold}
+use Rattle.pf_io.specs.Unchanged.{KeepsDisk}
+use Rattle.pf_tool.specs.World.{World, with_log}
+use Rattle.pf_tool.specs.Events.{Event, answers_in}
+use Rattle.pf_tool.specs.Endings.{Ending, Stop, AtEnd, ending_line, ending_status, memory_line, no_command_line}
+use Rattle.pf_tool.specs.Outcomes.{Outcome}
+use Rattle.pf_tool.specs.Reports.{Wrote, Reported, Reports}
+use Rattle.pf_tool.specs.Requests.{Request, Decrypt, Encrypt}
+use Rattle.pf_tool.specs.SideFiles.{IsNewFile}
+use Rattle.pf_tool.specs.Decrypting.{DecryptLeads, DecryptOver}
+use Rattle.pf_tool.specs.Encrypting.{EncryptLeads, EncryptLeaves, EncryptOver, GaveSealed, IsVersion}
+use Rattle.pf_tool.specs.Contents.{TookContent}
+
+-- all events of a run with this ending
+abbrev pub Leads : Request → List Event → Ending → Type 0
+Leads (Decrypt key input) events ending = DecryptLeads key input events ending
+Leads (Encrypt key input output) events ending = EncryptLeads key input output events ending
+
+-- what is left on the host after what was tried
+abbrev pub Leaves : Request → List Event → Stop → HostState → HostState → Type 0
+Leaves (Decrypt key input) tried stop old new = KeepsDisk old new
+Leaves (Encrypt key input output) tried stop old new = EncryptLeaves key input output tried stop old new
+
+-- the pieces for the output, and the ending, that files give
+abbrev pub Over : Request → Files → List (List ℕ) → Ending → Type 0
+Over (Decrypt key input) files pieces ending = DecryptOver key input files pieces ending
+Over (Encrypt key input output) files pieces ending = (pieces ≡ []) × EncryptOver key input output files ending
+
+-- The whole of a run: where it stopped, what had happened until then, and what it said.
+pub record Runs (request : Request) (old new : World) (status : ℕ) : Type 0 where
+  pub stop : Stop
+  pub outcome : Outcome (Leads request) (Leaves request) stop old (with_log new old.log)
+  pub reports : Reports stop old.log new.log status
+
+-- words that are no command are named so, and nothing else is done
+pub record Usage (old new : World) (status : ℕ) : Type 0 where
+  pub said : Reported no_command_line 2 old.log new.log status
+  pub untouched : with_log new old.log ≡ old
+
+-- no count of faults rose
+pub record Calm (old new : World) : Type 0 where
+  pub host : new.host.faults ≡ old.host.faults
+  pub out : new.out.faults ≡ old.out.faults
+  pub log : new.log.faults ≡ old.log.faults
+  pub random : new.random.faults ≡ old.random.faults
+
+-- which count rose
+pub record Causes (old new : World) (status : ℕ) : Type 0 where
+  pub host_fault : status ≡ 4 → Rose old.host.faults new.host.faults
+  pub random_fault : status ≡ 6 → Rose old.random.faults new.random.faults
+  pub stream_fault : status ≡ 7 → Rose old.out.faults new.out.faults ⊎ Rose old.log.faults new.log.faults
+  pub calm : (status ≤ 3) ⊎ (status ≡ 5) → Calm old new
+  pub most : status ≤ 7
+
+-- where the words alone lead to an ending, it is reported, and nothing else is done
+abbrev pub ByWords : Request → World → World → ℕ → Type 0
+ByWords request old new status = (ending : Ending) → Leads request [] ending → Reports (AtEnd ending) old.log new.log status × (with_log new old.log ≡ old)
+
+-- What was put out of a protected file is of one sealed version, where nothing that was given is forged. What was sealed has the
+-- bytes given as content.
+abbrev pub Content : Request → World → World → ℕ → Type 0
+Content (Decrypt key input) old new status = TookContent key input old new status
+Content (Encrypt key input output) old new status = (these : List Answer) → WereTold these old.host new.host → status ≡ 0 → GaveSealed key input output these
+
+-- where the host told these answers, and they lead to an ending, it is reported
+abbrev pub Decided : Request → World → World → ℕ → Type 0
+Decided request old new status = (events : List Event) (ending : Ending) → Leads request events ending → WereTold (answers_in events) old.host new.host → status ≤ 3
+    → Reports (AtEnd ending) old.log new.log status
+
+-- no count of faults rose, and none stands at its last value
+pub record NoneRose (old new : World) : Type 0 where
+  pub host : ¬ (Rose old.host.faults new.host.faults)
+  pub out : ¬ (Rose old.out.faults new.out.faults)
+  pub log : ¬ (Rose old.log.faults new.log.faults)
+  pub random : ¬ (Rose old.random.faults new.random.faults)
+
+-- What files give is written and said. Or there was no memory, and whatever they give, the output took a front of it.
+pub data Honestly (request : Request) (files : Files) (old new : World) (status : ℕ) : Type 0 where
+  as_files_give : (pieces : List (List ℕ)) (ending : Ending) → Over request files pieces ending → status ≡ ending_status ending → Wrote (concat pieces) old.out new.out → Wrote (ending_line ending) old.log new.log
+      → Honestly request files old new status
+  starved : ((pieces : List (List ℕ)) (ending : Ending) → Over request files pieces ending → Both old.out.bytes new.out.bytes (TakesFront (concat pieces))) → status ≡ 5 → Wrote memory_line old.log new.log
+      → Honestly request files old new status
+
+abbrev pub Honest : Request → World → World → ℕ → Type 0
+Honest request old new status = (files : Files) → files_of old.host ≡ Some files → NoneRose old new → Honestly request files old new status
+
+-- files give one output and one ending
+abbrev pub OneOver : Type 0
+OneOver = (request : Request) (files : Files) (pieces others : List (List ℕ)) (ending other : Ending) → Over request files pieces ending → Over request files others other → (pieces ≡ others) × (ending ≡ other)
+
+-- the output may hold a new file: the work is done, or the host failed
+abbrev pub MayBeNew : World → World → ℕ → Type 0
+MayBeNew old new status = (status ≡ 0) ⊎ Rose old.host.faults new.host.faults
+
+-- Every name but the output's and its side file's is as before. The output is as before, or where it may be new it stands for
+-- the input under the key, under some nonce.
+pub record OutputLeft (key input output : Name) (may : Type 0) (disk : Disk) (image : Image) : Type 0 where
+  pub here : IsImageAt (disk output) (image output) ⊎ (may × IsVersion key input output disk (image output))
+  pub others : (other : Name) → other ≢ output → other ≢ side_of output → IsImageAt (disk other) (image other)
+
+pub record OutputEnds (key input output : Name) (may whole : Type 0) (old new : Disk) : Type 0 where
+  pub done : whole → IsNewFile (IsVersion key input output old) (new output)
+  pub here : (new output ≡ old output) ⊎ (may × IsNewFile (IsVersion key input output old) (new output))
+  pub others : (other : Name) → other ≢ output → other ≢ side_of output → new other ≡ old other
+
+-- a run at every moment of it, and in the end, on an honest disk
+abbrev pub OnDisks : Request → World → World → ℕ → Type 0
+OnDisks (Decrypt key input) old new status = KeepsDisk old.host new.host
+OnDisks (Encrypt key input output) old new status = OnDisk old.host new.host
+    (Ran (OutputLeft key input output (MayBeNew old new status)) (OutputEnds key input output (MayBeNew old new status) (status ≡ 0)))
+
+-- what a run leaves alone
+abbrev pub Stays : Request → World → World → Type 0
+Stays (Decrypt key input) old new = new.random ≡ old.random
+Stays (Encrypt key input output) old new = new.out ≡ old.out
