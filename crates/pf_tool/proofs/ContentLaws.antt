@@ -326,8 +326,22 @@ text_opens : (user node text : List ℕ) (sheets : List Sheet) (these : List Ans
 text_opens user node text sheets these input gave whole unforged fault =
     let there = unforged.metadata node fault.0 (record { name = input; place = 0; room = 4096; there = gave; whole = whole }) fault.1 in
     let sheet = there.0 in
-    fault.2 (sheet.path, (length sheet.content, ((root_of sheet.nodes).0, ((root_of sheet.nodes).1, (first_text sheet.content,
-    subst (λ (t : List ℕ). IsMetaText t sheet.path (length sheet.content) (root_of sheet.nodes).0 (root_of sheet.nodes).1 (first_text sheet.content)) (sym there.3) (meta_is_text sheet (unforged.linked sheet there.1)))))))
+    fault.2 (
+      sheet.path,
+      (
+        length sheet.content,
+        (
+          (root_of sheet.nodes).0,
+          (
+            (root_of sheet.nodes).1,
+            (
+              first_text sheet.content,
+              subst (λ (t : List ℕ). IsMetaText t sheet.path (length sheet.content) (root_of sheet.nodes).0 (root_of sheet.nodes).1 (first_text sheet.content)) (sym there.3) (meta_is_text sheet (unforged.linked sheet there.1)),
+            ),
+          ),
+        ),
+      ),
+    )
 
 module _ (key input : Name) (user : List ℕ) (sheets : List Sheet) where
   key_of : (size : ℕ) (node user' : List ℕ) → Contains (LengthWas key (Some 16) ∷ Gave key 0 16 user' ∷ LengthWas input (Some size) ∷ Gave input 0 4096 node ∷ []) (Gave key 0 16 user) → user ≡ user'
@@ -418,8 +432,8 @@ module _ (key input : Name) (user : List ℕ) (sheets : List Sheet) where
                 never_text = never;
               }
         ] where
-      end_same : (e f : Ending) → AtEnd e ≡ AtEnd f → e ≡ f
-      end_same e f is = cc
+          end_same : (e f : Ending) → AtEnd e ≡ AtEnd f → e ≡ f
+          end_same e f is = cc
 
   -- a run that stopped at no ending, by what it has tried
   by_pieces : (es : List Event) (stop : Stop) → ((ending : Ending) → stop ≡ AtEnd ending → ⊥) → ((sheet : Sheet) → Contains sheets sheet → IsCarried user input (answers_in es) sheet → ArePiecesOf sheet.content 0 (pieces_in (tried es stop)))

@@ -45,9 +45,11 @@ these_told old new these those told were =
 front_of : (content : List ℕ) (at : ℕ) (pieces : List (List ℕ)) → ArePiecesOf content at pieces → (rest : List ℕ) × (drop at content ≡ concat pieces ++ rest)
 front_of content at [] are = (drop at content, refl)
 front_of content at (piece ∷ pieces) are =
-    let more = front_of content (at + PIECE) pieces are.2 in
-    (more.0, sym (take-append-drop PIECE (drop at content)) ∙ ap (λ (l : List ℕ). take PIECE (drop at content) ++ l) (drop-drop PIECE at content ∙ more.1)
-    ∙ ap (λ (l : List ℕ). l ++ (concat pieces ++ more.0)) (sym are.1) ∙ sym (append_assoc piece (concat pieces) more.0))
+    let more = front_of content (at + PIECE) pieces are.2 in (
+      more.0,
+      sym (take-append-drop PIECE (drop at content)) ∙ ap (λ (l : List ℕ). take PIECE (drop at content) ++ l) (drop-drop PIECE at content ∙ more.1)
+          ∙ ap (λ (l : List ℕ). l ++ (concat pieces ++ more.0)) (sym are.1) ∙ sym (append_assoc piece (concat pieces) more.0),
+    )
 
 front_taken : (bytes rest all before now : List ℕ) → all ≡ bytes ++ rest → IsMore bytes before now → TakesFront all before now
 front_taken bytes rest all before now is more = record { count = length bytes; taken = more ∙ ap (λ (l : List ℕ). before ++ l) (sym (take-append_seam bytes rest) ∙ ap (λ (l : List ℕ). take (length bytes) l) (sym is)) }

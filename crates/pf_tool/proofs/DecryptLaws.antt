@@ -161,10 +161,9 @@ unseals_one user input es others e f (input_read size file pieces target comes i
     let first : block_of file 0 ≡ block_of file2 0 = cc in
     let rest : answers_in (piece_events input file 0 pieces e) ≡ answers_in (piece_events input file2 0 pieces2 f) = cc in
     let there = follow_file user input (only_file file2) file pieces e comes first (subst (λ (l : List Answer). AllByRecursion (IsAnswerOf (only_file file2)) l) (sym rest) (own_pieces input file2 0 pieces2 f)) in
-    let one = comes_one user file2 pieces pieces2 e f there.0 comes2 in
-    (
+    let one = comes_one user file2 pieces pieces2 e f there.0 comes2 in (
       is ∙ ap₂ (λ (n : ℕ) (b : List ℕ). Answers (LengthWas input (Some n)) ∷ Answers (Gave input 0 4096 b) ∷ piece_events input file 0 pieces e) sizes first
-      ∙ ap (λ (l : List Event). Answers (LengthWas input (Some size2)) ∷ Answers (Gave input 0 4096 (block_of file2 0)) ∷ l) (there.1 ∙ ap₂ (λ (ps : List (List ℕ)) (x : Ending). piece_events input file2 0 ps x) one.0 one.1) ∙ sym is2,
+          ∙ ap (λ (l : List Event). Answers (LengthWas input (Some size2)) ∷ Answers (Gave input 0 4096 (block_of file2 0)) ∷ l) (there.1 ∙ ap₂ (λ (ps : List (List ℕ)) (x : Ending). piece_events input file2 0 ps x) one.0 one.1) ∙ sym is2,
       one.1,
     )
 
@@ -325,14 +324,14 @@ module _ (key input : Name) where
               let front = front_file user input files file qs pieces ending given left more comes here answers.1.0 then answers.1.1 in
               (front.0, front.1 ∙ ap (λ (l : List Event). bytes_in l ++ front.0) (sym are))
         ] where
-      the_file : (bytes : List ℕ) → files input ≡ Some bytes → DecryptOver key input files pieces given → ComesTo user (contents (files input)) pieces given
-      the_file bytes there (decrypt_no_key none nothing) = let same = key_over_one files key (Ok user) (Err given) over none in absurd (cc)
-      the_file bytes there (decrypt_unnamed user2 over2 u nothing ends) = absurd (u target)
-      the_file bytes there (decrypt_no_input user2 over2 target2 absent nothing ends) = absurd (cc)
-      the_file bytes there (decrypt_file user2 bytes2 over2 target2 there2 comes2) =
-          let same = key_over_one files key (Ok user2) (Ok user) over2 over in
-          let one : user2 ≡ user = cc in
-          subst (λ (o : Option (List ℕ)). ComesTo user (contents o) pieces given) (sym there2) (subst (λ (v : List ℕ). ComesTo v bytes2 pieces given) one comes2)
+          the_file : (bytes : List ℕ) → files input ≡ Some bytes → DecryptOver key input files pieces given → ComesTo user (contents (files input)) pieces given
+          the_file bytes there (decrypt_no_key none nothing) = let same = key_over_one files key (Ok user) (Err given) over none in absurd (cc)
+          the_file bytes there (decrypt_unnamed user2 over2 u nothing ends) = absurd (u target)
+          the_file bytes there (decrypt_no_input user2 over2 target2 absent nothing ends) = absurd (cc)
+          the_file bytes there (decrypt_file user2 bytes2 over2 target2 there2 comes2) =
+              let same = key_over_one files key (Ok user2) (Ok user) over2 over in
+              let one : user2 ≡ user = cc in
+              subst (λ (o : Option (List ℕ)). ComesTo user (contents o) pieces given) (sym there2) (subst (λ (v : List ℕ). ComesTo v bytes2 pieces given) one comes2)
 
     pub decrypt_front : (es more : List Event) (ending given : Ending) (pieces : List (List ℕ)) → DecryptLeads key input (es ++ more) ending → AllByRecursion (IsAnswerOf files) (answers_in es) → DecryptOver key input files pieces given
         → (rest : List ℕ) × (concat pieces ≡ bytes_in es ++ rest)

@@ -78,8 +78,7 @@ module _ (input : Name) (files : Files) (file : List ℕ) (secret : MetaSecret) 
       let parts = all_split (IsAnswerOf files) (answers_in (node_events input file (node_count at) until)) (answers_in (piece_events input file (at + PIECE) pieces (end_of end)))
       (subst (λ (l : List Answer). AllByRecursion (IsAnswerOf files) l) (answers_append (node_events input file (node_count at) until) (Puts piece ∷ piece_events input file (at + PIECE) pieces (end_of end))) all) in
       let same = nodes_same (node_count at) until (before are.0) parts.0 in
-      let rest = follow (at + PIECE) pieces end (λ more. same_sooner (node_count (at + PIECE)) until file (contents (files input)) (let full : length piece ≡ PIECE = omega (arith, long) in omega (arith, ap (λ (m : ℕ). node_count (at + m)) full)) same) are.2 parts.1 in
-      (
+      let rest = follow (at + PIECE) pieces end (λ more. same_sooner (node_count (at + PIECE)) until file (contents (files input)) (let full : length piece ≡ PIECE = omega (arith, long) in omega (arith, ap (λ (m : ℕ). node_count (at + m)) full)) same) are.2 parts.1 in (
         (are.0, same_whole until file (contents (files input)) same (secret.root_key, secret.root_tag) secret.first at n piece (omega (arith, ap (λ (m : ℕ). node_count (at + m)) long)) are.1, rest.0),
         ap₂ (λ (a b : List Event). a ++ Puts piece ∷ b) (same_events input file (contents (files input)) (node_count at) until same) rest.1,
       )

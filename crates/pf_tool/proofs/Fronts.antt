@@ -106,8 +106,7 @@ module _ (input : Name) (node : List ℕ) (secret : MetaSecret) (at : ℕ) (file
             (lt, same_whole (node_count (at + n)) other more alike_n (root_entry secret) secret.first at n piece (omega arith) whole, are) in
             let joined : (front.pieces ++ piece ∷ []) ++ rest ≡ front.pieces ++ piece ∷ rest = simp append_assoc in
             let nodes : node_events input more (node_count at) (node_count (at + length piece)) ≡ node_events input other (node_count at) (node_count (at + length piece)) =
-            same_events input more other (node_count at) (node_count (at + length piece)) (λ k below. sym (alike_n k (omega (arith, below, ap (λ (m : ℕ). node_count (at + m)) long)))) in
-            (
+            same_events input more other (node_count at) (node_count (at + length piece)) (λ k below. sym (alike_n k (omega (arith, below, ap (λ (m : ℕ). node_count (at + m)) long)))) in (
               subst (λ (ps : List (List ℕ)). ArePiecesFrom more secret 0 ps end) (sym joined) all.0,
               ap (λ (ps : List (List ℕ)). piece_events input more 0 ps (end_of end)) joined ∙ all.1 ∙ ap (λ (l : List Event). events ++ (l ++ (Puts piece ∷ piece_events input more (at + PIECE) rest (end_of end)))) nodes ∙ simp append_assoc,
             );
@@ -158,8 +157,8 @@ module _ (input : Name) (node : List ℕ) (secret : MetaSecret) where
                   }
             ]
       ] where
-    last : (at n : ℕ) → at < secret.size → n ≡ min PIECE (secret.size - at) → node_count (at + n) ≤ node_count at → secret.size ≤ at + PIECE
-    last at n lt is none = omega arith
+        last : (at n : ℕ) → at < secret.size → n ≡ min PIECE (secret.size - at) → node_count (at + n) ≤ node_count at → secret.size ≤ at + PIECE
+        last at n lt is none = omega arith
 
   module _ (at : ℕ) (file : List ℕ) (events : List Event) (front : Front input node secret at file events) (lt : at < secret.size) (other : List ℕ) (same : SameTo (node_count at) file other) where
     here : min at secret.size ≡ at
@@ -174,12 +173,14 @@ module _ (input : Name) (node : List ℕ) (secret : MetaSecret) where
         let n = min PIECE (secret.size - at) in
         let damage : Damage = record { node = j; kind = Short } in
         let ends = close input node secret at file events front other [] (Some damage) same_here (lt, broken_next secret other j ready at n (omega arith) low high) in
-        let event = Answers (Gave input (4096 * j) 4096 (block_of other j)) in
-        (block_of other j, record {
-          rest = [];
-          ending = end_of (Some damage);
-          leads = subst (λ (l : List Event). PiecesLead input node secret l (end_of (Some damage))) (ap (λ (l : List Event). events ++ l) (one_node input other (node_count at) j low) ∙ simp append_assoc) ends;
-        })
+        let event = Answers (Gave input (4096 * j) 4096 (block_of other j)) in (
+          block_of other j,
+          record {
+            rest = [];
+            ending = end_of (Some damage);
+            leads = subst (λ (l : List Event). PiecesLead input node secret l (end_of (Some damage))) (ap (λ (l : List Event). events ++ l) (one_node input other (node_count at) j low) ∙ simp append_assoc) ends;
+          },
+        )
 
     -- behind a piece whose nodes open, it is put out
     pub puts_piece : (piece : List ℕ) → IsWhole NothingHeld (BlockOf other) (root_entry secret) secret.first at (min PIECE (secret.size - at)) piece → Ready secret other (node_count (at + min PIECE (secret.size - at)))

@@ -98,9 +98,11 @@ module _ (user : List ℕ) (input output : Name) (target : IsTarget output) (fit
         Started = with_random (with_host world s2) r1
 
         begins_on : (es : List Event) (ending : Ending) → Begins user output es ending → GoesOn (Seals user input output) (First ++ es)
-        begins_on es ending begins =
-            (Answers (Gave input 0 3073 []) ∷ published_events user output [] [] [], Done,
-            subst (λ (l : List Event). Seals user input output ((First ++ l) ++ Answers (Gave input 0 3073 []) ∷ published_events user output [] [] []) Done) (sym begins.are) (empty_done size begins.first begins.second))
+        begins_on es ending begins = (
+          Answers (Gave input 0 3073 []) ∷ published_events user output [] [] [],
+          Done,
+          subst (λ (l : List Event). Seals user input output ((First ++ l) ++ Answers (Gave input 0 3073 []) ∷ published_events user output [] [] []) Done) (sym begins.are) (empty_done size begins.first begins.second),
+        )
 
         pub not_begun : (fault : Fault) → Falls (Begins user output) (LeavesBegun output) fault Asked Started → Falls (Seals user input output) (LeavesSealed user input output) fault Start Started
         not_begun fault falls =
@@ -132,9 +134,11 @@ module _ (user : List ℕ) (input output : Name) (target : IsTarget output) (fit
           started_disk more =
               let begun = begun_events user output o.stands.first o.stands.second in
               let made : IsMade (Started_events ++ more) output = (3, omega arith, refl) in
-              let left : LeavesBegun output begun (AtEnd Done) s1 s2 = subst (λ (l : List Event). LeavesBegun output l (AtEnd Done) s1 s2) o.stands.are o.leaves in
-              (made, begun_done user input output (Started_events ++ more) made begun s0.honest s2.honest
-              (begun_run user input output (Started_events ++ more) begun (AtEnd Done) s0.honest s1.honest s2.honest (λ there. made) (kept_run user input output (Started_events ++ more) s0 s1 kept) left))
+              let left : LeavesBegun output begun (AtEnd Done) s1 s2 = subst (λ (l : List Event). LeavesBegun output l (AtEnd Done) s1 s2) o.stands.are o.leaves in (
+                made,
+                begun_done user input output (Started_events ++ more) made begun s0.honest s2.honest
+                    (begun_run user input output (Started_events ++ more) begun (AtEnd Done) s0.honest s1.honest s2.honest (λ there. made) (kept_run user input output (Started_events ++ more) s0 s1 kept) left),
+              )
 
           module _ (s3 : HostState) (does : Both s2.honest s3.honest (Does Stays)) where
             abbrev Reads : World

@@ -98,8 +98,7 @@ follow_file user input files file pieces ending (node_refused refused none) firs
 )
 follow_file user input files file pieces ending (pieces_read end whole are is) first all =
     let all_here = subst (λ (e : Ending). AllByRecursion (IsAnswerOf files) (answers_in (piece_events input file 0 pieces e))) is all in
-    let rest = follow input files file are.secret 0 pieces end (λ some k lt. let e : k ≡ 0 = omega arith in subst (λ (j : ℕ). block_of file j ≡ block_of (contents (files input)) j) (sym e) first) are.pieces_are all_here in
-    (
+    let rest = follow input files file are.secret 0 pieces end (λ some k lt. let e : k ≡ 0 = omega arith in subst (λ (j : ℕ). block_of file j ≡ block_of (contents (files input)) j) (sym e) first) are.pieces_are all_here in (
       pieces_read end (subst IsWhole first whole) (record { secret = are.secret; opens_to = subst (λ (b : List ℕ). OpensTo user b are.secret) first are.opens_to; pieces_are = rest.0 }) is,
       ap (λ (e : Ending). piece_events input file 0 pieces e) is ∙ rest.1 ∙ sym (ap (λ (e : Ending). piece_events input (contents (files input)) 0 pieces e) is),
     )

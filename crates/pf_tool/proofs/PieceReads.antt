@@ -184,9 +184,11 @@ module _ (input : Name) (secret : MetaSecret) (at : ℕ) (file : List ℕ) (tree
         | inr later ↦
             let there = subst (λ (l : List ℕ). Contains l k) (sym in_order) (in_range (node_count at) (length done) k later high) in
             let gave = asks_given input done these k asks there in
-            let o = opens k gave.0 gave.1 in
-            (o.0, subst (λ (root : Entry). Opened NothingHeld (BlockOf grown_front.other) root k o.0) holding.root_is
-            (file_opened input these (only_file grown_front.other) grown_front.grown.answers tree (of_same grown_front.other grown_front.grown.same) k o.0 o.1))
+            let o = opens k gave.0 gave.1 in (
+              o.0,
+              subst (λ (root : Entry). Opened NothingHeld (BlockOf grown_front.other) root k o.0) holding.root_is
+                  (file_opened input these (only_file grown_front.other) grown_front.grown.answers tree (of_same grown_front.other grown_front.grown.same) k o.0 o.1),
+            )
       ];
     }
 

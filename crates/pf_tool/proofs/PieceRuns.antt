@@ -155,7 +155,6 @@ so_far_none input node secret host out whole =
       passed = λ world. passed_none (facing world host out);
     }
 
-
 module _ (input : Name) (node : List ℕ) (secret : MetaSecret) (at : ℕ) (tree : TreeState) (old now : HostState) (before out : SinkState) (so_far : SoFar input node secret at tree old now before out) (files : KeepsFiles old now) where
   -- all pieces were put out
   pub pieces_done : secret.size ≤ at → KeepsDisk old now → (world : World) → Outcome (PiecesLead input node secret) (λ _ _. KeepsDisk) (AtEnd Done) (facing world old before) (facing world now out)

@@ -76,8 +76,11 @@ seals_swaps key user input output rest ending (input_absent target fit is ends) 
 seals_swaps key user input output rest ending (input_large size first second bytes target fit large is ends) =
     inl (subst (λ (l : List Event). NoSwap (key_events key user ++ l)) (sym is) (λ no. no, (λ no. no, (λ no. no, (λ no. no, (λ no. no, (λ no. no, (λ no. no, (λ no. no, (λ no. no, tt))))))))))
 seals_swaps key user input output rest ending (published size first second third fourth content target fit small is ends) =
-    inr (ends, subst (λ (l : List Event). OnlyLast (key_events key user ++ l)) (sym is)
-    (λ no. no, (λ no. no, (λ no. no, (λ no. no, (λ no. no, (λ no. no, (λ no. no, (λ no. no, (λ no. no, (λ no. no, (λ no. no, (λ no. no, (λ no. no, tt))))))))))))))
+    inr (
+      ends,
+      subst (λ (l : List Event). OnlyLast (key_events key user ++ l)) (sym is)
+          (λ no. no, (λ no. no, (λ no. no, (λ no. no, (λ no. no, (λ no. no, (λ no. no, (λ no. no, (λ no. no, (λ no. no, (λ no. no, (λ no. no, (λ no. no, tt))))))))))))),
+    )
 
 module _ (key input output : Name) where
   leads_swaps : (es : List Event) (ending : Ending) → EncryptLeads key input output es ending → Swaps es ending

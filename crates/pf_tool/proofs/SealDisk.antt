@@ -207,8 +207,11 @@ module _ (user : List ℕ) (output : Name) (content : List ℕ) (tried : List Ev
               others = λ other ne side. swaps.others other side ne ∙ keeps.others other side;
             },
             λ image left. record {
-              here = inr (tries, subst (λ (n : List ℕ). StandsFor user output n content (image output)) drawn
-                  (image_stands user nonce output content keeps.file (image output) path long small bytes_are keeps.settled (subst (λ (o : Option File). IsImageAt o (image output)) moved (left output))));
+              here = inr (
+                tries,
+                subst (λ (n : List ℕ). StandsFor user output n content (image output)) drawn
+                    (image_stands user nonce output content keeps.file (image output) path long small bytes_are keeps.settled (subst (λ (o : Option File). IsImageAt o (image output)) moved (left output))),
+              );
               others = λ other ne side. subst (λ (o : Option File). IsImageAt o (image other)) (swaps.others other side ne ∙ keeps.others other side) (left other);
             },
           )

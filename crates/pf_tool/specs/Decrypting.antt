@@ -88,4 +88,3 @@ pub data DecryptOver (key input : Name) (files : Files) (pieces : List (List ℕ
   decrypt_unnamed : (user : List ℕ) → KeyOver files key (Ok user) → ¬ (IsTarget input) → pieces ≡ [] → ending ≡ BadName → DecryptOver key input files pieces ending
   decrypt_no_input : (user : List ℕ) → KeyOver files key (Ok user) → IsTarget input → files input ≡ None → pieces ≡ [] → ending ≡ NotFound input → DecryptOver key input files pieces ending
   decrypt_file : (user file : List ℕ) → KeyOver files key (Ok user) → IsTarget input → files input ≡ Some file → ComesTo user file pieces ending → DecryptOver key input files pieces ending
-

@@ -213,6 +213,17 @@ fn an_output_that_fails_has_the_pieces_before(rt: HostRuntime) -> Result<(), Fai
     Ok(())
 }
 
+// Node 0 of version 1.0, from its parts.
+fn node_of_parts(nonce: &[u8; 32], tag: &[u8; 16], part: &[u8; 3880]) -> [u8; 4096] {
+    let mut node = [0; 4096];
+    node[..8].copy_from_slice(b"GRPFTOOL");
+    node[8] = 1;
+    node[10..42].copy_from_slice(nonce);
+    node[42..58].copy_from_slice(tag);
+    node[59..3939].copy_from_slice(part);
+    node
+}
+
 // Node 0 of the path `hello.pf` and the content `hello`, byte by byte, under the nonce 00 to 1f.
 fn node_by_hand() -> [u8; 4096] {
     let mut nonce = [0; 32];
@@ -224,13 +235,7 @@ fn node_by_hand() -> [u8; 4096] {
     part[768] = 5;
     part[808..813].copy_from_slice(b"hello");
     let tag = seal_in_place(&Key::new(&metadata_key(&USER, &nonce)), &[], &mut part);
-    let mut node = [0; 4096];
-    node[..8].copy_from_slice(b"GRPFTOOL");
-    node[8] = 1;
-    node[10..42].copy_from_slice(&nonce);
-    node[42..58].copy_from_slice(&tag);
-    node[59..3939].copy_from_slice(&part);
-    node
+    node_of_parts(&nonce, &tag, &part)
 }
 
 #[test]

@@ -81,12 +81,7 @@ fn put(to: &mut [u8; LONGEST_LINE], at: usize, bytes: &[u8])
 }
 
 // Puts the line of three texts into a buffer, where it fits, and answers its length.
-fn put_line(
-    to: &mut [u8; LONGEST_LINE],
-    first: &str,
-    second: &str,
-    third: &str,
-) -> Option<usize>
+fn put_line(to: &mut [u8; LONGEST_LINE], first: &str, second: &str, third: &str) -> Option<usize>
     ensures { IfSome result (λ n. (n ≤ length to.new) × (take n to.new ≡ line (first.now ++ second.now ++ third.now))) }
 {
     let at_third = first.len().saturating_add(second.len());

@@ -30,8 +30,8 @@ returns-in_err-node g c =
     let mid = g.H.Host.state c.read_key.new.host in
     let new = g.H.Host.state c.read_node.new.host in
     rw p.1 (λ world. subst (λ (f : Fault). Falls (DecryptLeads key input) (λ _ _. KeepsDisk) f (facing world old out) (facing world new out)) (sym p.2)
-        (no_input key input c.in_ok-user.user c.in_ok-user.ensures.key (facing world old out) (facing world mid out) (c.in_ok-user.ensures.read (with_out world out)) c.in_ok-user.ensures.files c.in_err-node.field-0.0 (facing world new out)
-        (c.in_err-node.ensures.refused c.in_ok-user.user (with_out world out)) (kept_then old mid new c.in_ok-user.ensures.disk c.in_err-node.ensures.disk)))
+    (no_input key input c.in_ok-user.user c.in_ok-user.ensures.key (facing world old out) (facing world mid out) (c.in_ok-user.ensures.read (with_out world out)) c.in_ok-user.ensures.files c.in_err-node.field-0.0 (facing world new out)
+    (c.in_err-node.ensures.refused c.in_ok-user.user (with_out world out)) (kept_then old mid new c.in_ok-user.ensures.disk c.in_err-node.ensures.disk)))
 
 pub returns-in_err-secret : goal.returns-in_err-secret
 returns-in_err-secret g c =
@@ -44,9 +44,9 @@ returns-in_err-secret g c =
     let new = g.H.Host.state c.read_node.new.host in
     let node = c.in_ok-node.ensures.read in
     rw p.1 (λ world. subst (λ (f : Fault). Falls (DecryptLeads key input) (λ _ _. KeepsDisk) f (facing world old out) (facing world new out)) (sym p.2)
-        (not_opened key input c.in_ok-user.user c.in_ok-user.ensures.key (facing world old out) (facing world mid out) (c.in_ok-user.ensures.read (with_out world out)) c.in_ok-user.ensures.files
-        node.size c.in_ok-node.node node.is_target node.is_whole (facing world new out) (node.passed (with_out world out)) c.in_ok-node.ensures.files c.in_err-secret.field-0.0 c.in_err-secret.ensures.refused
-        (kept_then old mid new c.in_ok-user.ensures.disk c.in_ok-node.ensures.disk)))
+    (not_opened key input c.in_ok-user.user c.in_ok-user.ensures.key (facing world old out) (facing world mid out) (c.in_ok-user.ensures.read (with_out world out)) c.in_ok-user.ensures.files
+    node.size c.in_ok-node.node node.is_target node.is_whole (facing world new out) (node.passed (with_out world out)) c.in_ok-node.ensures.files c.in_err-secret.field-0.0 c.in_err-secret.ensures.refused
+    (kept_then old mid new c.in_ok-user.ensures.disk c.in_ok-node.ensures.disk)))
 
 pub returns : goal.returns
 returns g c =
@@ -60,7 +60,7 @@ returns g c =
     let new = g.H.Host.state c.write_pieces.new.host in
     let node = c.in_ok-node.ensures.read in
     λ world.
-        opened key input c.in_ok-user.user c.in_ok-user.ensures.key (facing world old out) (facing world mid out) (c.in_ok-user.ensures.read (with_out world out)) c.in_ok-user.ensures.files
-        node.size c.in_ok-node.node node.is_target node.is_whole (facing world now out) (node.passed (with_out world out)) c.in_ok-node.ensures.files c.in_ok-secret.secret c.write_pieces.result (facing world new after) c.in_ok-secret.ensures.opened
-        (c.write_pieces.ensures.ends c.in_ok-node.node world node.is_whole.whole)
-        (kept_then old now new (kept_then old mid now c.in_ok-user.ensures.disk c.in_ok-node.ensures.disk) c.write_pieces.ensures.disk)
+    opened key input c.in_ok-user.user c.in_ok-user.ensures.key (facing world old out) (facing world mid out) (c.in_ok-user.ensures.read (with_out world out)) c.in_ok-user.ensures.files
+    node.size c.in_ok-node.node node.is_target node.is_whole (facing world now out) (node.passed (with_out world out)) c.in_ok-node.ensures.files c.in_ok-secret.secret c.write_pieces.result (facing world new after) c.in_ok-secret.ensures.opened
+    (c.write_pieces.ensures.ends c.in_ok-node.node world node.is_whole.whole)
+    (kept_then old now new (kept_then old mid now c.in_ok-user.ensures.disk c.in_ok-node.ensures.disk) c.write_pieces.ensures.disk)

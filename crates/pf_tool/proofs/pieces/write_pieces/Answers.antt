@@ -63,10 +63,14 @@ loop-at-preserved g c =
     let after = g.K.Sink.state c.write.new.self in
     let disk = kept_then old now new c.loop-at.invariant.1 c.read.ensures.disk in
     let files : KeepsFiles old new = c.in_ok-count.ensures.reads.answered.files ∙ c.loop-at.invariant.0 in
-    let room = c.read.auto.to ∙ c.loop-at.invariant.2 in
-    (files, disk, room, λ node whole. so_far_more c.args.name.now node c.args.secret.now c.loop-at.at c.loop-at.tree old now (g.K.Sink.state c.args.out.now) out (c.loop-at.invariant.3 node whole) c.loop-at.invariant.0 c.loop-at-test.true
-    c.read.new.to room c.read.new.self new disk c.in_ok-count.count c.in_ok-count.ensures.reads c.in_ok-count.ensures.cause.still after
-    (piece_passed (take c.in_ok-count.count c.read.new.to) out after c.in_ok-write.ensures.taken c.in_ok-write.ensures.cause.still) files)
+    let room = c.read.auto.to ∙ c.loop-at.invariant.2 in (
+      files,
+      disk,
+      room,
+      λ node whole. so_far_more c.args.name.now node c.args.secret.now c.loop-at.at c.loop-at.tree old now (g.K.Sink.state c.args.out.now) out (c.loop-at.invariant.3 node whole) c.loop-at.invariant.0 c.loop-at-test.true
+          c.read.new.to room c.read.new.self new disk c.in_ok-count.count c.in_ok-count.ensures.reads c.in_ok-count.ensures.cause.still after
+          (piece_passed (take c.in_ok-count.count c.read.new.to) out after c.in_ok-write.ensures.taken c.in_ok-write.ensures.cause.still) files,
+    )
 
 pub returns-clause-ends : goal.returns-clause-ends
 returns-clause-ends g c node world whole =
