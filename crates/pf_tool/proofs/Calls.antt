@@ -1,17 +1,14 @@
 -- One call of the host, of the random words or of the output, by the clauses of its trait.
-use Rattle.std.proofs.Common.{◌≡◌, ℕ, List, [], ◌∷◌, ◌++◌, length, take, refl, subst, ap, ◌∙◌, sym, Option, Some, None, IfSome, Result, Ok, Err}
-use Rattle.std.specs.List.{AllByRecursion}
+use Rattle.std.proofs.Common.{◌≡◌, ℕ, List, [], ◌∷◌, length, take, subst, sym, Option, Some, None, IfSome}
 use Rattle.std.proofs.lemmas.List.{append-nil}
 use Rattle.std.proofs.lemmas.Option.{IfSome_then}
-use Rattle.pf_io.specs.Counts.{HasCause, Rose}
+use Rattle.pf_io.specs.Counts.{Rose}
 use Rattle.pf_io.specs.Disk.{Name, Files}
-use Rattle.pf_io.specs.Host.{Answer, LengthWas, Gave, Wrote, Synced, Made, Swapped, HostState, Both, IsMore, OnHonest, CountsRead, CountsWrite, CountsNeither, ReadsFrom, KeepsRest, files_of, length_of, contents}
-use Rattle.pf_io.specs.Answered.{IsAnswerOf}
+use Rattle.pf_io.specs.Host.{LengthWas, Gave, Wrote, Synced, Made, Swapped, HostState, Both, IsMore, OnHonest, CountsRead, CountsWrite, CountsNeither, ReadsFrom, KeepsRest, files_of, length_of, contents}
 use Rattle.pf_io.specs.Streams.{SinkState, TakesFront}
 use Rattle.pf_io.specs.Words.{WordsState}
 use Rattle.pf_io.proofs.Answering.{read_whole}
-use Rattle.pf_io.proofs.Telling.{both_weaker}
-use Rattle.pf_tool.specs.Happened.{HostPassed, HostFailed, IsTaken, WordsPassed, WordFailed, OutPassed, OutFailed}
+use Rattle.pf_tool.specs.Happened.{HostPassed, HostFailed, WordsPassed, WordFailed, OutPassed, OutFailed}
 
 -- an answer was given, so something happened
 some_answer : {A : Type 0} (x : A) (xs : List A) (B : Type 0) → x ∷ xs ≡ [] → B

@@ -5,16 +5,16 @@ use Rattle.std.proofs.lemmas.List.{append-nil}
 use Rattle.std.proofs.lemmas.List.Folds.{concat-append}
 use Rattle.pf_io.specs.Counts.{counted}
 use Rattle.pf_io.specs.Disk.{Files}
-use Rattle.pf_io.specs.Host.{Answer, LengthWas, Gave, Wrote, WasCut, Synced, Made, Swapped, Removed, HostState, Both, IsMore, KeepsFiles, OnHonest, files_of}
+use Rattle.pf_io.specs.Host.{Answer, Gave, Wrote, HostState, IsMore, KeepsFiles, OnHonest, files_of}
 use Rattle.pf_io.specs.Answered.{IsAnswerOf}
 use Rattle.pf_io.specs.Streams.{SinkState}
 use Rattle.pf_io.specs.Words.{WordsState}
 use Rattle.pf_io.proofs.Telling.{both_then, both_same, told_on}
 use Rattle.pf_io.proofs.Answering.{both_honest, all_append}
 use Rattle.pf_tool.specs.World.{World, with_host, with_out, with_random}
-use Rattle.pf_tool.specs.Events.{Event, Answers, Draws, Puts, answers_in, words_in, pieces_in, bytes_in, reads_after, writes_after}
+use Rattle.pf_tool.specs.Events.{Event, Answers, Draws, Puts, answers_in, words_in, pieces_in, reads_after, writes_after}
 use Rattle.pf_tool.specs.Endings.{Stop, AtEnd, Failed, Starved, tried}
-use Rattle.pf_tool.specs.Happened.{HostPassed, HostFailed, IsTaken, WordsPassed, WordFailed, OutPassed, OutFailed, Passed, FailedIn, Happened}
+use Rattle.pf_tool.specs.Happened.{HostPassed, HostFailed, IsTaken, WordsPassed, WordFailed, OutPassed, OutFailed, Passed, CallFailed, Happened}
 
 pub answers_then : (xs ys : List Event) → answers_in (xs ++ ys) ≡ answers_in xs ++ answers_in ys
 answers_then [] ys = refl
@@ -172,13 +172,13 @@ tried_then xs ys (Failed event) = append_assoc xs ys (event ∷ [])
 tried_then xs ys Starved = refl
 
 -- a call of the host that failed
-pub failed_host : (answer : Answer) (world : World) (old new : HostState) → HostFailed answer old new → FailedIn (Answers answer) (with_host world old) (with_host world new)
+pub failed_host : (answer : Answer) (world : World) (old new : HostState) → HostFailed answer old new → CallFailed (Answers answer) (with_host world old) (with_host world new)
 failed_host answer world old new failed = (failed, refl)
 
-pub failed_word : (word : List ℕ) (world : World) (old new : WordsState) → WordFailed old new → FailedIn (Draws word) (with_random world old) (with_random world new)
+pub failed_word : (word : List ℕ) (world : World) (old new : WordsState) → WordFailed old new → CallFailed (Draws word) (with_random world old) (with_random world new)
 failed_word word world old new failed = (failed, refl)
 
-pub failed_piece : (bytes : List ℕ) (world : World) (old new : SinkState) → OutFailed bytes old new → FailedIn (Puts bytes) (with_out world old) (with_out world new)
+pub failed_piece : (bytes : List ℕ) (world : World) (old new : SinkState) → OutFailed bytes old new → CallFailed (Puts bytes) (with_out world old) (with_out world new)
 failed_piece bytes world old new failed = (failed, refl)
 
 -- one more call of the host, of which nothing is asked

@@ -15,9 +15,9 @@ use Rattle.node_layout.specs.declared.damage.Kind.TheVariants as kinds
 use Rattle.node_layout.specs.declared.metadata.MetaSecret.{MetaSecret}
 use Rattle.node_tree.specs.Content.{first_text}
 use Rattle.node_tree.specs.Sheet.{Sheet, meta_of, root_of}
-use Rattle.node_tree.specs.Opened.{AtNodes, Entry, Fails, NothingHeld, BlockOf, Given, block_of}
+use Rattle.node_tree.specs.Opened.{Entry, Fails, NothingHeld, BlockOf, Given, block_of}
 use Rattle.node_tree.specs.Parts.{IsWhole, PIECE, ArePiecesFrom}
-use Rattle.node_tree.specs.Unforged.{Unforged, GivenOf, Carries}
+use Rattle.node_tree.specs.Unforged.{Unforged, GivenOf}
 use Rattle.node_tree.specs.Backing.{IsMetaOf}
 use Rattle.node_tree.specs.Reading.{IsForeign}
 use Rattle.node_tree.proofs.Giving.{unforged_gives}
@@ -29,11 +29,10 @@ use Rattle.pf_io.proofs.Answering.{all_append}
 use Rattle.pf_tool.specs.Events.{Event, Answers, Draws, Puts, answers_in, pieces_in}
 use Rattle.pf_tool.specs.Endings.{Ending, Done, Damaged, Stop, AtEnd, Failed, Starved, tried}
 use Rattle.pf_tool.specs.Keys.{KeyRefused, key_unnamed, key_absent, key_length, key_short, key_events}
-use Rattle.pf_tool.specs.Outcomes.{Stands}
 use Rattle.pf_tool.specs.Decrypting.{NodeRefused, not_protected, node_short, node_unbuilt, node_damaged, end_of, node_refused, pieces_read, node_events, last_events, piece_events, Unseals, input_unnamed, input_absent, input_read, DecryptLeads, decrypt_key_refused, decrypt_key_read}
 use Rattle.pf_tool.specs.Decrypting as decrypting
 use Rattle.pf_tool.specs.Unsealing.{opening_events}
-use Rattle.pf_tool.specs.Contents.{ArePiecesOf, IsCarried, IsOfSheet, IsBehindNode, IsOfSheets, DecryptsSheets}
+use Rattle.pf_tool.specs.Contents.{ArePiecesOf, IsCarried, IsOfSheets, DecryptsSheets}
 use Rattle.pf_tool.proofs.Composing.{answers_then, pieces_then}
 use Rattle.pf_tool.proofs.Following.{range_events, all_split, length-whole}
 use Rattle.pf_tool.proofs.OneFile.{refused_events}
@@ -163,7 +162,7 @@ record Deep (key input : Name) (es : List Event) (ending : Ending) : Type 0 wher
   pub pieces : List (List ℕ)
   pub end : Option Damage
   pub secret : MetaSecret
-  pub whole : decrypting.IsWhole (block_of file 0)
+  pub whole : decrypting.IsOpenable (block_of file 0)
   pub opens_to : OpensTo user (block_of file 0) secret
   pub are : ArePiecesFrom file secret 0 pieces end
   pub es_are : es ≡ (key_events key user ++ opening_events input size (block_of file 0)) ++ piece_events input file 0 pieces (end_of end)

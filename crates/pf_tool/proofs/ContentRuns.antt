@@ -14,16 +14,16 @@ use Rattle.node_tree.specs.Reading.{IsForeign}
 use Rattle.pf_io.specs.Disk.{Name}
 use Rattle.pf_io.specs.Host.{Answer, Gave, HostState, Both, IsMore}
 use Rattle.pf_io.specs.Answered.{WereTold}
-use Rattle.pf_io.specs.Streams.{SinkState, TakesFront}
+use Rattle.pf_io.specs.Streams.{TakesFront}
 use Rattle.pf_io.proofs.Telling.{both_weaker, both_then}
 use Rattle.pf_tool.specs.World.{World, with_log}
 use Rattle.pf_tool.specs.Events.{Event, Answers, Draws, Puts, answers_in, pieces_in, bytes_in}
-use Rattle.pf_tool.specs.Endings.{Ending, Done, Damaged, BadName, NotFound, KeyFile, NotProtected, Unbuilt, Stop, AtEnd, Failed, Starved, tried, ending_line, ending_status, stop_status, stop_line}
+use Rattle.pf_tool.specs.Endings.{Done, Damaged, BadName, NotFound, KeyFile, NotProtected, Unbuilt, Stop, AtEnd, Failed, Starved, tried, ending_line, stop_status}
 use Rattle.pf_tool.specs.Happened.{Passed, Happened}
-use Rattle.pf_tool.specs.Reports.{Wrote, Reports}
+use Rattle.pf_tool.specs.Reports.{WroteAll, Reports}
 use Rattle.pf_tool.specs.Requests.{Decrypt}
 use Rattle.pf_tool.specs.Runs.{Runs}
-use Rattle.pf_tool.specs.Contents.{ArePiecesOf, IsCarried, TookOf, TookOfSheets, TookContent}
+use Rattle.pf_tool.specs.Contents.{ArePiecesOf, IsCarried, TookContent}
 use Rattle.pf_tool.proofs.Composing.{pieces_then}
 use Rattle.pf_tool.proofs.RunStops.{said, status_of, done_at_zero}
 use Rattle.pf_tool.proofs.ContentLaws.{decrypts_sheets}
@@ -124,7 +124,7 @@ module _ (key input : Name) (old new : World) (status : ℕ) (runs : Runs (Decry
   low_status : (n : ℕ) → n ≤ 6 → status ≡ n → stop_status runs.stop ≡ n
   low_status n low is = sym (status_of runs.stop old.log new.log status (said runs.stop old.log new.log status runs.reports) (λ seven. omega (arith, seven, is, low))) ∙ is
 
-  line_said : (k : ℕ) (kind : Kind) → runs.stop ≡ AtEnd (Damaged k kind) → status ≡ 1 → Wrote (ending_line (Damaged k kind)) old.log new.log
+  line_said : (k : ℕ) (kind : Kind) → runs.stop ≡ AtEnd (Damaged k kind) → status ≡ 1 → WroteAll (ending_line (Damaged k kind)) old.log new.log
   line_said k kind stop is =
       elim (said (AtEnd (Damaged k kind)) old.log new.log status (subst (λ (s : Stop). Reports s old.log new.log status) stop runs.reports)) [
         | inl both ↦ both.1

@@ -1,5 +1,5 @@
 -- What the answers, and what files, decide of `decrypt`.
-use Rattle.std.proofs.Common.{◌≡◌, ◌⊎◌, inl, inr, ℕ, zero, suc, ◌+◌, ◌-◌, ◌*◌, ◌<◌, ◌≤◌, min, List, [], ◌∷◌, ◌++◌, length, take, refl, ap, ap₂, ◌∙◌, sym, arith, subst, append_assoc, Option, Some, None, Result, Ok, Err}
+use Rattle.std.proofs.Common.{◌≡◌, ◌⊎◌, inl, inr, ℕ, zero, suc, ◌+◌, ◌-◌, ◌<◌, min, List, [], ◌∷◌, ◌++◌, length, refl, ap, ap₂, ◌∙◌, sym, arith, subst, append_assoc, Option, Some, None, Result, Ok, Err}
 use Rattle.std.specs.List.{AllByRecursion, concat}
 use Rattle.std.proofs.lemmas.List.{append-nil}
 use Rattle.node_layout.specs.Opening.{OpensTo}
@@ -11,13 +11,12 @@ use Rattle.node_tree.specs.Opened.{NothingHeld, BlockOf, block_of}
 use Rattle.node_tree.specs.Parts.{IsWhole, PIECE, ArePiecesFrom}
 use Rattle.node_tree.proofs.Parting.{one_part}
 use Rattle.pf_io.specs.Disk.{Name, Files}
-use Rattle.pf_io.specs.Host.{Answer, LengthWas, Gave, length_of, contents}
+use Rattle.pf_io.specs.Host.{Answer, LengthWas, Gave, contents}
 use Rattle.pf_io.specs.Answered.{IsAnswerOf}
-use Rattle.pf_io.specs.Names.{IsTarget}
 use Rattle.pf_io.proofs.Answering.{all_append}
 use Rattle.pf_tool.specs.Events.{Event, Answers, Draws, Puts, answers_in, pieces_in, words_in, bytes_in}
 use Rattle.pf_tool.specs.Endings.{Ending, Done, Damaged, BadName, NotFound, KeyFile, NotProtected, Unbuilt}
-use Rattle.pf_tool.specs.Keys.{HasKey, KeyRefused, key_unnamed, key_absent, key_length, key_short, key_events, KeyOver}
+use Rattle.pf_tool.specs.Keys.{IsKeyOf, KeyRefused, key_unnamed, key_absent, key_length, key_short, key_events, KeyOver}
 use Rattle.pf_tool.specs.Decrypting.{end_of, ComesTo, node_refused, pieces_read, node_events, last_events, piece_events, Unseals, input_unnamed, input_absent, input_read, DecryptLeads, decrypt_key_refused, decrypt_key_read, DecryptOver, decrypt_no_key, decrypt_unnamed, decrypt_no_input, decrypt_file}
 use Rattle.pf_tool.specs.Decrypting as decrypting
 use Rattle.pf_tool.proofs.Composing.{answers_then, words_then, pieces_then}
@@ -127,7 +126,7 @@ key_by key es ending (key_length n named other is ends) = ends ∙ ap (λ (l : L
 key_by key es ending (key_short bytes named short is ends) = ends ∙ ap (λ (l : List Event). key_ending (answers_in l)) (sym is)
 
 -- a key that was read was not refused
-key_apart : (key : Name) (es others : List Event) (e : Ending) (user : List ℕ) (rest : List Event) → KeyRefused key es e → HasKey key user → others ≡ key_events key user ++ rest → answers_in es ≡ answers_in others → ⊥
+key_apart : (key : Name) (es others : List Event) (e : Ending) (user : List ℕ) (rest : List Event) → KeyRefused key es e → IsKeyOf key user → others ≡ key_events key user ++ rest → answers_in es ≡ answers_in others → ⊥
 key_apart key es others e user rest (key_unnamed u is ends) has read same = u has.is_name
 key_apart key es others e user rest (key_absent named is ends) has read same =
     let all : LengthWas key None ∷ [] ≡ LengthWas key (Some 16) ∷ Gave key 0 16 user ∷ answers_in rest = sym (ap (λ (l : List Event). answers_in l) is) ∙ same ∙ ap (λ (l : List Event). answers_in l) read in
@@ -252,7 +251,7 @@ front_file : (user : List ℕ) (input : Name) (files : Files) (file : List ℕ) 
 front_file user input files file pieces others ending given es more (node_refused refused none) gives first same all =
     took_none es others (front_silent es more (piece_events input file 0 pieces ending) same (ap (λ (l : List Event). pieces_in l) (refused_events user file pieces ending refused none input file)))
 front_file user input files file pieces others ending given es more (pieces_read end whole are is) (node_refused refused none) first same all =
-    absurd (not_refused user (block_of (contents (files input)) 0) given are.secret (subst decrypting.IsWhole first whole) (subst (λ (b : List ℕ). OpensTo user b are.secret) first are.opens_to) refused)
+    absurd (not_refused user (block_of (contents (files input)) 0) given are.secret (subst decrypting.IsOpenable first whole) (subst (λ (b : List ℕ). OpensTo user b are.secret) first are.opens_to) refused)
 front_file user input files file pieces others ending given es more (pieces_read end whole are is) (pieces_read end2 whole2 are2 is2) first same all =
     let one = opens_to_one user (block_of (contents (files input)) 0) are2.secret are.secret are2.opens_to (subst (λ (b : List ℕ). OpensTo user b are.secret) first are.opens_to) in
     front_from input files file are.secret 0 pieces others end end2 es more (λ some k lt. let e : k ≡ 0 = omega arith in subst (λ (j : ℕ). block_of file j ≡ block_of (contents (files input)) j) (sym e) first) are.pieces_are

@@ -1,24 +1,22 @@
 -- `encrypt` from its parts: the reading of the key, and then the sealing of the input.
-use Rattle.std.proofs.Common.{◌≡◌, ◌≢◌, ◌⊎◌, inl, inr, ⊎_elim, ℕ, List, [], ◌∷◌, ◌++◌, take, refl, subst, ap, ◌∙◌, sym, Option, Some, None, Result, Ok, Err, IfSome}
+use Rattle.std.proofs.Common.{◌≡◌, ◌⊎◌, inl, inr, ⊎_elim, ℕ, List, [], ◌++◌, take, refl, subst, ap, ◌∙◌, Option, Some, None, Result, Ok, Err, IfSome}
 use Rattle.std.specs.Prelude.{option_map}
 use Rattle.std.proofs.lemmas.List.Elements.{Contains-append_right}
 use Rattle.std.proofs.lemmas.Option.{IfSome_then}
-use Rattle.pf_io.specs.Disk.{Name, Files, File, Disk, Image, IsImage, IsImageAt, reading}
-use Rattle.pf_io.specs.Host.{Answer, Made, Swapped, HostState, Both, KeepsFiles, OnHonest, files_of, contents}
+use Rattle.pf_io.specs.Disk.{Name, Files, File, Disk, Image, IsImage, reading}
+use Rattle.pf_io.specs.Host.{Made, Swapped, HostState, Both, KeepsFiles, OnHonest, files_of, contents}
 use Rattle.pf_io.specs.Moments.{Honest, Ran}
 use Rattle.pf_io.specs.Names.{IsTarget, side_of}
 use Rattle.pf_io.specs.Steps.{Stays}
 use Rattle.pf_io.specs.Unchanged.{KeepsDisk}
-use Rattle.pf_io.specs.Words.{WordsState}
 use Rattle.pf_io.proofs.Runs.{started, goes_on_ran}
-use Rattle.pf_io.proofs.Telling.{both_weaker}
-use Rattle.pf_tool.specs.World.{World, with_host, with_random}
+use Rattle.pf_tool.specs.World.{World}
 use Rattle.pf_tool.specs.Events.{Event, Answers}
 use Rattle.pf_tool.specs.Endings.{Ending, Done, BadName, Stop, AtEnd, tried, stop_status}
 use Rattle.pf_tool.specs.Happened.{Passed}
-use Rattle.pf_tool.specs.Outcomes.{Outcome, Falls, Ends}
+use Rattle.pf_tool.specs.Outcomes.{Outcome, Falls, ComesOut}
 use Rattle.pf_tool.specs.SideFiles.{IsMade, IsSwapped, SideLeaves, SideEnds, IsNewFile}
-use Rattle.pf_tool.specs.Keys.{HasKey, KeyRefused, key_events}
+use Rattle.pf_tool.specs.Keys.{IsKeyOf, KeyRefused, key_events}
 use Rattle.pf_tool.specs.Encrypting.{IsInput, Seals, output_unnamed, input_unfit, EncryptLeads, encrypt_key_refused, encrypt_key_read, EncryptLeaves, IsSealed, user_on, StandsFor, content_on, nonce_in}
 use Rattle.pf_tool.specs.Making.{IsSealedUnder, LeavesSealed}
 use Rattle.pf_tool.specs.declared.fault.Fault.{Fault}
@@ -57,7 +55,7 @@ module _ (key input output : Name) where
             (λ kept. kept_leaves output (IsSealed key input output) (tried o.events falls.stop) falls.stop old.host new.host (λ is. not_done fault (falls.is_fault.ends ∙ ap stop_status is)) kept);
       }
 
-  module _ (user : List ℕ) (has : HasKey key user) where
+  module _ (user : List ℕ) (has : IsKeyOf key user) where
     -- names that cannot be used
     pub names_refused : (old new : World) → ¬ (IsTarget output) ⊎ (IsTarget output × ¬ (IsInput input output)) → Passed (key_events key user) old new → KeepsDisk old.host new.host
         → Falls (EncryptLeads key input output) (EncryptLeaves key input output) faults.BadName old new
@@ -116,6 +114,6 @@ module _ (key input output : Name) where
           outcome_then (key_events key user) (Seals user input output) Leading (LeavesSealed user input output) Leaving stop old mid new o passed files (λ es ending seals. encrypt_key_read user es has refl seals)
           (λ left. sealed_leaves (tried o.events stop) stop old.host mid.host new.host kept (IfSome_then (files_of old.host) passed.host.honest (λ (f : Files) all. all.1.0)) left)
 
-      pub sealing_ends : {T : Type 0} (r : Result T Fault) → Ends (Seals user input output) (LeavesSealed user input output) r mid new → Ends (EncryptLeads key input output) (EncryptLeaves key input output) r old new
+      pub sealing_ends : {T : Type 0} (r : Result T Fault) → ComesOut (Seals user input output) (LeavesSealed user input output) r mid new → ComesOut (EncryptLeads key input output) (EncryptLeaves key input output) r old new
       sealing_ends (Ok v) ends = sealing_outcome (AtEnd Done) ends
       sealing_ends (Err fault) ends = record { stop = ends.stop; is_fault = ends.is_fault; outcome = sealing_outcome ends.stop ends.outcome }

@@ -1,17 +1,17 @@
 -- What the answers, and what files, decide of `encrypt`.
-use Rattle.std.proofs.Common.{◌≡◌, ◌≢◌, ◌⊎◌, inl, inr, ⊎_elim, ℕ, ◌<◌, ◌≤◌, List, [], ◌∷◌, ◌++◌, length, take, drop, refl, subst, ap, ◌∙◌, sym, arith, Option, Some, None, Result, Ok, Err, Bool, true, false}
+use Rattle.std.proofs.Common.{◌≡◌, ◌⊎◌, inl, inr, ⊎_elim, ℕ, ◌<◌, ◌≤◌, List, [], ◌∷◌, ◌++◌, length, take, refl, subst, ap, ◌∙◌, sym, arith, Option, Some, None, Ok, Err, Bool, true, false}
 use Rattle.std.specs.Prelude.{ltb}
 use Rattle.std.proofs.lemmas.Bool.{lt-ltb, le-ltb}
 use Rattle.std.specs.List.{AllByRecursion}
-use Rattle.std.proofs.lemmas.List.{take_all, length-take}
+use Rattle.std.proofs.lemmas.List.{length-take}
 use Rattle.pf_io.specs.Disk.{Name, Files}
-use Rattle.pf_io.specs.Host.{Answer, LengthWas, Gave, Wrote, Synced, Made, Swapped, WasCut, Removed, length_of, contents}
+use Rattle.pf_io.specs.Host.{Answer, LengthWas, Gave}
 use Rattle.pf_io.specs.Answered.{IsAnswerOf}
-use Rattle.pf_io.specs.Names.{IsName, IsTarget, side_of}
-use Rattle.pf_tool.specs.Events.{Event, Answers, Draws, Puts, answers_in, words_in, pieces_in}
+use Rattle.pf_io.specs.Names.{IsName, IsTarget}
+use Rattle.pf_tool.specs.Events.{Event, answers_in, pieces_in}
 use Rattle.pf_tool.specs.Endings.{Ending, Done, BadName, NotFound, KeyFile, Unbuilt, ending_status}
-use Rattle.pf_tool.specs.Keys.{HasKey, KeyRefused, key_unnamed, key_absent, key_length, key_short, key_events, KeyOver}
-use Rattle.pf_tool.specs.Encrypting.{MOST_FIRST, IsInput, read_events, published_events, Seals, output_unnamed, input_unfit, input_absent, input_large, published, EncryptLeads, encrypt_key_refused, encrypt_key_read, GaveSealed, EncryptOver, over_no_key, over_unfit, over_no_input, over_large, over_done}
+use Rattle.pf_tool.specs.Keys.{KeyRefused, key_unnamed, key_absent, key_length, key_short, key_events, KeyOver}
+use Rattle.pf_tool.specs.Encrypting.{MOST_FIRST, IsInput, Seals, output_unnamed, input_unfit, input_absent, input_large, published, EncryptLeads, encrypt_key_refused, encrypt_key_read, GaveSealed, EncryptOver, over_no_key, over_unfit, over_no_input, over_large, over_done}
 use Rattle.pf_tool.proofs.KeyOver.{there_of, absent_of, whole_of, key_over_one, key_refused_over, key_read_over}
 
 -- nothing is put out

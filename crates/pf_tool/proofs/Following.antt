@@ -1,5 +1,5 @@
 -- The answers of one file that are those of another: the other comes to the same.
-use Rattle.std.proofs.Common.{◌≡◌, inl, inr, ℕ, zero, suc, ◌+◌, ◌-◌, ◌*◌, ◌<◌, ◌≤◌, min, List, [], ◌∷◌, ◌++◌, length, map, take, drop, refl, ap, ap₂, ◌∙◌, sym, arith, subst, Option, Some, None, Ok, Err}
+use Rattle.std.proofs.Common.{◌≡◌, inl, inr, ℕ, zero, suc, ◌+◌, ◌-◌, ◌*◌, ◌<◌, ◌≤◌, min, List, [], ◌∷◌, ◌++◌, length, map, refl, ap, ap₂, ◌∙◌, sym, arith, subst, Option, Some, None}
 use Rattle.std.specs.List.{range_with_len, AllByRecursion}
 use Rattle.std.proofs.lemmas.Bool.{cases_lt}
 use Rattle.std.proofs.lemmas.List.FromFn.{length-map-range_with_len}
@@ -12,8 +12,7 @@ use Rattle.node_tree.specs.Parts.{IsWhole, PIECE, ArePiecesFrom}
 use Rattle.pf_io.specs.Host.{Name, Files, Answer, Gave, contents}
 use Rattle.pf_io.specs.Answered.{IsAnswerOf}
 use Rattle.pf_tool.specs.Events.{Event, Answers, Draws, Puts, answers_in}
-use Rattle.pf_tool.specs.Endings.{Ending}
-use Rattle.pf_tool.specs.Decrypting.{end_of, node_events, last_events, piece_events}
+use Rattle.pf_tool.specs.Decrypting.{end_of, node_events, piece_events}
 use Rattle.pf_tool.proofs.SameBlocks.{SameTo, same_sooner, same_whole, same_broken}
 
 pub answers_append : (xs ys : List Event) → answers_in (xs ++ ys) ≡ answers_in xs ++ answers_in ys

@@ -1,14 +1,13 @@
 -- The pieces so far, and how a run goes on behind them.
-use Rattle.std.proofs.Common.{◌≡◌, ◌⊎◌, inl, inr, ℕ, zero, suc, ◌+◌, ◌-◌, ◌*◌, ◌<◌, ◌≤◌, min, List, [], ◌∷◌, ◌++◌, length, refl, ap, ap₂, ◌∙◌, sym, arith, subst, append_assoc, Option, Some, None, Ok, Err}
+use Rattle.std.proofs.Common.{◌≡◌, ◌⊎◌, inl, inr, ℕ, ◌+◌, ◌-◌, ◌*◌, ◌<◌, ◌≤◌, min, List, [], ◌∷◌, ◌++◌, length, refl, ap, ◌∙◌, sym, arith, subst, append_assoc, Option, Some, None}
 use Rattle.std.proofs.lemmas.Bool.{cases_lt}
-use Rattle.std.proofs.lemmas.List.{append-nil}
 use Rattle.std.proofs.lemmas.List.FromFn.{map-range_with_len_more}
 use Rattle.node_layout.specs.declared.damage.Damage.{Damage}
 use Rattle.node_layout.specs.declared.damage.Kind.TheVariants.{Short}
 use Rattle.node_layout.specs.declared.metadata.MetaSecret.{MetaSecret}
 use Rattle.node_layout.specs.Places.{node_count}
 use Rattle.node_tree.specs.Content.{bytes_of}
-use Rattle.node_tree.specs.Opened.{Entry, Opened, Fails, is_short, NothingHeld, BlockOf, block_of}
+use Rattle.node_tree.specs.Opened.{Entry, Opened, is_short, NothingHeld, BlockOf, block_of}
 use Rattle.node_tree.specs.Parts.{IsWhole, IsBroken, PIECE, ArePiecesFrom}
 use Rattle.node_tree.proofs.Lively.{touched_low, touched_live}
 use Rattle.pf_io.specs.Host.{Name, Gave}

@@ -1,9 +1,8 @@
 -- A file put together of the blocks that were given, one behind the other.
-use Rattle.std.proofs.Common.{◌≡◌, ◌⊎◌, inl, inr, ℕ, zero, suc, ◌+◌, ◌-◌, ◌*◌, ◌<◌, ◌≤◌, List, [], ◌∷◌, ◌++◌, length, map, take, drop, refl, ap, ap₂, ◌∙◌, sym, arith, subst, Some}
-use Rattle.std.specs.Prelude.{Contains}
+use Rattle.std.proofs.Common.{◌≡◌, ℕ, zero, suc, ◌+◌, ◌*◌, ◌<◌, ◌≤◌, List, [], ◌∷◌, ◌++◌, length, map, take, drop, refl, ap, ap₂, ◌∙◌, sym, arith, subst, Some}
 use Rattle.std.specs.List.{range_with_len, AllByRecursion}
 use Rattle.std.proofs.lemmas.List.{length-append, length-drop, take-append-le, drop-append-le, take_all, drop_all}
-use Rattle.pf_io.specs.Host.{Name, Files, Answer, Gave, contents}
+use Rattle.pf_io.specs.Host.{Name, Files, Answer, Gave}
 use Rattle.pf_io.specs.Answered.{IsAnswerOf}
 use Rattle.node_tree.specs.Opened.{AtNodes, IsAt, Entry, Opened, was_held, root_opens, child_opens, Given, block_of}
 use Rattle.node_tree.specs.Fetching.{AsksInTurn}

@@ -1,5 +1,5 @@
 -- The sealing of an input on an honest disk.
-use Rattle.std.proofs.Common.{◌≡◌, ◌≢◌, inl, inr, ⊎_elim, ℕ, ◌≤◌, List, [], ◌∷◌, ◌++◌, length, take, refl, subst, ap, ◌∙◌, sym, Option, Some, None, IfSome, arith}
+use Rattle.std.proofs.Common.{◌≡◌, ◌≢◌, inl, inr, ⊎_elim, ℕ, ◌≤◌, List, length, take, refl, subst, ap, ◌∙◌, sym, Option, Some, None, IfSome, arith}
 use Rattle.std.specs.Prelude.{option_map}
 use Rattle.std.specs.List.{concat}
 use Rattle.std.proofs.lemmas.List.{take_all}
@@ -15,7 +15,7 @@ use Rattle.pf_tool.specs.Events.{Event, words_in}
 use Rattle.pf_tool.specs.Endings.{Done, Stop, AtEnd}
 use Rattle.pf_tool.specs.SideFiles.{IsMade, IsSwapped, SideLeaves, SideEnds, IsNewFile, LeavesBySide}
 use Rattle.pf_tool.specs.Encrypting.{StandsFor, content_on, nonce_in}
-use Rattle.pf_tool.specs.Making.{HasShort, SideAlone, SideBegun, NewLeft, NewEnds, LeavesBegun, LeavesPublished, IsSealedUnder, LeavesSealed}
+use Rattle.pf_tool.specs.Making.{HasShort, SideAlone, SideBegun, NewLeft, NewEnds, LeavesPublished, IsSealedUnder, LeavesSealed}
 use Rattle.pf_tool.proofs.SideDisk.{Begun}
 use Rattle.pf_tool.proofs.SealDisk.{not_side}
 

@@ -1,31 +1,30 @@
 -- The sealing of an input, from its parts.
 use Rattle.std.proofs.Common.{◌≡◌, ◌≢◌, ℕ, ◌<◌, ◌≤◌, List, [], ◌∷◌, ◌++◌, length, take, refl, subst, ap, ◌∙◌, sym, arith, Option, Some, None, IfSome, Result, Ok, Err}
-use Rattle.std.specs.Prelude.{option_map}
-use Rattle.std.specs.List.{AllByRecursion, concat}
-use Rattle.std.proofs.lemmas.List.Elements.{Contains-append_left, Contains-append_right}
-use Rattle.pf_io.specs.Disk.{Name, Files, Disk, reading}
-use Rattle.pf_io.specs.Host.{Answer, LengthWas, Gave, Wrote, Synced, Made, Swapped, HostState, Both, KeepsFiles, OnHonest, ReadsFrom, files_of, contents}
-use Rattle.pf_io.specs.Moments.{Honest, Does, Ran}
+use Rattle.std.specs.List.{AllByRecursion}
+use Rattle.std.proofs.lemmas.List.Elements.{Contains-append_right}
+use Rattle.pf_io.specs.Disk.{Name, Files}
+use Rattle.pf_io.specs.Host.{Answer, LengthWas, Gave, Wrote, Synced, Made, Swapped, HostState, Both, KeepsFiles, OnHonest, files_of}
+use Rattle.pf_io.specs.Moments.{Does, Ran}
 use Rattle.pf_io.specs.Answered.{IsAnswerOf}
 use Rattle.pf_io.specs.Names.{IsTarget, side_of}
 use Rattle.pf_io.specs.Steps.{Stays}
 use Rattle.pf_io.specs.Unchanged.{KeepsDisk}
 use Rattle.pf_io.specs.Words.{WordsState}
 use Rattle.pf_tool.specs.World.{World, with_host, with_random}
-use Rattle.pf_tool.specs.Events.{Event, Answers, Draws, answers_in, words_in}
+use Rattle.pf_tool.specs.Events.{Event, Answers, Draws, answers_in}
 use Rattle.pf_tool.specs.Endings.{Ending, Done, NotFound, Unbuilt, Stop, AtEnd, Failed, Starved, tried, ending_line, ending_status, stop_status}
 use Rattle.pf_tool.specs.Faults.{fault_line, fault_status}
-use Rattle.pf_tool.specs.Happened.{HostPassed, HostFailed, Passed, Happened}
-use Rattle.pf_tool.specs.Outcomes.{Stands, Outcome, IsFaultOf, Falls, Ends}
-use Rattle.pf_tool.specs.SideFiles.{IsMade, IsSwapped}
-use Rattle.pf_tool.specs.Encrypting.{MOST_FIRST, IsInput, node_of, begun_events, published_events, read_events, Seals, input_absent, input_large, published, nonce_in, content_on}
+use Rattle.pf_tool.specs.Happened.{HostPassed, HostFailed, Passed}
+use Rattle.pf_tool.specs.Outcomes.{StopsAt, Outcome, Falls, ComesOut}
+use Rattle.pf_tool.specs.SideFiles.{IsMade}
+use Rattle.pf_tool.specs.Encrypting.{MOST_FIRST, IsInput, node_of, begun_events, published_events, read_events, Seals, input_absent, input_large, published, content_on}
 use Rattle.pf_tool.specs.Making.{SideBegun, Begins, LeavesBegun, Publishes, LeavesPublished, IsSealedUnder, LeavesSealed}
 use Rattle.pf_tool.specs.declared.fault.Fault.{Fault}
 use Rattle.pf_tool.specs.declared.fault.Fault.TheVariants as faults
 use Rattle.pf_tool.proofs.Composing.{answers_then, passed_none, passed_host, passed_then, passed_reading, files_kept, happened_honest, failed_host}
 use Rattle.pf_tool.proofs.Stopping.{not_done, GoesOn, stands_then, stands_on, outcome_of, refused, host_fails, starves}
 use Rattle.pf_tool.proofs.SideDisk.{Begun}
-use Rattle.pf_tool.proofs.InputDisk.{Seal, kept_leaves, kept_run, begun_run, early, begun_done, reading_on, early_made, with_content, publishing}
+use Rattle.pf_tool.proofs.InputDisk.{Seal, kept_leaves, kept_run, begun_run, early, begun_done, reading_on, early_made, publishing}
 
 all_front : (P : Answer → Type 0) (xs ys : List Answer) → AllByRecursion P (xs ++ ys) → AllByRecursion P xs
 all_front P [] ys all = tt
@@ -36,7 +35,7 @@ all_unit P (Some f) each = each f
 all_unit P None each = tt
 
 -- a front of the publishing asks nothing
-asks_nothing : (user : List ℕ) (output : Name) (content : List ℕ) (es : List Event) (stop : Stop) (files : Files) → Stands (Publishes user output content) es stop → AllByRecursion (IsAnswerOf files) (answers_in es)
+asks_nothing : (user : List ℕ) (output : Name) (content : List ℕ) (es : List Event) (stop : Stop) (files : Files) → StopsAt (Publishes user output content) es stop → AllByRecursion (IsAnswerOf files) (answers_in es)
 asks_nothing user output content es (AtEnd ending) files stands = subst (λ (l : List Event). AllByRecursion (IsAnswerOf files) (answers_in l)) (sym stands.are) (tt, (tt, (tt, tt)))
 asks_nothing user output content es (Failed event) files stands =
     all_front (IsAnswerOf files) (answers_in es) (answers_in (event ∷ stands.0)) (subst (λ (l : List Answer). AllByRecursion (IsAnswerOf files) l) (answers_then es (event ∷ stands.0))
@@ -186,6 +185,6 @@ module _ (user : List ℕ) (input output : Name) (target : IsTarget output) (fit
                     (λ left. publishing user input output all (started_disk (Answers (Gave input 0 3073 bytes) ∷ last)).0 bytes last
                     (λ swapped. Contains-append_right Read_events last (Answers (Swapped (side_of output) output)) swapped) refl stop s0 s3 s4 (content (Answers (Gave input 0 3073 bytes) ∷ last)) left)
 
-                pub published_ends : {T : Type 0} (r : Result T Fault) → Ends (Publishes user output bytes) (LeavesPublished user output bytes) r Reads Ended → Ends (Seals user input output) (LeavesSealed user input output) r Start Ended
+                pub published_ends : {T : Type 0} (r : Result T Fault) → ComesOut (Publishes user output bytes) (LeavesPublished user output bytes) r Reads Ended → ComesOut (Seals user input output) (LeavesSealed user input output) r Start Ended
                 published_ends (Ok v) ends = published_outcome (AtEnd Done) ends
                 published_ends (Err fault) ends = record { stop = ends.stop; is_fault = ends.is_fault; outcome = published_outcome ends.stop ends.outcome }

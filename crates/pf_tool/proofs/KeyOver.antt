@@ -1,15 +1,13 @@
 -- What files give of a key, and what a reading of them led to.
-use Rattle.std.proofs.Common.{◌≡◌, ◌≢◌, ℕ, ◌<◌, List, [], ◌∷◌, length, take, drop, refl, subst, ap, ◌∙◌, sym, arith, Option, Some, None, Result, Ok, Err, if◌then◌else◌}
-use Rattle.std.specs.Prelude.{nat_eq}
+use Rattle.std.proofs.Common.{◌≡◌, ℕ, List, [], ◌∷◌, length, take, drop, refl, subst, ap, ◌∙◌, sym, arith, Option, Some, None, Result, Ok, Err}
 use Rattle.std.specs.List.{AllByRecursion}
 use Rattle.std.proofs.lemmas.List.{take_all}
 use Rattle.pf_io.specs.Disk.{Name, Files}
 use Rattle.pf_io.specs.Host.{Answer, LengthWas, Gave, length_of, contents}
 use Rattle.pf_io.specs.Answered.{IsAnswerOf}
-use Rattle.pf_io.specs.Names.{IsName}
-use Rattle.pf_tool.specs.Events.{Event, Answers, answers_in}
-use Rattle.pf_tool.specs.Endings.{Ending, BadName, NotFound, KeyFile}
-use Rattle.pf_tool.specs.Keys.{HasKey, KeyRefused, key_unnamed, key_absent, key_length, key_short, key_events, KeyOver, over_unnamed, over_absent, over_length, over_key}
+use Rattle.pf_tool.specs.Events.{Event, answers_in}
+use Rattle.pf_tool.specs.Endings.{Ending, KeyFile}
+use Rattle.pf_tool.specs.Keys.{IsKeyOf, KeyRefused, key_unnamed, key_absent, key_length, key_short, KeyOver, over_unnamed, over_absent, over_length, over_key}
 
 -- a length that was answered is that of bytes that are there
 pub there_of : (o : Option (List ℕ)) (n : ℕ) → Some n ≡ length_of o → (bytes : List ℕ) × (o ≡ Some bytes) × (length bytes ≡ n)
@@ -68,7 +66,7 @@ key_refused_over files key es ending (key_short bytes named short is ends) all =
     absurd (omega (arith, short, ap (λ (l : List ℕ). length l) whole, there.2))
 
 -- a key that was read of files is the one that they give
-pub key_read_over : (files : Files) (key : Name) (user : List ℕ) (more : List Answer) → HasKey key user → AllByRecursion (IsAnswerOf files) (LengthWas key (Some 16) ∷ Gave key 0 16 user ∷ more) → KeyOver files key (Ok user)
+pub key_read_over : (files : Files) (key : Name) (user : List ℕ) (more : List Answer) → IsKeyOf key user → AllByRecursion (IsAnswerOf files) (LengthWas key (Some 16) ∷ Gave key 0 16 user ∷ more) → KeyOver files key (Ok user)
 key_read_over files key user more has all =
     let there = there_of (files key) 16 all.0 in
     let whole : user ≡ there.0 = whole_of (files key) there.0 user 16 there.1 all.1.0 ∙ take_all 16 there.0 (omega (arith, there.2)) in

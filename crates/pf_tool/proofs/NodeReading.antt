@@ -4,23 +4,22 @@ use Rattle.std.proofs.lemmas.List.{take_all, length-take}
 use Rattle.std.proofs.Math.Seq.{take-take}
 use Rattle.node_layout.specs.Metadata.{IsPlain, magic, flag_at}
 use Rattle.node_layout.specs.Opening.{OpensTo}
-use Rattle.node_layout.specs.declared.damage.Kind.{Kind}
 use Rattle.node_layout.specs.declared.metadata.MetaSecret.{MetaSecret}
 use Rattle.node_tree.specs.Opened.{block_of}
 use Rattle.pf_io.specs.Disk.{Name}
-use Rattle.pf_io.specs.Host.{Answer, LengthWas, Gave, HostState, KeepsFiles}
+use Rattle.pf_io.specs.Host.{LengthWas, Gave, HostState, KeepsFiles}
 use Rattle.pf_io.specs.Names.{IsTarget}
 use Rattle.pf_io.specs.Unchanged.{KeepsDisk}
 use Rattle.pf_io.proofs.Unchanged.{kept_none}
 use Rattle.pf_tool.specs.World.{World, with_host}
 use Rattle.pf_tool.specs.Events.{Event, Answers}
-use Rattle.pf_tool.specs.Endings.{Ending, Done, BadName, NotFound, NotProtected, Unbuilt, Stop, AtEnd, ending_line, ending_status}
+use Rattle.pf_tool.specs.Endings.{Ending, Done, BadName, NotFound, NotProtected, Unbuilt, Stop, AtEnd, ending_line}
 use Rattle.pf_tool.specs.Faults.{fault_line, fault_status}
 use Rattle.pf_tool.specs.Happened.{HostPassed, HostFailed, Passed}
-use Rattle.pf_tool.specs.Outcomes.{Outcome, Falls, Ends, IsFaultOf}
-use Rattle.pf_tool.specs.Keys.{HasKey, KeyRefused, key_events}
-use Rattle.pf_tool.specs.Decrypting.{IsWhole, NodeRefused, not_protected, node_unbuilt, node_refused, pieces_read, piece_events, PiecesLead, Unseals, input_unnamed, input_absent, input_read, DecryptLeads, decrypt_key_refused, decrypt_key_read}
-use Rattle.pf_tool.specs.Unsealing.{Refuses, HasNode, opening_events}
+use Rattle.pf_tool.specs.Outcomes.{Falls, ComesOut}
+use Rattle.pf_tool.specs.Keys.{IsKeyOf, KeyRefused, key_events}
+use Rattle.pf_tool.specs.Decrypting.{IsOpenable, NodeRefused, not_protected, node_unbuilt, node_refused, pieces_read, piece_events, PiecesLead, Unseals, input_unnamed, input_absent, input_read, DecryptLeads, decrypt_key_refused, decrypt_key_read}
+use Rattle.pf_tool.specs.Unsealing.{Refuses, ReadsNode, opening_events}
 use Rattle.pf_tool.specs.declared.fault.Fault.{Fault}
 use Rattle.pf_tool.specs.declared.fault.Fault.TheVariants as faults
 use Rattle.pf_tool.proofs.Composing.{passed_none, passed_host, passed_reading, failed_host}
@@ -85,11 +84,11 @@ module _ (user : List ℕ) (input : Name) (world : World) (s0 : HostState) where
       (asked_twice input answer 4096 bytes world s0 s1 s2 asked files read) kept
 
 -- the pieces of a file that was opened are those of the command
-pub unseals_pieces : (user : List ℕ) (input : Name) (size : ℕ) (node : List ℕ) (secret : MetaSecret) → IsTarget input → IsWhole node → OpensTo user node secret → (es : List Event) (ending : Ending) → PiecesLead input node secret es ending
+pub unseals_pieces : (user : List ℕ) (input : Name) (size : ℕ) (node : List ℕ) (secret : MetaSecret) → IsTarget input → IsOpenable node → OpensTo user node secret → (es : List Event) (ending : Ending) → PiecesLead input node secret es ending
     → Unseals user input (opening_events input size node ++ es) ending
 unseals_pieces user input size node secret target whole opens es ending lead =
     input_read size lead.file lead.pieces target
-    (pieces_read lead.end (subst IsWhole (sym lead.first) whole) (record { secret = secret; opens_to = subst (λ (b : List ℕ). OpensTo user b secret) (sym lead.first) opens; pieces_are = lead.are }) lead.ending_is)
+    (pieces_read lead.end (subst IsOpenable (sym lead.first) whole) (record { secret = secret; opens_to = subst (λ (b : List ℕ). OpensTo user b secret) (sym lead.first) opens; pieces_are = lead.are }) lead.ending_is)
     (ap (λ (l : List Event). Answers (LengthWas input (Some size)) ∷ Answers (Gave input 0 4096 node) ∷ l) (lead.events_are ∙ ap (λ (e : Ending). piece_events input lead.file 0 lead.pieces e) (sym lead.ending_is))
     ∙ ap (λ (b : List ℕ). Answers (LengthWas input (Some size)) ∷ Answers (Gave input 0 4096 b) ∷ piece_events input lead.file 0 lead.pieces ending) (sym lead.first))
 
@@ -102,8 +101,8 @@ falls_after xs Part Leads fault old mid new falls passed files kept go = record 
   outcome = outcome_then xs Part Leads (λ _ _. KeepsDisk) (λ _ _. KeepsDisk) falls.stop old mid new falls.outcome passed files go (λ left. kept);
 }
 
-pub ends_after : {T : Type 0} (xs : List Event) (Part Leads : List Event → Ending → Type 0) (result : Result T Fault) (old mid new : World) → Ends Part (λ _ _. KeepsDisk) result mid new → Passed xs old mid → KeepsFiles old.host mid.host → KeepsDisk old.host new.host
-    → ((es : List Event) (ending : Ending) → Part es ending → Leads (xs ++ es) ending) → Ends Leads (λ _ _. KeepsDisk) result old new
+pub ends_after : {T : Type 0} (xs : List Event) (Part Leads : List Event → Ending → Type 0) (result : Result T Fault) (old mid new : World) → ComesOut Part (λ _ _. KeepsDisk) result mid new → Passed xs old mid → KeepsFiles old.host mid.host → KeepsDisk old.host new.host
+    → ((es : List Event) (ending : Ending) → Part es ending → Leads (xs ++ es) ending) → ComesOut Leads (λ _ _. KeepsDisk) result old new
 ends_after xs Part Leads (Ok value) old mid new ends passed files kept go = outcome_then xs Part Leads (λ _ _. KeepsDisk) (λ _ _. KeepsDisk) (AtEnd Done) old mid new ends passed files go (λ left. kept)
 ends_after xs Part Leads (Err fault) old mid new ends passed files kept go = falls_after xs Part Leads fault old mid new ends passed files kept go
 
@@ -111,11 +110,11 @@ module _ (key input : Name) where
   pub no_key : (fault : Fault) (old new : World) → Falls (KeyRefused key) (λ _ _. KeepsDisk) fault old new → Falls (DecryptLeads key input) (λ _ _. KeepsDisk) fault old new
   no_key fault old new falls = falls_as (KeyRefused key) (DecryptLeads key input) (λ _ _. KeepsDisk) (λ _ _. KeepsDisk) fault old new (λ es ending why. decrypt_key_refused why) (λ tried stop kept. kept) falls
 
-  module _ (user : List ℕ) (has : HasKey key user) (old mid : World) (passed : Passed (key_events key user) old mid) (files : KeepsFiles old.host mid.host) where
+  module _ (user : List ℕ) (has : IsKeyOf key user) (old mid : World) (passed : Passed (key_events key user) old mid) (files : KeepsFiles old.host mid.host) where
     pub no_input : (fault : Fault) (new : World) → Falls (Unseals user input) (λ _ _. KeepsDisk) fault mid new → KeepsDisk old.host new.host → Falls (DecryptLeads key input) (λ _ _. KeepsDisk) fault old new
     no_input fault new falls kept = falls_after (key_events key user) (Unseals user input) (DecryptLeads key input) fault old mid new falls passed files kept (λ es ending lead. decrypt_key_read user es has refl lead)
 
-    module _ (size : ℕ) (node : List ℕ) (target : IsTarget input) (whole : IsWhole node) (now : World) (opening : Passed (opening_events input size node) mid now) (files_then : KeepsFiles mid.host now.host) where
+    module _ (size : ℕ) (node : List ℕ) (target : IsTarget input) (whole : IsOpenable node) (now : World) (opening : Passed (opening_events input size node) mid now) (files_then : KeepsFiles mid.host now.host) where
       both : Passed (key_events key user ++ opening_events input size node) old now
       both = passed_reading (key_events key user) (opening_events input size node) old mid now passed files opening
 
@@ -124,14 +123,14 @@ module _ (key input : Name) where
           refused (DecryptLeads key input) Kept (key_events key user ++ opening_events input size node) refuses.ending fault old now refuses.is_fault.says refuses.is_fault.ends
           (decrypt_key_read user (opening_events input size node) has refl (unseals_refused user input size node refuses.ending target (omega (arith, whole.whole)) refuses.holds)) both kept
 
-      pub opened : {T : Type 0} (secret : MetaSecret) (result : Result T Fault) (new : World) → OpensTo user node secret → Ends (PiecesLead input node secret) (λ _ _. KeepsDisk) result now new → KeepsDisk old.host new.host → Ends (DecryptLeads key input) (λ _ _. KeepsDisk) result old new
+      pub opened : {T : Type 0} (secret : MetaSecret) (result : Result T Fault) (new : World) → OpensTo user node secret → ComesOut (PiecesLead input node secret) (λ _ _. KeepsDisk) result now new → KeepsDisk old.host new.host → ComesOut (DecryptLeads key input) (λ _ _. KeepsDisk) result old new
       opened secret result new opens ends kept =
           ends_after (key_events key user ++ opening_events input size node) (PiecesLead input node secret) (DecryptLeads key input) result old now new ends both (files_then ∙ files) kept
           (λ es ending lead. decrypt_key_read user (opening_events input size node ++ es) has refl (unseals_pieces user input size node secret target whole opens es ending lead))
 
 -- node 0 was given whole
-pub node_given : (input : Name) (size : ℕ) (answer : Option ℕ) (bytes : List ℕ) (s0 s1 s2 : HostState) → IsTarget input → IsWhole bytes → answer ≡ Some size → HostPassed (LengthWas input answer ∷ []) s0 s1 → KeepsFiles s0 s1 → HostPassed (Gave input 0 4096 bytes ∷ []) s1 s2
-    → HasNode input bytes s0 s2
+pub node_given : (input : Name) (size : ℕ) (answer : Option ℕ) (bytes : List ℕ) (s0 s1 s2 : HostState) → IsTarget input → IsOpenable bytes → answer ≡ Some size → HostPassed (LengthWas input answer ∷ []) s0 s1 → KeepsFiles s0 s1 → HostPassed (Gave input 0 4096 bytes ∷ []) s1 s2
+    → ReadsNode input bytes s0 s2
 node_given input size answer bytes s0 s1 s2 target whole there asked files read = record {
   is_target = target;
   is_whole = whole;

@@ -1,14 +1,14 @@
 -- The nodes that a piece touches and that are not held yet.
-use Rattle.std.proofs.Common.{◌≡◌, ◌⊎◌, inl, inr, ℕ, zero, suc, ◌+◌, ◌-◌, ◌*◌, ◌<◌, ◌≤◌, Bool, true, false, cond, List, [], ◌∷◌, length, refl, ap, ◌∙◌, sym, arith, subst, Option, Some, None}
-use Rattle.std.specs.Prelude.{Contains, filter, is_none, slice_index}
+use Rattle.std.proofs.Common.{◌≡◌, inl, inr, ℕ, zero, suc, ◌+◌, ◌-◌, ◌*◌, ◌<◌, ◌≤◌, Bool, true, false, cond, List, [], ◌∷◌, refl, ap, ◌∙◌, sym, arith, Option}
+use Rattle.std.specs.Prelude.{Contains, filter, is_none}
 use Rattle.std.specs.List.{range_with_len}
 use Rattle.std.specs.List.Sorted.{IsStrictlyIncreasing}
 use Rattle.std.proofs.lemmas.Bool.{true≢false, cases_lt}
 use Rattle.std.proofs.lemmas.List.FromFn.{length-range_with_len, get_or-range_with_len}
 use Rattle.std.proofs.lemmas.List.Kept.{IsStrictlyIncreasing-filter}
-use Rattle.node_layout.specs.Places.{data_place, mht_place, data_count, mht_count, node_count, leaf_of}
+use Rattle.node_layout.specs.Places.{data_count, mht_count, node_count}
 use Rattle.node_layout.proofs.Numbers.{each_number, data_live, mht_live}
-use Rattle.node_tree.specs.Touched.{Meets, IsTouched, AreTouched}
+use Rattle.node_tree.specs.Touched.{IsTouched, AreTouched}
 use Rattle.node_tree.specs.Fetching.{missing_of}
 use Rattle.node_tree.proofs.Order.{same_rising}
 use Rattle.node_tree.proofs.Lively.{touched_live, touched_low}

@@ -1,5 +1,5 @@
 -- A file comes to one list of pieces and one ending.
-use Rattle.std.proofs.Common.{◌≡◌, ⊎_elim, ℕ, zero, ◌*◌, List, [], ◌∷◌, length, take, refl, ap, ap₂, ◌∙◌, sym, subst, arith, Option, Some, None}
+use Rattle.std.proofs.Common.{◌≡◌, ⊎_elim, ℕ, List, [], refl, ap, ◌∙◌, sym, subst, arith, Option, Some}
 use Rattle.std.specs.List.{AllByRecursion}
 use Rattle.node_layout.specs.Metadata.{IsMetaText, meta_opens}
 use Rattle.node_layout.specs.Opening.{OpensTo, IsOpenFault}
@@ -8,13 +8,12 @@ use Rattle.node_layout.specs.declared.damage.Kind.{Kind}
 use Rattle.node_layout.specs.declared.damage.Kind.TheVariants as kinds
 use Rattle.node_layout.specs.declared.metadata.MetaSecret.{MetaSecret}
 use Rattle.node_tree.specs.Opened.{block_of}
-use Rattle.node_tree.specs.Parts.{ArePieces}
 use Rattle.node_tree.proofs.Pieces.{one_pieces}
-use Rattle.pf_io.specs.Host.{Name, Files, Answer, contents}
+use Rattle.pf_io.specs.Host.{Name, Files, contents}
 use Rattle.pf_io.specs.Answered.{IsAnswerOf}
-use Rattle.pf_tool.specs.Events.{Event, answers_in}
+use Rattle.pf_tool.specs.Events.{answers_in}
 use Rattle.pf_tool.specs.Endings.{Ending, Damaged}
-use Rattle.pf_tool.specs.Decrypting.{IsWhole, NodeRefused, not_protected, node_short, node_unbuilt, node_damaged, end_of, ComesTo, node_refused, pieces_read, last_events, piece_events}
+use Rattle.pf_tool.specs.Decrypting.{IsOpenable, NodeRefused, not_protected, node_short, node_unbuilt, node_damaged, end_of, ComesTo, node_refused, pieces_read, last_events, piece_events}
 use Rattle.pf_tool.proofs.Following.{follow}
 
 fault_one : (user node : List ℕ) (a b : Kind) → IsOpenFault user node a → IsOpenFault user node b → a ≡ b
@@ -64,7 +63,7 @@ refused_one user node e f (node_damaged kind whole fault is) (node_short magic s
 refused_one user node e f (node_damaged kind whole fault is) (node_unbuilt magic long why is2) = absurd (⊎_elim (λ flag. flag whole.flag) (λ other. other whole.plain) why)
 refused_one user node e f (node_damaged kind whole fault is) (node_damaged other whole2 fault2 is2) = is ∙ ap (λ (k : Kind). Damaged 0 k) (fault_one user node kind other fault fault2) ∙ sym is2
 
-pub not_refused : (user node : List ℕ) (e : Ending) (secret : MetaSecret) → IsWhole node → OpensTo user node secret → NodeRefused user node e → ⊥
+pub not_refused : (user node : List ℕ) (e : Ending) (secret : MetaSecret) → IsOpenable node → OpensTo user node secret → NodeRefused user node e → ⊥
 not_refused user node e secret whole opens (not_protected other is) = other whole.plain.magic_is
 not_refused user node e secret whole opens (node_short magic short is) = omega (arith, short, whole.whole)
 not_refused user node e secret whole opens (node_unbuilt magic long why is) = ⊎_elim (λ flag. flag whole.flag) (λ other. other whole.plain) why
@@ -99,6 +98,6 @@ follow_file user input files file pieces ending (node_refused refused none) firs
 follow_file user input files file pieces ending (pieces_read end whole are is) first all =
     let all_here = subst (λ (e : Ending). AllByRecursion (IsAnswerOf files) (answers_in (piece_events input file 0 pieces e))) is all in
     let rest = follow input files file are.secret 0 pieces end (λ some k lt. let e : k ≡ 0 = omega arith in subst (λ (j : ℕ). block_of file j ≡ block_of (contents (files input)) j) (sym e) first) are.pieces_are all_here in (
-      pieces_read end (subst IsWhole first whole) (record { secret = are.secret; opens_to = subst (λ (b : List ℕ). OpensTo user b are.secret) first are.opens_to; pieces_are = rest.0 }) is,
+      pieces_read end (subst IsOpenable first whole) (record { secret = are.secret; opens_to = subst (λ (b : List ℕ). OpensTo user b are.secret) first are.opens_to; pieces_are = rest.0 }) is,
       ap (λ (e : Ending). piece_events input file 0 pieces e) is ∙ rest.1 ∙ sym (ap (λ (e : Ending). piece_events input (contents (files input)) 0 pieces e) is),
     )

@@ -1,19 +1,19 @@
 -- A read of the next piece through a tree: what the file so far has grown to, and what it leads to.
-use Rattle.std.proofs.Common.{◌≡◌, ◌⊎◌, inl, inr, ℕ, zero, suc, ◌+◌, ◌-◌, ◌*◌, ◌<◌, ◌≤◌, min, Bool, true, false, List, [], ◌∷◌, ◌++◌, length, map, take, refl, ap, ap₂, ◌∙◌, sym, arith, subst, append_assoc, Option, Some, None, Result, Ok, Err}
+use Rattle.std.proofs.Common.{◌≡◌, ◌⊎◌, inl, inr, ℕ, zero, suc, ◌+◌, ◌-◌, ◌*◌, ◌<◌, ◌≤◌, min, false, List, [], ◌∷◌, ◌++◌, length, map, take, refl, ap, ap₂, ◌∙◌, sym, arith, subst, append_assoc, Option, Some, None, Result, Ok, Err}
 use Rattle.std.specs.Prelude.{Contains, is_none}
-use Rattle.std.specs.List.{range_with_len, AllByRecursion}
+use Rattle.std.specs.List.{range_with_len}
 use Rattle.std.specs.List.Sorted.{IsStrictlyIncreasing}
 use Rattle.std.proofs.lemmas.Bool.{cases_lt, true≢false}
-use Rattle.std.proofs.lemmas.List.{append-nil, length-append}
+use Rattle.std.proofs.lemmas.List.{length-append}
 use Rattle.std.proofs.lemmas.List.FromFn.{length-range_with_len}
 use Rattle.std.proofs.lemmas.List.Elements.{Contains-append_left, Contains-append_right}
 use Rattle.node_layout.specs.declared.damage.Damage.{Damage}
 use Rattle.node_layout.specs.declared.damage.Kind.{Kind}
 use Rattle.node_layout.specs.declared.metadata.MetaSecret.{MetaSecret}
 use Rattle.node_layout.specs.Places.{node_count}
-use Rattle.node_tree.specs.Opened.{AtNodes, IsAt, Entry, Opened, was_held, root_opens, child_opens, Fails, is_short, root_fails, child_fails, NothingHeld, BlockOf, Given, block_of}
+use Rattle.node_tree.specs.Opened.{AtNodes, IsAt, Entry, Opened, was_held, root_opens, child_opens, Fails, is_short, root_fails, child_fails, NothingHeld, BlockOf, Given}
 use Rattle.node_tree.specs.Touched.{IsTouched, AreTouched}
-use Rattle.node_tree.specs.Parts.{IsWhole, IsBroken, IsPart, PIECE}
+use Rattle.node_tree.specs.Parts.{IsWhole, IsBroken, PIECE}
 use Rattle.node_tree.specs.State.{TreeState, held_at, Held, root_in, readable}
 use Rattle.node_tree.specs.Fetching.{AsksInTurn, EachOpens, missing_of}
 use Rattle.node_tree.specs.Reading.{Reads, IsOfFile}
@@ -22,9 +22,8 @@ use Rattle.node_tree.specs.declared.fault.TreeFault.TheVariants as faults
 use Rattle.node_tree.proofs.Opening.{IsSingle}
 use Rattle.node_tree.proofs.Asked.{given_asked, given_single}
 use Rattle.node_tree.proofs.OfFile.{file_opened, read_of_file}
-use Rattle.pf_io.specs.Host.{Name, Answer, Gave, HostState, contents}
-use Rattle.pf_io.specs.Answered.{IsAnswerOf}
-use Rattle.pf_tool.specs.Events.{Event, Answers}
+use Rattle.pf_io.specs.Host.{Name, Answer, Gave, HostState}
+use Rattle.pf_tool.specs.Events.{Answers}
 use Rattle.pf_tool.specs.Decrypting.{node_events}
 use Rattle.pf_tool.proofs.SameBlocks.{SameTo, same_opened}
 use Rattle.pf_tool.proofs.Following.{range_events}

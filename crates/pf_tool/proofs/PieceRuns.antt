@@ -1,29 +1,27 @@
 -- The pieces put out so far, with what happened outside, and how the run ends from there.
-use Rattle.std.proofs.Common.{◌≡◌, ◌⊎◌, inl, inr, ℕ, zero, suc, ◌+◌, ◌-◌, ◌*◌, ◌<◌, ◌≤◌, min, List, [], ◌∷◌, ◌++◌, length, map, take, refl, ap, ap₂, ◌∙◌, sym, arith, subst, append_assoc, Option, Some, None, Result, Ok, Err}
-use Rattle.std.specs.List.{range_with_len}
+use Rattle.std.proofs.Common.{◌≡◌, inl, inr, ℕ, zero, suc, ◌+◌, ◌-◌, ◌*◌, ◌<◌, ◌≤◌, min, List, [], ◌∷◌, ◌++◌, length, map, take, refl, ap, ◌∙◌, sym, arith, subst, append_assoc, Option, Some, None, Ok, Err}
 use Rattle.std.proofs.lemmas.Bool.{cases_lt, true≢false}
 use Rattle.std.proofs.lemmas.List.{append-nil, take_all}
 use Rattle.node_layout.specs.declared.damage.Damage.{Damage}
 use Rattle.node_layout.specs.declared.metadata.MetaSecret.{MetaSecret}
 use Rattle.node_layout.specs.Places.{node_count}
-use Rattle.node_tree.specs.Opened.{Entry, NothingHeld, BlockOf, block_of}
-use Rattle.node_tree.specs.Parts.{IsWhole, PIECE}
-use Rattle.node_tree.specs.State.{TreeState, Held, held_at}
+use Rattle.node_tree.specs.Opened.{NothingHeld, BlockOf}
+use Rattle.node_tree.specs.Parts.{PIECE}
+use Rattle.node_tree.specs.State.{TreeState}
 use Rattle.node_tree.specs.Fetching.{AsksInTurn, CountsCalls, counted_times, host_part}
 use Rattle.node_tree.specs.Reading.{Reads}
 use Rattle.node_tree.specs.declared.fault.TreeFault.{TreeFault}
 use Rattle.node_tree.specs.declared.fault.TreeFault.TheVariants as trees
 use Rattle.node_tree.proofs.Fresh.{fresh, fresh_of_file}
 use Rattle.pf_io.specs.Counts.{Rose, HasCause, counted}
-use Rattle.pf_io.specs.Host.{Name, Answer, Gave, HostState, KeepsFiles, Both, IsMore, OnHonest}
+use Rattle.pf_io.specs.Host.{Name, Answer, Gave, HostState, KeepsFiles, Both, IsMore}
 use Rattle.pf_io.specs.Answered.{Answered}
 use Rattle.pf_io.specs.Streams.{SinkState}
 use Rattle.pf_io.specs.Unchanged.{KeepsDisk}
-use Rattle.pf_io.proofs.Unchanged.{kept_none}
 use Rattle.pf_tool.specs.World.{World, with_host, with_out}
 use Rattle.pf_tool.specs.Events.{Event, Answers, Puts, answers_in, words_in, pieces_in, reads_after, writes_after}
-use Rattle.pf_tool.specs.Endings.{Ending, Done, Damaged, Stop, AtEnd, Failed, Starved}
-use Rattle.pf_tool.specs.Happened.{HostPassed, HostFailed, OutPassed, OutFailed, Passed, FailedIn}
+use Rattle.pf_tool.specs.Endings.{Ending, Done, Damaged, Stop, AtEnd}
+use Rattle.pf_tool.specs.Happened.{HostPassed, HostFailed, OutPassed, OutFailed, Passed}
 use Rattle.pf_tool.specs.Outcomes.{Outcome, Falls}
 use Rattle.pf_tool.specs.Decrypting.{node_events, PiecesLead}
 use Rattle.pf_tool.specs.Unsealing.{tree_fault}
@@ -34,7 +32,7 @@ use Rattle.pf_tool.proofs.Stopping.{refused, host_fails, out_fails, starves}
 use Rattle.pf_tool.proofs.Following.{range_events, length-whole}
 use Rattle.pf_tool.proofs.SameBlocks.{SameTo}
 use Rattle.pf_tool.proofs.Fronts.{root_entry, Front, Ready, front_none, front_more, close, asks_next, puts_piece, whole_next}
-use Rattle.pf_tool.proofs.PieceReads.{Holding, PieceRead, PieceBroken, PieceBegun, piece_read, piece_broken, piece_failed, piece_starved, ready_of}
+use Rattle.pf_tool.proofs.PieceReads.{Holding, PieceRead, PieceBegun, piece_read, piece_broken, piece_failed, piece_starved, ready_of}
 
 abbrev Kept : List Event → Stop → HostState → HostState → Type 0
 Kept tried stop old new = KeepsDisk old new

@@ -1,11 +1,10 @@
 -- The clauses of a run, each from what the whole run came to.
-use Rattle.std.proofs.Common.{◌≡◌, ◌⊎◌, inl, inr, ⊎_elim, ℕ, ◌<◌, ◌≤◌, List, [], ◌∷◌, ◌++◌, length, take, refl, subst, ap, ◌∙◌, sym, arith, Option, Some, None, Result, Ok, Err, IfSome}
+use Rattle.std.proofs.Common.{◌≡◌, ◌⊎◌, inl, inr, ⊎_elim, ℕ, ◌≤◌, List, [], ◌∷◌, ◌++◌, length, take, subst, ap, ◌∙◌, sym, arith, Option, Some, Result, Ok, Err, IfSome}
 use Rattle.std.specs.List.{AllByRecursion, concat}
-use Rattle.std.proofs.lemmas.List.{append-nil, append_cancel_left}
+use Rattle.std.proofs.lemmas.List.{append_cancel_left}
 use Rattle.std.proofs.Math.Seq.{take-append_seam}
-use Rattle.pf_io.specs.Counts.{Rose}
 use Rattle.pf_io.specs.Disk.{Name, Files}
-use Rattle.pf_io.specs.Host.{Answer, HostState, Both, IsMore, OnHonest, files_of}
+use Rattle.pf_io.specs.Host.{Answer, HostState, Both, IsMore, files_of}
 use Rattle.pf_io.specs.Answered.{IsAnswerOf, WereTold}
 use Rattle.pf_io.specs.Streams.{SourceState, SinkState, TakesFront}
 use Rattle.pf_io.specs.Words.{WordsState}
@@ -16,11 +15,11 @@ use Rattle.pf_tool.specs.Endings.{Ending, Done, Stop, AtEnd, Failed, Starved, st
 use Rattle.pf_tool.specs.declared.fault.Fault.{Fault}
 use Rattle.pf_tool.proofs.Stopping.{not_done}
 use Rattle.pf_tool.specs.Happened.{Passed, Happened}
-use Rattle.pf_tool.specs.Faults.{fault_line, fault_status}
-use Rattle.pf_tool.specs.Outcomes.{Stands, Outcome, Ends, Concludes}
-use Rattle.pf_tool.specs.Reports.{Wrote, Reported, Reports}
+use Rattle.pf_tool.specs.Faults.{fault_status}
+use Rattle.pf_tool.specs.Outcomes.{StopsAt, ComesOut, Concludes}
+use Rattle.pf_tool.specs.Reports.{Reported, Reports}
 use Rattle.pf_tool.specs.Requests.{Request, Decrypt, Encrypt}
-use Rattle.pf_tool.specs.Runs.{Leads, Leaves, Runs, Usage, Calm, Causes, ByWords, Content, Decided, NoneRose, Honestly, as_files_give, starved, Honest, OnDisks, Stays}
+use Rattle.pf_tool.specs.Runs.{Leads, LeavesHost, Runs, Usage, Causes, ByWords, Content, Decided, NoneRose, Honestly, as_files_give, starved, Honest, Stays}
 use Rattle.pf_tool.proofs.RunStops.{not_two, reports_of, stop_low, reported_said, said, status_of, host_rose, random_rose, out_rose, all_passed, none_failed, input_kept, undrawn, unput, done_at_zero}
 use Rattle.pf_tool.proofs.RunLaws.{silent, decided, over, over_front}
 use Rattle.pf_tool.proofs.DecryptLaws.{decrypt_undrawn}
@@ -29,7 +28,7 @@ use Rattle.pf_tool.proofs.ContentRuns.{took_content}
 use Rattle.pf_tool.specs.Encrypting.{EncryptLeads, GaveSealed}
 
 -- a command, and what was said of it
-pub concluded : {T : Type 0} (request : Request) (r : Result T Fault) (h0 h1 : HostState) (input : SourceState) (o0 o1 l0 l1 : SinkState) (r0 r1 : WordsState) (status : ℕ) → Ends (Leads request) (Leaves request) r (world_of h0 input o0 l0 r0) (world_of h1 input o1 l0 r1)
+pub concluded : {T : Type 0} (request : Request) (r : Result T Fault) (h0 h1 : HostState) (input : SourceState) (o0 o1 l0 l1 : SinkState) (r0 r1 : WordsState) (status : ℕ) → ComesOut (Leads request) (LeavesHost request) r (world_of h0 input o0 l0 r0) (world_of h1 input o1 l0 r1)
     → Concludes r l0 l1 status → Runs request (world_of h0 input o0 l0 r0) (world_of h1 input o1 l1 r1) status
 concluded request (Ok v) h0 h1 input o0 o1 l0 l1 r0 r1 status ends said = record { stop = AtEnd Done; outcome = ends; reports = said }
 concluded request (Err fault) h0 h1 input o0 o1 l0 l1 r0 r1 status ends said = record {
@@ -119,7 +118,7 @@ module _ (request : Request) (old new : World) (status : ℕ) (run : Runs reques
         most = ⊎_elim (λ both. omega (arith, both.0, stop_low run.stop)) (λ both. omega (arith, both.0)) what;
       }
 
-  by_words_at : (stop : Stop) (es : List Event) (ending : Ending) → Leads request [] ending → Stands (Leads request) es stop → Happened es stop old Now → Reports stop old.log new.log status → Reports (AtEnd ending) old.log new.log status × (Now ≡ old)
+  by_words_at : (stop : Stop) (es : List Event) (ending : Ending) → Leads request [] ending → StopsAt (Leads request) es stop → Happened es stop old Now → Reports stop old.log new.log status → Reports (AtEnd ending) old.log new.log status × (Now ≡ old)
   by_words_at (AtEnd other) es ending leads stands happened reports =
       let alone = silent request ending other es leads stands in
       (subst (λ (e : Ending). Reports (AtEnd e) old.log new.log status) (sym alone.1) reports, nothing_passed es old Now alone.0 happened)
@@ -129,7 +128,7 @@ module _ (request : Request) (old new : World) (status : ℕ) (run : Runs reques
   pub run_by_words : ByWords request old new status
   run_by_words ending leads = by_words_at run.stop run.outcome.events ending leads run.outcome.stands run.outcome.happened run.reports
 
-  decided_at : (stop : Stop) (es events : List Event) (ending : Ending) → Leads request events ending → WereTold (answers_in events) old.host new.host → status ≤ 3 → Stands (Leads request) es stop → Happened es stop old Now → Reports stop old.log new.log status
+  decided_at : (stop : Stop) (es events : List Event) (ending : Ending) → Leads request events ending → WereTold (answers_in events) old.host new.host → status ≤ 3 → StopsAt (Leads request) es stop → Happened es stop old Now → Reports stop old.log new.log status
       → Reports (AtEnd ending) old.log new.log status
   decided_at (AtEnd other) es events ending leads told low stands happened reports =
       let same : other ≡ ending = decided request es events other ending stands leads (one_told old.host new.host (answers_in es) (answers_in events) happened.host.told told) in
@@ -140,7 +139,7 @@ module _ (request : Request) (old new : World) (status : ℕ) (run : Runs reques
   pub run_decided : Decided request old new status
   run_decided events ending leads told low = decided_at run.stop run.outcome.events events ending leads told low run.outcome.stands run.outcome.happened run.reports
 
-  honest_at : (stop : Stop) (es : List Event) (files : Files) → files_of old.host ≡ Some files → NoneRose old new → Stands (Leads request) es stop → Happened es stop old Now → Reports stop old.log new.log status → Honestly request files old new status
+  honest_at : (stop : Stop) (es : List Event) (files : Files) → files_of old.host ≡ Some files → NoneRose old new → StopsAt (Leads request) es stop → Happened es stop old Now → Reports stop old.log new.log status → Honestly request files old new status
   honest_at (AtEnd ending) es files is none stands happened reports =
       ⊎_elim (λ both. as_files_give (pieces_in es) ending (over request files es ending stands (all_of files (files_of old.host) (answers_in es) is happened.host.honest)) both.0 (record { told = happened.out.told; calm = happened.out.calm }) both.1)
       (λ both. absurd (none.log both.1)) (said (AtEnd ending) old.log new.log status reports)
@@ -160,8 +159,8 @@ module _ (request : Request) (old new : World) (status : ℕ) (run : Runs reques
   pub run_unread : new.input ≡ old.input
   run_unread = input_kept run.outcome.events old Now run.stop run.outcome.happened
 
-done_given : (key input output : Name) (es : List Event) (stop : Stop) → stop ≡ AtEnd Done → Stands (EncryptLeads key input output) es stop → GaveSealed key input output (answers_in es)
-done_given key input output es stop is stands = encrypt_given key input output es (subst (λ (s : Stop). Stands (EncryptLeads key input output) es s) is stands)
+done_given : (key input output : Name) (es : List Event) (stop : Stop) → stop ≡ AtEnd Done → StopsAt (EncryptLeads key input output) es stop → GaveSealed key input output (answers_in es)
+done_given key input output es stop is stands = encrypt_given key input output es (subst (λ (s : Stop). StopsAt (EncryptLeads key input output) es s) is stands)
 
 pub run_content : (request : Request) (old new : World) (status : ℕ) → Runs request old new status → Content request old new status
 run_content (Decrypt key input) old new status run = took_content key input old new status run

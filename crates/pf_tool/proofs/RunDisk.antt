@@ -1,17 +1,17 @@
 -- What a run leaves of an honest disk, by its status and by the host's count of faults.
-use Rattle.std.proofs.Common.{◌≡◌, ◌⊎◌, inl, inr, ⊎_elim, ℕ, zero, suc, List, [], ◌∷◌, ◌++◌, refl, subst, ap, ◌∙◌, sym, arith, Option, Some, None}
+use Rattle.std.proofs.Common.{◌≡◌, ◌⊎◌, inl, inr, ⊎_elim, ℕ, zero, suc, List, [], ◌∷◌, ◌++◌, refl, subst, sym, arith, Option, Some}
 use Rattle.std.specs.Prelude.{Contains}
 use Rattle.std.proofs.lemmas.List.Elements.{Contains-append_cases}
 use Rattle.pf_io.specs.Disk.{Name, File, Disk, Image}
-use Rattle.pf_io.specs.Host.{Answer, Swapped, HostState, OnDisk}
-use Rattle.pf_io.specs.Moments.{Honest, Ran}
+use Rattle.pf_io.specs.Host.{Swapped}
+use Rattle.pf_io.specs.Moments.{Ran}
 use Rattle.pf_io.specs.Names.{side_of}
 use Rattle.pf_io.proofs.Telling.{both_weaker}
 use Rattle.pf_tool.specs.World.{World, with_log}
 use Rattle.pf_tool.specs.Events.{Event, Answers, Draws, Puts}
-use Rattle.pf_tool.specs.Endings.{Ending, Done, Stop, AtEnd, Failed, Starved, tried, stop_status}
+use Rattle.pf_tool.specs.Endings.{Ending, Done, Stop, AtEnd, Failed, Starved, tried}
 use Rattle.pf_tool.specs.Happened.{Happened}
-use Rattle.pf_tool.specs.Outcomes.{Stands}
+use Rattle.pf_tool.specs.Outcomes.{StopsAt}
 use Rattle.pf_tool.specs.Reports.{Reports}
 use Rattle.pf_tool.specs.Requests.{Request, Decrypt, Encrypt}
 use Rattle.pf_tool.specs.SideFiles.{IsSwapped, SideLeaves, SideEnds, IsNewFile}
@@ -95,7 +95,7 @@ module _ (key input output : Name) where
   not_in_front es event rest ending leads swapped = none_has es (front_none es event rest ending leads) (has_swap es (side_of output) output swapped)
 
   module _ (old new : World) (status : ℕ) where
-    may_be_new : (es : List Event) (stop : Stop) → Stands (EncryptLeads key input output) es stop → Happened es stop old (with_log new old.log) → Reports stop old.log new.log status → IsSwapped (tried es stop) output → MayBeNew old new status
+    may_be_new : (es : List Event) (stop : Stop) → StopsAt (EncryptLeads key input output) es stop → Happened es stop old (with_log new old.log) → Reports stop old.log new.log status → IsSwapped (tried es stop) output → MayBeNew old new status
     may_be_new es (AtEnd ending) stands happened reports swapped =
         inl (⊎_elim (λ none. absurd (none_has es none (has_swap es (side_of output) output swapped))) (λ both. reports_done ending old.log new.log status both.0 reports) (leads_swaps es ending stands))
     may_be_new es (Failed (Answers answer)) stands happened reports swapped = inr (host_rose es old (with_log new old.log) (Failed (Answers answer)) happened refl)

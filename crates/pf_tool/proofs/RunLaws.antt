@@ -1,9 +1,9 @@
 -- What holds of each command.
-use Rattle.std.proofs.Common.{◌≡◌, ℕ, List, [], ◌∷◌, ◌++◌, refl, ap, ◌∙◌, sym}
+use Rattle.std.proofs.Common.{◌≡◌, ℕ, List, [], ◌++◌, ap, ◌∙◌, sym}
 use Rattle.std.specs.List.{AllByRecursion, concat}
 use Rattle.pf_io.specs.Disk.{Files}
 use Rattle.pf_io.specs.Answered.{IsAnswerOf}
-use Rattle.pf_tool.specs.Events.{Event, answers_in, pieces_in, words_in, bytes_in}
+use Rattle.pf_tool.specs.Events.{Event, answers_in, pieces_in, bytes_in}
 use Rattle.pf_tool.specs.Endings.{Ending}
 use Rattle.pf_tool.specs.Requests.{Request, Decrypt, Encrypt, AskFor}
 use Rattle.pf_tool.specs.Runs.{Leads, Over}

@@ -1,20 +1,16 @@
 -- The clauses of a run, from where it stopped and what it said.
-use Rattle.std.proofs.Common.{◌≡◌, ◌⊎◌, inl, inr, ⊎_elim, ℕ, ◌<◌, ◌≤◌, List, [], ◌∷◌, ◌++◌, length, take, refl, subst, ap, ◌∙◌, sym, arith, Option, Some, None, IfSome}
-use Rattle.std.specs.List.{AllByRecursion, concat}
-use Rattle.std.proofs.lemmas.List.{append-nil, append_cancel_left}
+use Rattle.std.proofs.Common.{◌≡◌, ◌⊎◌, inl, inr, ⊎_elim, ℕ, ◌≤◌, List, [], ◌∷◌, ◌++◌, refl, subst, ap, ◌∙◌, sym, arith}
+use Rattle.std.proofs.lemmas.List.{append-nil}
 use Rattle.pf_io.specs.Counts.{Rose}
-use Rattle.pf_io.specs.Disk.{Files}
-use Rattle.pf_io.specs.Host.{Answer, HostState, Both, IsMore, OnHonest, files_of}
-use Rattle.pf_io.specs.Answered.{IsAnswerOf, WereTold}
-use Rattle.pf_io.specs.Streams.{SinkState, TakesFront}
-use Rattle.pf_io.proofs.Telling.{both_same, both_weaker}
-use Rattle.pf_tool.specs.World.{World, with_host, with_out, with_log, with_random}
-use Rattle.pf_tool.specs.Events.{Event, Answers, Draws, Puts, answers_in, words_in, pieces_in, bytes_in}
-use Rattle.pf_tool.specs.Endings.{Ending, Done, Damaged, BadName, NotFound, KeyFile, NotProtected, Unbuilt, Stop, AtEnd, Failed, Starved, ending_line, ending_status, stop_line, stop_status, memory_line}
-use Rattle.pf_tool.specs.Happened.{Passed, FailedIn, Happened}
-use Rattle.pf_tool.specs.Outcomes.{Stands, Outcome}
-use Rattle.pf_tool.specs.Reports.{Wrote, Reported, line_written, log_failed, Reports}
-use Rattle.pf_tool.specs.Runs.{Calm, NoneRose}
+use Rattle.pf_io.specs.Host.{IsMore}
+use Rattle.pf_io.specs.Streams.{SinkState}
+use Rattle.pf_io.proofs.Telling.{both_same}
+use Rattle.pf_tool.specs.World.{World}
+use Rattle.pf_tool.specs.Events.{Event, Answers, Draws, Puts, words_in, pieces_in}
+use Rattle.pf_tool.specs.Endings.{Ending, Done, Damaged, BadName, NotFound, KeyFile, NotProtected, Unbuilt, Stop, AtEnd, Failed, Starved, ending_status, stop_line, stop_status}
+use Rattle.pf_tool.specs.Happened.{Passed, CallFailed, Happened}
+use Rattle.pf_tool.specs.Outcomes.{StopsAt}
+use Rattle.pf_tool.specs.Reports.{WroteAll, Reported, line_written, log_failed, Reports}
 use Rattle.pf_tool.proofs.Writing.{rose_after}
 use Rattle.pf_tool.proofs.Composing.{words_then, pieces_then}
 
@@ -36,12 +32,12 @@ stop_low Starved = omega arith
 
 -- what was said: the line, or the log failed
 abbrev pub Said : Stop → SinkState → SinkState → ℕ → Type 0
-Said stop old new status = ((status ≡ stop_status stop) × Wrote (stop_line stop) old new) ⊎ ((status ≡ 7) × Rose old.faults new.faults)
+Said stop old new status = ((status ≡ stop_status stop) × WroteAll (stop_line stop) old new) ⊎ ((status ≡ 7) × Rose old.faults new.faults)
 
-pub wrote_nothing : (old new : SinkState) → new ≡ old → Wrote [] old new
+pub wrote_nothing : (old new : SinkState) → new ≡ old → WroteAll [] old new
 wrote_nothing old new same = record { told = both_same (IsMore []) old.bytes new.bytes (ap (λ (s : SinkState). s.bytes) same) (λ bytes. sym (append-nil bytes)); calm = ap (λ (s : SinkState). s.faults) same }
 
-pub reported_said : (text : List ℕ) (n : ℕ) (old new : SinkState) (status : ℕ) → Reported text n old new status → ((status ≡ n) × Wrote text old new) ⊎ ((status ≡ 7) × Rose old.faults new.faults)
+pub reported_said : (text : List ℕ) (n : ℕ) (old new : SinkState) (status : ℕ) → Reported text n old new status → ((status ≡ n) × WroteAll text old new) ⊎ ((status ≡ 7) × Rose old.faults new.faults)
 reported_said text n old new status (line_written is wrote) = inl (is, wrote)
 reported_said text n old new status (log_failed is failed) = inr (is, failed.rose)
 
@@ -139,18 +135,18 @@ no_front : {A : Type 0} (xs ys : List A) → xs ++ ys ≡ [] → (xs ≡ []) × 
 no_front [] ys none = (refl, none)
 no_front (x ∷ xs) ys none = absurd (cc)
 
-failed_undrawn : (event : Event) (mid new : World) (rest : List Event) → words_in (event ∷ rest) ≡ [] → FailedIn event mid new → new.random ≡ mid.random
+failed_undrawn : (event : Event) (mid new : World) (rest : List Event) → words_in (event ∷ rest) ≡ [] → CallFailed event mid new → new.random ≡ mid.random
 failed_undrawn (Answers answer) mid new rest none failed = ap (λ (w : World). w.random) failed.1
 failed_undrawn (Draws word) mid new rest none failed = absurd (cc)
 failed_undrawn (Puts bytes) mid new rest none failed = ap (λ (w : World). w.random) failed.1
 
-failed_unput : (event : Event) (mid new : World) (rest : List Event) → pieces_in (event ∷ rest) ≡ [] → FailedIn event mid new → new.out ≡ mid.out
+failed_unput : (event : Event) (mid new : World) (rest : List Event) → pieces_in (event ∷ rest) ≡ [] → CallFailed event mid new → new.out ≡ mid.out
 failed_unput (Answers answer) mid new rest none failed = ap (λ (w : World). w.out) failed.1
 failed_unput (Draws word) mid new rest none failed = ap (λ (w : World). w.out) failed.1
 failed_unput (Puts bytes) mid new rest none failed = absurd (cc)
 
 -- where no run draws, the random words stay
-pub undrawn : (Leads : List Event → Ending → Type 0) (es : List Event) (stop : Stop) (old new : World) → ((es : List Event) (ending : Ending) → Leads es ending → words_in es ≡ []) → Stands Leads es stop → Happened es stop old new → new.random ≡ old.random
+pub undrawn : (Leads : List Event → Ending → Type 0) (es : List Event) (stop : Stop) (old new : World) → ((es : List Event) (ending : Ending) → Leads es ending → words_in es ≡ []) → StopsAt Leads es stop → Happened es stop old new → new.random ≡ old.random
 undrawn Leads es (AtEnd ending) old new never stands happened = happened.random.untouched (never es ending stands)
 undrawn Leads es (Failed event) old new never stands happened =
     let both = no_front (words_in es) (words_in (event ∷ stands.0)) (sym (words_then es (event ∷ stands.0)) ∙ never (es ++ event ∷ stands.0) stands.1 stands.2) in
@@ -160,7 +156,7 @@ undrawn Leads es Starved old new never stands happened =
     happened.random.untouched both.0
 
 -- where no run puts anything out, the output stays
-pub unput : (Leads : List Event → Ending → Type 0) (es : List Event) (stop : Stop) (old new : World) → ((es : List Event) (ending : Ending) → Leads es ending → pieces_in es ≡ []) → Stands Leads es stop → Happened es stop old new → new.out ≡ old.out
+pub unput : (Leads : List Event → Ending → Type 0) (es : List Event) (stop : Stop) (old new : World) → ((es : List Event) (ending : Ending) → Leads es ending → pieces_in es ≡ []) → StopsAt Leads es stop → Happened es stop old new → new.out ≡ old.out
 unput Leads es (AtEnd ending) old new never stands happened = happened.out.untouched (never es ending stands)
 unput Leads es (Failed event) old new never stands happened =
     let both = no_front (pieces_in es) (pieces_in (event ∷ stands.0)) (sym (pieces_then es (event ∷ stands.0)) ∙ never (es ++ event ∷ stands.0) stands.1 stands.2) in

@@ -1,12 +1,11 @@
 -- Files that have the same blocks up to a number give the same there.
-use Rattle.std.proofs.Common.{◌≡◌, inl, inr, ℕ, ◌+◌, ◌<◌, ◌≤◌, List, length, ◌∙◌, arith}
+use Rattle.std.proofs.Common.{◌≡◌, ℕ, ◌+◌, ◌<◌, ◌≤◌, List, ◌∙◌, arith}
 use Rattle.node_layout.specs.declared.damage.Damage.{Damage}
 use Rattle.node_layout.specs.declared.damage.Kind.{Kind}
 use Rattle.node_layout.specs.Places.{node_count, parent_of}
 use Rattle.node_layout.proofs.Numbers.{parent_before}
 use Rattle.node_tree.specs.Opened.{Entry, Opened, was_held, root_opens, child_opens, Fails, is_short, root_fails, child_fails, NothingHeld, BlockOf, block_of}
 use Rattle.node_tree.specs.Parts.{IsWhole, IsBroken}
-use Rattle.node_tree.specs.Touched.{IsTouched}
 use Rattle.node_tree.proofs.Lively.{touched_live}
 
 abbrev pub SameTo : ℕ → List ℕ → List ℕ → Type 0

@@ -3,7 +3,7 @@ use Rattle.std.proofs.Common.{◌≡◌, ◌≢◌, ◌⊎◌, inl, inr, ⊎_eli
 use Rattle.std.specs.Prelude.{slice_get, codes}
 use Rattle.std.specs.List.{concat}
 use Rattle.node_layout.specs.Metadata.{IsPath}
-use Rattle.node_tree.specs.Sheet.{Sheet, image_of, Stands}
+use Rattle.node_tree.specs.Sheet.{Sheet, image_of}
 use Rattle.node_tree.specs.Standing.{IsOneNode, SmallSheet}
 use Rattle.node_tree.proofs.Small.{small_sheet}
 use Rattle.pf_io.specs.Disk.{Name, File, Disk, Image, IsImage, IsImageAt, IsSettledFile}

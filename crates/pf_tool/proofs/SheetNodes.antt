@@ -1,11 +1,10 @@
 -- Nodes that open from blocks of a sheet are the sheet's.
-use Rattle.std.proofs.Common.{◌≡◌, ◌≢◌, inl, inr, ℕ, ◌+◌, ◌-◌, ◌<◌, ◌≤◌, min, List, [], length, take, drop, refl, ap, ap₂, ◌∙◌, sym, arith, subst, Some}
+use Rattle.std.proofs.Common.{◌≡◌, ◌≢◌, inl, ℕ, ◌+◌, ◌-◌, ◌<◌, ◌≤◌, min, List, [], length, take, drop, refl, ap, ap₂, ◌∙◌, sym, arith, subst, Some}
 use Rattle.std.proofs.lemmas.List.{take_min, length-drop}
 use Rattle.std.proofs.lemmas.Option.{none-some}
 use Rattle.aes_gcm.specs.Gcm.{opens}
 use Rattle.aes_gcm.proofs.Sealed.{opens_sealed}
 use Rattle.node_layout.specs.Entries.{entry_at}
-use Rattle.node_layout.specs.Metadata.{IsMetaText}
 use Rattle.node_layout.specs.Places.{node_count, data_place, parent_of, slot_of}
 use Rattle.node_layout.specs.declared.damage.Kind.{Kind}
 use Rattle.node_layout.specs.declared.metadata.MetaSecret.{MetaSecret}

@@ -1,12 +1,12 @@
 -- The side file on an honest disk.
-use Rattle.std.proofs.Common.{◌≡◌, ◌≢◌, inl, inr, ⊎_elim, ℕ, ◌+◌, ◌-◌, ◌<◌, ◌≤◌, List, [], ◌∷◌, ◌++◌, length, drop, replicate, refl, subst, ap, ◌∙◌, Option, Result, Ok, Err, IsOk, arith}
+use Rattle.std.proofs.Common.{◌≡◌, ◌≢◌, inl, inr, ⊎_elim, ℕ, ◌+◌, ◌-◌, ◌<◌, ◌≤◌, List, [], ◌∷◌, ◌++◌, length, drop, replicate, subst, ap, ◌∙◌, Option, Result, Ok, Err, IsOk, arith}
 use Rattle.std.proofs.lemmas.List.{append-nil, drop_all}
 use Rattle.pf_io.specs.Disk.{Name, Disk, Image, IsImageAt}
 use Rattle.pf_io.specs.Host.{Both}
 use Rattle.pf_io.proofs.Telling.{both_weaker}
 use Rattle.pf_io.specs.Moments.{Honest, Does, Ran}
 use Rattle.pf_io.specs.Steps.{overwrite, KeepsOthers, Changes, Writes, Syncs, Makes}
-use Rattle.pf_io.proofs.Images.{others_image, others_then, follows_at, made_others}
+use Rattle.pf_io.proofs.Images.{others_image, others_then, follows_at}
 use Rattle.pf_io.specs.Names.{side_of}
 use Rattle.pf_tool.specs.Events.{Event}
 use Rattle.pf_tool.specs.Endings.{Done, Stop, AtEnd}

@@ -1,18 +1,17 @@
 -- The two parts of the making of a side file, from their calls.
-use Rattle.std.proofs.Common.{◌≡◌, ◌<◌, ℕ, List, [], ◌∷◌, ◌++◌, length, take, refl, subst, ap, ◌∙◌, sym, arith, Option}
+use Rattle.std.proofs.Common.{◌≡◌, ◌<◌, ℕ, List, [], ◌∷◌, ◌++◌, length, refl, ap, sym, arith}
 use Rattle.std.specs.List.{concat}
 use Rattle.std.specs.Prelude.{slice_index_or}
 use Rattle.std.proofs.lemmas.List.{append-nil}
 use Rattle.pf_io.specs.Disk.{Name}
-use Rattle.pf_io.specs.Host.{Answer, Wrote, Synced, Made, Swapped, HostState}
+use Rattle.pf_io.specs.Host.{Wrote, Synced, Made, Swapped, HostState}
 use Rattle.pf_io.specs.Names.{side_of}
 use Rattle.pf_io.specs.Words.{WordsState}
 use Rattle.pf_tool.specs.World.{World, with_host, with_random}
-use Rattle.pf_tool.specs.Events.{Event, Answers, Draws, words_in}
-use Rattle.pf_tool.specs.Endings.{Ending, Done, Stop, AtEnd, Failed, tried}
-use Rattle.pf_tool.specs.Happened.{HostPassed, HostFailed, WordsPassed, WordFailed, Passed}
+use Rattle.pf_tool.specs.Events.{Event, Answers, Draws}
+use Rattle.pf_tool.specs.Endings.{Done, AtEnd, Failed}
+use Rattle.pf_tool.specs.Happened.{HostPassed, HostFailed, WordsPassed, Passed}
 use Rattle.pf_tool.specs.Outcomes.{Falls, Outcome}
-use Rattle.pf_tool.specs.SideFiles.{IsMade, IsSwapped}
 use Rattle.pf_tool.specs.Encrypting.{node_of, begun_events, published_events}
 use Rattle.pf_tool.specs.Making.{IsDrawn, DrawFails, no_first, no_second, Begins, LeavesBegun, Publishes, LeavesPublished}
 use Rattle.pf_tool.specs.declared.fault.Fault.{Fault}

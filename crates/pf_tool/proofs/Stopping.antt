@@ -1,15 +1,14 @@
 -- Where a part of a command stops, the command stops.
-use Rattle.std.proofs.Common.{◌≡◌, ℕ, List, [], ◌∷◌, ◌++◌, refl, subst, ap, ◌∙◌, sym, Option, IfSome, Result, Ok, Err, append_assoc}
+use Rattle.std.proofs.Common.{◌≡◌, ℕ, List, [], ◌∷◌, ◌++◌, refl, subst, ap, ◌∙◌, sym, append_assoc}
 use Rattle.std.specs.List.{AllByRecursion}
-use Rattle.pf_io.specs.Disk.{Files}
 use Rattle.pf_io.specs.Host.{Answer, HostState, KeepsFiles, OnHonest}
 use Rattle.pf_io.specs.Answered.{IsAnswerOf}
 use Rattle.pf_tool.specs.World.{World}
 use Rattle.pf_tool.specs.Events.{Event, Answers, Draws, Puts, answers_in}
-use Rattle.pf_tool.specs.Endings.{Ending, Done, Stop, AtEnd, Failed, Starved, tried, ending_line, ending_status}
-use Rattle.pf_tool.specs.Happened.{Passed, FailedIn, Happened}
+use Rattle.pf_tool.specs.Endings.{Ending, Stop, AtEnd, Failed, Starved, tried, ending_line, ending_status}
+use Rattle.pf_tool.specs.Happened.{Passed, CallFailed}
 use Rattle.pf_tool.specs.Faults.{fault_line, fault_status}
-use Rattle.pf_tool.specs.Outcomes.{Stands, Outcome, IsFaultOf, Falls, Ends}
+use Rattle.pf_tool.specs.Outcomes.{StopsAt, Outcome, Falls}
 use Rattle.pf_tool.specs.declared.fault.Fault.{Fault}
 use Rattle.pf_tool.specs.declared.fault.Fault.TheVariants as faults
 use Rattle.pf_tool.proofs.Composing.{files_kept, happened_honest, happened_then, tried_then, passed_none}
@@ -29,7 +28,7 @@ not_done faults.Memory is = absurd (cc)
 not_done faults.Random is = absurd (cc)
 
 -- where the part leads to an ending, the whole leads to it after what came before
-pub stands_then : (xs : List Event) (Part Leads : List Event → Ending → Type 0) (es : List Event) (stop : Stop) → ((es : List Event) (ending : Ending) → Part es ending → Leads (xs ++ es) ending) → Stands Part es stop → Stands Leads (xs ++ es) stop
+pub stands_then : (xs : List Event) (Part Leads : List Event → Ending → Type 0) (es : List Event) (stop : Stop) → ((es : List Event) (ending : Ending) → Part es ending → Leads (xs ++ es) ending) → StopsAt Part es stop → StopsAt Leads (xs ++ es) stop
 stands_then xs Part Leads es (AtEnd ending) go stands = go es ending stands
 stands_then xs Part Leads es (Failed event) go stands =
     (stands.0, stands.1, subst (λ (l : List Event). Leads l stands.1) (sym (append_assoc xs es (event ∷ stands.0))) (go (es ++ event ∷ stands.0) stands.1 stands.2))
@@ -46,7 +45,7 @@ shifted xs es rest more event =
 
 -- where a part that is done leads on, the whole stops where the part failed
 pub stands_on : (xs : List Event) (Part Leads : List Event → Ending → Type 0) (es : List Event) (stop : Stop) → ((es : List Event) (ending : Ending) → Part es ending → GoesOn Leads (xs ++ es))
-    → ((ending : Ending) → stop ≡ AtEnd ending → Part es ending → ⊥) → Stands Part es stop → Stands Leads (xs ++ es) stop
+    → ((ending : Ending) → stop ≡ AtEnd ending → Part es ending → ⊥) → StopsAt Part es stop → StopsAt Leads (xs ++ es) stop
 stands_on xs Part Leads es (AtEnd ending) go never stands = absurd (never ending refl stands)
 stands_on xs Part Leads es (Failed event) go never stands =
     let on = go (es ++ event ∷ stands.0) stands.1 stands.2 in
@@ -57,7 +56,7 @@ stands_on xs Part Leads es Starved go never stands =
 
 module _ (xs : List Event) (Part Leads : List Event → Ending → Type 0) (PartLeaves Leaves : List Event → Stop → HostState → HostState → Type 0) (stop : Stop) (old mid new : World) where
   -- A part after other events. What it asked an honest host is answered so over the files before those events, too.
-  pub outcome_of : (o : Outcome Part PartLeaves stop mid new) → Passed xs old mid → OnHonest old.host (λ files. AllByRecursion (IsAnswerOf files) (answers_in o.events)) → Stands Leads (xs ++ o.events) stop
+  pub outcome_of : (o : Outcome Part PartLeaves stop mid new) → Passed xs old mid → OnHonest old.host (λ files. AllByRecursion (IsAnswerOf files) (answers_in o.events)) → StopsAt Leads (xs ++ o.events) stop
       → (PartLeaves (tried o.events stop) stop mid.host new.host → Leaves (xs ++ tried o.events stop) stop old.host new.host) → Outcome Leads Leaves stop old new
   outcome_of o passed honest stands left = record {
     events = xs ++ o.events;
@@ -92,7 +91,7 @@ refused Leads Leaves events ending fault old new says ends leads passed left = r
 
 -- after these events the call for the next one failed
 module _ (Leads : List Event → Ending → Type 0) (Leaves : List Event → Stop → HostState → HostState → Type 0) (events rest : List Event) (ending : Ending) (fault : Fault) (old mid new : World) where
-  pub host_fails : (answer : Answer) → fault ≡ faults.Host → Leads (events ++ Answers answer ∷ rest) ending → Passed events old mid → FailedIn (Answers answer) mid new
+  pub host_fails : (answer : Answer) → fault ≡ faults.Host → Leads (events ++ Answers answer ∷ rest) ending → Passed events old mid → CallFailed (Answers answer) mid new
       → Leaves (events ++ Answers answer ∷ []) (Failed (Answers answer)) old.host new.host → Falls Leads Leaves fault old new
   host_fails answer is leads passed failed left = record {
     stop = Failed (Answers answer);
@@ -100,7 +99,7 @@ module _ (Leads : List Event → Ending → Type 0) (Leaves : List Event → Sto
     outcome = record { events = events; stands = (rest, ending, leads); happened = (mid, passed, failed); leaves = left };
   }
 
-  pub random_fails : (word : List ℕ) → fault ≡ faults.Random → Leads (events ++ Draws word ∷ rest) ending → Passed events old mid → FailedIn (Draws word) mid new
+  pub random_fails : (word : List ℕ) → fault ≡ faults.Random → Leads (events ++ Draws word ∷ rest) ending → Passed events old mid → CallFailed (Draws word) mid new
       → Leaves (events ++ Draws word ∷ []) (Failed (Draws word)) old.host new.host → Falls Leads Leaves fault old new
   random_fails word is leads passed failed left = record {
     stop = Failed (Draws word);
@@ -108,7 +107,7 @@ module _ (Leads : List Event → Ending → Type 0) (Leaves : List Event → Sto
     outcome = record { events = events; stands = (rest, ending, leads); happened = (mid, passed, failed); leaves = left };
   }
 
-  pub out_fails : (bytes : List ℕ) → fault ≡ faults.Stream → Leads (events ++ Puts bytes ∷ rest) ending → Passed events old mid → FailedIn (Puts bytes) mid new
+  pub out_fails : (bytes : List ℕ) → fault ≡ faults.Stream → Leads (events ++ Puts bytes ∷ rest) ending → Passed events old mid → CallFailed (Puts bytes) mid new
       → Leaves (events ++ Puts bytes ∷ []) (Failed (Puts bytes)) old.host new.host → Falls Leads Leaves fault old new
   out_fails bytes is leads passed failed left = record {
     stop = Failed (Puts bytes);

@@ -7,7 +7,7 @@ use Rattle.pf_io.specs.Host.{Both, IsMore}
 use Rattle.pf_io.specs.Streams.{SinkState, Takes, TakesFront}
 use Rattle.pf_io.proofs.Telling.{both_then, both_weaker}
 use Rattle.pf_tool.specs.Endings.{line}
-use Rattle.pf_tool.specs.Reports.{Wrote, FailedIn, Written}
+use Rattle.pf_tool.specs.Reports.{WroteAll, SinkFailed, Written}
 
 -- a front of the first text is a front of both
 front_of_both : (x y before now : List ℕ) → TakesFront x before now → TakesFront (x ++ y) before now
@@ -42,21 +42,21 @@ front_then x y o p front = both_weaker (TakesFront x) (TakesFront (x ++ y)) o p 
 pub rose_after : (before mid now : ℕ) → mid ≡ before → Rose mid now → Rose before now
 rose_after before mid now calm rose = subst (λ (n : ℕ). Rose n now) calm rose
 
-pub wrote_both : (x y : List ℕ) (old mid new : SinkState) → Wrote x old mid → Wrote y mid new → Wrote (x ++ y) old new
+pub wrote_both : (x y : List ℕ) (old mid new : SinkState) → WroteAll x old mid → WroteAll y mid new → WroteAll (x ++ y) old new
 wrote_both x y old mid new first second = record {
   told = told_both x y old.bytes mid.bytes new.bytes first.told second.told;
   calm = second.calm ∙ first.calm;
 }
 
 -- the second write failed
-pub failed_second : (x y : List ℕ) (old mid new : SinkState) → Wrote x old mid → FailedIn y mid new → FailedIn (x ++ y) old new
+pub failed_second : (x y : List ℕ) (old mid new : SinkState) → WroteAll x old mid → SinkFailed y mid new → SinkFailed (x ++ y) old new
 failed_second x y old mid new first second = record {
   told = told_front x y old.bytes mid.bytes new.bytes first.told second.told;
   rose = rose_after old.faults mid.faults new.faults first.calm second.rose;
 }
 
 -- the first did
-pub failed_first : (x y : List ℕ) (old new : SinkState) → FailedIn x old new → FailedIn (x ++ y) old new
+pub failed_first : (x y : List ℕ) (old new : SinkState) → SinkFailed x old new → SinkFailed (x ++ y) old new
 failed_first x y old new failed = record { told = front_then x y old.bytes new.bytes failed.told; rose = failed.rose }
 
 -- one write
@@ -64,22 +64,22 @@ pub written_by : {T E : Type 0} (r : Result T E) (bytes : List ℕ) (old new : S
 written_by (Ok v) bytes old new cause takes = record { told = takes; calm = cause.still }
 written_by (Err e) bytes old new cause takes = record { told = takes; rose = cause.rose }
 
-pub written_second : {T E : Type 0} (r : Result T E) (x y : List ℕ) (old mid new : SinkState) → Wrote x old mid → Written r y mid new → Written r (x ++ y) old new
+pub written_second : {T E : Type 0} (r : Result T E) (x y : List ℕ) (old mid new : SinkState) → WroteAll x old mid → Written r y mid new → Written r (x ++ y) old new
 written_second (Ok v) x y old mid new first second = wrote_both x y old mid new first second
 written_second (Err e) x y old mid new first second = failed_second x y old mid new first second
 
 -- a line of three texts
 module _ (a b c : List ℕ) (old : SinkState) where
-  pub line_fails_first : (new : SinkState) → FailedIn a old new → FailedIn (line (a ++ b ++ c)) old new
+  pub line_fails_first : (new : SinkState) → SinkFailed a old new → SinkFailed (line (a ++ b ++ c)) old new
   line_fails_first new failed = failed_first (a ++ b ++ c) (10 ∷ []) old new (failed_first (a ++ b) c old new (failed_first a b old new failed))
 
-  pub line_fails_second : (mid new : SinkState) → Wrote a old mid → FailedIn b mid new → FailedIn (line (a ++ b ++ c)) old new
+  pub line_fails_second : (mid new : SinkState) → WroteAll a old mid → SinkFailed b mid new → SinkFailed (line (a ++ b ++ c)) old new
   line_fails_second mid new first failed = failed_first (a ++ b ++ c) (10 ∷ []) old new (failed_first (a ++ b) c old new (failed_second a b old mid new first failed))
 
-  pub line_fails_third : (mid then_ new : SinkState) → Wrote a old mid → Wrote b mid then_ → FailedIn c then_ new → FailedIn (line (a ++ b ++ c)) old new
+  pub line_fails_third : (mid then_ new : SinkState) → WroteAll a old mid → WroteAll b mid then_ → SinkFailed c then_ new → SinkFailed (line (a ++ b ++ c)) old new
   line_fails_third mid then_ new first second failed =
       failed_first (a ++ b ++ c) (10 ∷ []) old new (failed_second (a ++ b) c old then_ new (wrote_both a b old mid then_ first second) failed)
 
-  pub line_ends : {T E : Type 0} (r : Result T E) (mid then_ last new : SinkState) → Wrote a old mid → Wrote b mid then_ → Wrote c then_ last → Written r (10 ∷ []) last new → Written r (line (a ++ b ++ c)) old new
+  pub line_ends : {T E : Type 0} (r : Result T E) (mid then_ last new : SinkState) → WroteAll a old mid → WroteAll b mid then_ → WroteAll c then_ last → Written r (10 ∷ []) last new → Written r (line (a ++ b ++ c)) old new
   line_ends r mid then_ last new first second third ends =
       written_second r (a ++ b ++ c) (10 ∷ []) old last new (wrote_both (a ++ b) c old then_ last (wrote_both a b old mid then_ first second) third) ends

@@ -16,8 +16,8 @@ use Rattle.pf_tool.specs.World.{World}
 use Rattle.pf_tool.specs.Events.{Event, answers_in, pieces_in}
 use Rattle.pf_tool.specs.Endings.{Done, Damaged, Stop, AtEnd, tried, ending_line}
 use Rattle.pf_tool.specs.Decrypting.{DecryptLeads}
-use Rattle.pf_tool.specs.Outcomes.{Stands}
-use Rattle.pf_tool.specs.Reports.{Wrote}
+use Rattle.pf_tool.specs.Outcomes.{StopsAt}
+use Rattle.pf_tool.specs.Reports.{WroteAll}
 
 -- the pieces of a content from a place on, as far as they go
 abbrev pub ArePiecesOf : List ℕ → ℕ → List (List ℕ) → Type 0
@@ -49,7 +49,7 @@ pub record IsOfSheets (user : List ℕ) (sheets : List Sheet) (input : Name) (ev
   pub never_text : stop ≢ AtEnd (Damaged 0 Text)
 
 abbrev pub DecryptsSheets : Type 0
-DecryptsSheets = (key input : Name) (events : List Event) (stop : Stop) (user : List ℕ) (sheets : List Sheet) → Stands (DecryptLeads key input) events stop → Contains (answers_in events) (Gave key 0 16 user)
+DecryptsSheets = (key input : Name) (events : List Event) (stop : Stop) (user : List ℕ) (sheets : List Sheet) → StopsAt (DecryptLeads key input) events stop → Contains (answers_in events) (Gave key 0 16 user)
     → Unforged user sheets (answers_in events) → IsOfSheets user sheets input events stop
 
 -- What came of a run of which these answers were told: the output took a front of the sheet's content, at status 0 all of it,
@@ -57,7 +57,7 @@ DecryptsSheets = (key input : Name) (events : List Event) (stop : Stop) (user : 
 pub record TookOf (input : Name) (sheet : Sheet) (these : List Answer) (old new : World) (status : ℕ) : Type 0 where
   pub front : Both old.out.bytes new.out.bytes (TakesFront sheet.content)
   pub all : status ≡ 0 → Both old.out.bytes new.out.bytes (IsMore sheet.content)
-  pub damage : status ≡ 1 → (k : ℕ) × (kind : Kind) × Wrote (ending_line (Damaged k kind)) old.log new.log × (1 ≤ k → IsForeign sheet (Given input these) k)
+  pub damage : status ≡ 1 → (k : ℕ) × (kind : Kind) × WroteAll (ending_line (Damaged k kind)) old.log new.log × (1 ≤ k → IsForeign sheet (Given input these) k)
 
 -- So for each sheet of the list that the node 0 given carries, and where anything was put out, or the work is done, there is one.
 pub record TookOfSheets (user : List ℕ) (sheets : List Sheet) (input : Name) (these : List Answer) (old new : World) (status : ℕ) : Type 0 where

@@ -15,10 +15,10 @@ use Rattle.pf_io.specs.Host.{LengthWas, Gave}
 use Rattle.pf_io.specs.Names.{IsTarget}
 use Rattle.pf_tool.specs.Events.{Event, Answers, Puts}
 use Rattle.pf_tool.specs.Endings.{Ending, Done, Damaged, BadName, NotFound, KeyFile, NotProtected, Unbuilt}
-use Rattle.pf_tool.specs.Keys.{HasKey, KeyRefused, KeyOver, key_events}
+use Rattle.pf_tool.specs.Keys.{IsKeyOf, KeyRefused, KeyOver, key_events}
 
 -- node 0 is whole, of version 1.0, and has no update pending
-pub record IsWhole (node : List ℕ) : Type 0 where
+pub record IsOpenable (node : List ℕ) : Type 0 where
   pub whole : length node ≡ 4096
   pub plain : IsPlain node
   pub flag : flag_at node ≡ 0
@@ -28,7 +28,7 @@ pub data NodeRefused (user node : List ℕ) (ending : Ending) : Type 0 where
   not_protected : take 8 node ≢ magic → ending ≡ NotProtected → NodeRefused user node ending
   node_short : take 8 node ≡ magic → length node < 4096 → ending ≡ Damaged 0 Short → NodeRefused user node ending
   node_unbuilt : take 8 node ≡ magic → length node ≡ 4096 → (flag_at node ≢ 0) ⊎ ¬ (IsPlain node) → ending ≡ Unbuilt → NodeRefused user node ending
-  node_damaged : (kind : Kind) → IsWhole node → IsOpenFault user node kind → ending ≡ Damaged 0 kind → NodeRefused user node ending
+  node_damaged : (kind : Kind) → IsOpenable node → IsOpenFault user node kind → ending ≡ Damaged 0 kind → NodeRefused user node ending
 
 -- all pieces are there, or one has a damaged node
 abbrev pub end_of : Option Damage → Ending
@@ -38,7 +38,7 @@ end_of (Some damage) = Damaged damage.node damage.kind
 -- What the bytes of a file come to under a user's key: the pieces of the content that are put out, and the ending.
 pub data ComesTo (user file : List ℕ) (pieces : List (List ℕ)) (ending : Ending) : Type 0 where
   node_refused : NodeRefused user (block_of file 0) ending → pieces ≡ [] → ComesTo user file pieces ending
-  pieces_read : (end : Option Damage) → IsWhole (block_of file 0) → ArePieces user file pieces end → ending ≡ end_of end → ComesTo user file pieces ending
+  pieces_read : (end : Option Damage) → IsOpenable (block_of file 0) → ArePieces user file pieces end → ending ≡ end_of end → ComesTo user file pieces ending
 
 -- the nodes of a file from one number up to another, each asked for once
 abbrev pub node_events : Name → List ℕ → ℕ → ℕ → List Event
@@ -80,7 +80,7 @@ pub data Unseals (user : List ℕ) (input : Name) (events : List Event) (ending 
 -- the whole command
 pub data DecryptLeads (key input : Name) (events : List Event) (ending : Ending) : Type 0 where
   decrypt_key_refused : KeyRefused key events ending → DecryptLeads key input events ending
-  decrypt_key_read : (user : List ℕ) (rest : List Event) → HasKey key user → events ≡ key_events key user ++ rest → Unseals user input rest ending → DecryptLeads key input events ending
+  decrypt_key_read : (user : List ℕ) (rest : List Event) → IsKeyOf key user → events ≡ key_events key user ++ rest → Unseals user input rest ending → DecryptLeads key input events ending
 
 -- the pieces and the ending that files give
 pub data DecryptOver (key input : Name) (files : Files) (pieces : List (List ℕ)) (ending : Ending) : Type 0 where

@@ -9,7 +9,7 @@ use Rattle.pf_io.specs.Host.{HostState, Answer, LengthWas, Gave, Wrote, Synced, 
 use Rattle.pf_io.specs.Names.{IsName, IsTarget, side_of, side_recovery_of}
 use Rattle.pf_tool.specs.Events.{Event, Answers, Draws, words_in}
 use Rattle.pf_tool.specs.Endings.{Ending, Done, BadName, NotFound, Unbuilt, Stop}
-use Rattle.pf_tool.specs.Keys.{HasKey, KeyRefused, KeyOver, key_events}
+use Rattle.pf_tool.specs.Keys.{IsKeyOf, KeyRefused, KeyOver, key_events}
 use Rattle.pf_tool.specs.SideFiles.{LeavesBySide}
 
 -- the most bytes of a content that stands in node 0 alone
@@ -54,7 +54,7 @@ pub data Seals (user : List ℕ) (input output : Name) (events : List Event) (en
 -- the whole command
 pub data EncryptLeads (key input output : Name) (events : List Event) (ending : Ending) : Type 0 where
   encrypt_key_refused : KeyRefused key events ending → EncryptLeads key input output events ending
-  encrypt_key_read : (user : List ℕ) (rest : List Event) → HasKey key user → events ≡ key_events key user ++ rest → Seals user input output rest ending
+  encrypt_key_read : (user : List ℕ) (rest : List Event) → IsKeyOf key user → events ≡ key_events key user ++ rest → Seals user input output rest ending
       → EncryptLeads key input output events ending
 
 -- the key and the content that the disk's files give

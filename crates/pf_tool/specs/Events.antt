@@ -1,5 +1,5 @@
 -- What a run does outside of itself: answers of the host, random words and pieces for the output, in one list.
-use Rattle.std.specs.Prelude.{List, [], ◌∷◌, ◌++◌, ℕ}
+use Rattle.std.specs.Prelude.{List, [], ◌∷◌, ℕ}
 use Rattle.std.specs.List.{concat}
 use Rattle.pf_io.specs.Counts.{counted}
 use Rattle.pf_io.specs.Host.{Answer, Gave, Wrote}

@@ -60,13 +60,13 @@ pub record Passed (events : List Event) (old new : World) : Type 0 where
   pub log : new.log ≡ old.log
 
 -- the call failed that was to give this event, and nothing else happened
-abbrev pub FailedIn : Event → World → World → Type 0
-FailedIn (Answers answer) old new = HostFailed answer old.host new.host × (new ≡ with_host old new.host)
-FailedIn (Draws word) old new = WordFailed old.random new.random × (new ≡ with_random old new.random)
-FailedIn (Puts bytes) old new = OutFailed bytes old.out new.out × (new ≡ with_out old new.out)
+abbrev pub CallFailed : Event → World → World → Type 0
+CallFailed (Answers answer) old new = HostFailed answer old.host new.host × (new ≡ with_host old new.host)
+CallFailed (Draws word) old new = WordFailed old.random new.random × (new ≡ with_random old new.random)
+CallFailed (Puts bytes) old new = OutFailed bytes old.out new.out × (new ≡ with_out old new.out)
 
 -- The events came. Where a call failed, it is the last that was made.
 abbrev pub Happened : List Event → Stop → World → World → Type 0
 Happened events (AtEnd ending) old new = Passed events old new
-Happened events (Failed event) old new = (mid : World) × Passed events old mid × FailedIn event mid new
+Happened events (Failed event) old new = (mid : World) × Passed events old mid × CallFailed event mid new
 Happened events Starved old new = Passed events old new

@@ -10,7 +10,7 @@ use Rattle.pf_tool.specs.Endings.{Ending, BadName, NotFound, KeyFile}
 abbrev pub key_events : Name → List ℕ → List Event
 key_events key user = Answers (LengthWas key (Some 16)) ∷ Answers (Gave key 0 16 user) ∷ []
 
-pub record HasKey (key : Name) (user : List ℕ) : Type 0 where
+pub record IsKeyOf (key : Name) (user : List ℕ) : Type 0 where
   pub is_name : IsName key
   pub whole : length user ≡ 16
 

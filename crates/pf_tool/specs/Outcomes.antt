@@ -13,15 +13,15 @@ use Rattle.pf_tool.specs.declared.fault.Fault.{Fault}
 -- Where a run may stop. `Leads events ending`: these are all events of a run with this ending. Where a call fails, or memory
 -- is wanting, the events so far are a front of those of a run that comes to an ending, and the call is one that this run
 -- makes next. So nothing is done and then refused, and no call is passed over.
-abbrev pub Stands : (List Event → Ending → Type 0) → List Event → Stop → Type 0
-Stands Leads events (AtEnd ending) = Leads events ending
-Stands Leads events (Failed event) = (rest : List Event) × (ending : Ending) × Leads (events ++ event ∷ rest) ending
-Stands Leads events Starved = (event : Event) × (rest : List Event) × (ending : Ending) × Leads (events ++ event ∷ rest) ending
+abbrev pub StopsAt : (List Event → Ending → Type 0) → List Event → Stop → Type 0
+StopsAt Leads events (AtEnd ending) = Leads events ending
+StopsAt Leads events (Failed event) = (rest : List Event) × (ending : Ending) × Leads (events ++ event ∷ rest) ending
+StopsAt Leads events Starved = (event : Event) × (rest : List Event) × (ending : Ending) × Leads (events ++ event ∷ rest) ending
 
 -- `Leaves tried stop`: what is left on the host after what was tried.
 pub record Outcome (Leads : List Event → Ending → Type 0) (Leaves : List Event → Stop → HostState → HostState → Type 0) (stop : Stop) (old new : World) : Type 0 where
   pub events : List Event
-  pub stands : Stands Leads events stop
+  pub stands : StopsAt Leads events stop
   pub happened : Happened events stop old new
   pub leaves : Leaves (tried events stop) stop old.host new.host
 
@@ -37,9 +37,9 @@ pub record Falls (Leads : List Event → Ending → Type 0) (Leaves : List Event
   pub outcome : Outcome Leads Leaves stop old new
 
 -- a command is done, or did not come to its end
-abbrev pub Ends : {T : Type 0} → (List Event → Ending → Type 0) → (List Event → Stop → HostState → HostState → Type 0) → Result T Fault → World → World → Type 0
-Ends Leads Leaves (Ok value) old new = Outcome Leads Leaves (AtEnd Done) old new
-Ends Leads Leaves (Err fault) old new = Falls Leads Leaves fault old new
+abbrev pub ComesOut : {T : Type 0} → (List Event → Ending → Type 0) → (List Event → Stop → HostState → HostState → Type 0) → Result T Fault → World → World → Type 0
+ComesOut Leads Leaves (Ok value) old new = Outcome Leads Leaves (AtEnd Done) old new
+ComesOut Leads Leaves (Err fault) old new = Falls Leads Leaves fault old new
 
 -- what is said of how a command ended
 abbrev pub Concludes : {T : Type 0} → Result T Fault → SinkState → SinkState → ℕ → Type 0

@@ -13,7 +13,7 @@ use Rattle.pf_tool.specs.World.{World, with_log}
 use Rattle.pf_tool.specs.Events.{Event, answers_in}
 use Rattle.pf_tool.specs.Endings.{Ending, Stop, AtEnd, ending_line, ending_status, memory_line, no_command_line}
 use Rattle.pf_tool.specs.Outcomes.{Outcome}
-use Rattle.pf_tool.specs.Reports.{Wrote, Reported, Reports}
+use Rattle.pf_tool.specs.Reports.{WroteAll, Reported, Reports}
 use Rattle.pf_tool.specs.Requests.{Request, Decrypt, Encrypt}
 use Rattle.pf_tool.specs.SideFiles.{IsNewFile}
 use Rattle.pf_tool.specs.Decrypting.{DecryptLeads, DecryptOver}
@@ -26,9 +26,9 @@ Leads (Decrypt key input) events ending = DecryptLeads key input events ending
 Leads (Encrypt key input output) events ending = EncryptLeads key input output events ending
 
 -- what is left on the host after what was tried
-abbrev pub Leaves : Request → List Event → Stop → HostState → HostState → Type 0
-Leaves (Decrypt key input) tried stop old new = KeepsDisk old new
-Leaves (Encrypt key input output) tried stop old new = EncryptLeaves key input output tried stop old new
+abbrev pub LeavesHost : Request → List Event → Stop → HostState → HostState → Type 0
+LeavesHost (Decrypt key input) tried stop old new = KeepsDisk old new
+LeavesHost (Encrypt key input output) tried stop old new = EncryptLeaves key input output tried stop old new
 
 -- the pieces for the output, and the ending, that files give
 abbrev pub Over : Request → Files → List (List ℕ) → Ending → Type 0
@@ -38,7 +38,7 @@ Over (Encrypt key input output) files pieces ending = (pieces ≡ []) × Encrypt
 -- The whole of a run: where it stopped, what had happened until then, and what it said.
 pub record Runs (request : Request) (old new : World) (status : ℕ) : Type 0 where
   pub stop : Stop
-  pub outcome : Outcome (Leads request) (Leaves request) stop old (with_log new old.log)
+  pub outcome : Outcome (Leads request) (LeavesHost request) stop old (with_log new old.log)
   pub reports : Reports stop old.log new.log status
 
 -- words that are no command are named so, and nothing else is done
@@ -85,9 +85,9 @@ pub record NoneRose (old new : World) : Type 0 where
 
 -- What files give is written and said. Or there was no memory, and whatever they give, the output took a front of it.
 pub data Honestly (request : Request) (files : Files) (old new : World) (status : ℕ) : Type 0 where
-  as_files_give : (pieces : List (List ℕ)) (ending : Ending) → Over request files pieces ending → status ≡ ending_status ending → Wrote (concat pieces) old.out new.out → Wrote (ending_line ending) old.log new.log
+  as_files_give : (pieces : List (List ℕ)) (ending : Ending) → Over request files pieces ending → status ≡ ending_status ending → WroteAll (concat pieces) old.out new.out → WroteAll (ending_line ending) old.log new.log
       → Honestly request files old new status
-  starved : ((pieces : List (List ℕ)) (ending : Ending) → Over request files pieces ending → Both old.out.bytes new.out.bytes (TakesFront (concat pieces))) → status ≡ 5 → Wrote memory_line old.log new.log
+  starved : ((pieces : List (List ℕ)) (ending : Ending) → Over request files pieces ending → Both old.out.bytes new.out.bytes (TakesFront (concat pieces))) → status ≡ 5 → WroteAll memory_line old.log new.log
       → Honestly request files old new status
 
 abbrev pub Honest : Request → World → World → ℕ → Type 0

@@ -10,7 +10,7 @@ use Rattle.pf_tool.specs.Events.{Event, Answers}
 use Rattle.pf_tool.specs.Endings.{Ending, AtEnd}
 use Rattle.pf_tool.specs.Happened.{Passed}
 use Rattle.pf_tool.specs.Outcomes.{IsFaultOf}
-use Rattle.pf_tool.specs.Decrypting.{IsWhole}
+use Rattle.pf_tool.specs.Decrypting.{IsOpenable}
 use Rattle.pf_tool.specs.declared.fault.Fault.{Fault}
 use Rattle.pf_tool.specs.declared.fault.Fault.TheVariants as faults
 
@@ -30,8 +30,8 @@ abbrev pub opening_events : Name → ℕ → List ℕ → List Event
 opening_events input size node = Answers (LengthWas input (Some size)) ∷ Answers (Gave input 0 4096 node) ∷ []
 
 -- node 0 was read
-pub record HasNode (input : Name) (node : List ℕ) (old new : HostState) : Type 0 where
+pub record ReadsNode (input : Name) (node : List ℕ) (old new : HostState) : Type 0 where
   pub is_target : IsTarget input
-  pub is_whole : IsWhole node
+  pub is_whole : IsOpenable node
   pub size : ℕ
   pub passed : (world : World) → Passed (opening_events input size node) (with_host world old) (with_host world new)

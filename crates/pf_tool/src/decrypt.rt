@@ -5,9 +5,9 @@ ghost use Rattle.node_layout.specs.Opening.{OpensTo};
 ghost use Rattle.pf_io.specs.Host.{KeepsFiles};
 ghost use Rattle.pf_io.specs.Unchanged.{KeepsDisk};
 ghost use Rattle.pf_tool.specs.World.{World, with_host, with_out};
-ghost use Rattle.pf_tool.specs.Outcomes.{Falls, Ends};
-ghost use Rattle.pf_tool.specs.Decrypting.{IsWhole, NodeRefused, Unseals, DecryptLeads};
-ghost use Rattle.pf_tool.specs.Unsealing.{Refuses, HasNode};
+ghost use Rattle.pf_tool.specs.Outcomes.{Falls, ComesOut};
+ghost use Rattle.pf_tool.specs.Decrypting.{IsOpenable, NodeRefused, Unseals, DecryptLeads};
+ghost use Rattle.pf_tool.specs.Unsealing.{Refuses, ReadsNode};
 
 use crate::fault::Fault;
 use crate::key::read_key;
@@ -37,7 +37,7 @@ fn damaged(kind: Kind) -> Fault<'static>
 // Whether the bytes given of node 0 are whole, of version 1.0 and with no update pending.
 fn check_node(node: &[u8; 4096], given: usize) -> Result<(), Fault<'static>>
     requires { given ≤ 4096 }
-    ensures whole { OnOk result (IsWhole (take given node.now)) }
+    ensures whole { OnOk result (IsOpenable (take given node.now)) }
     ensures refused { IfErr result (λ fault. (user : List ℕ) → Refuses (NodeRefused user (take given node.now)) fault) }
 {
     if given < 8 || !has_magic(node) {
@@ -59,7 +59,7 @@ fn check_node(node: &[u8; 4096], given: usize) -> Result<(), Fault<'static>>
 fn read_node<'a, H: Host>(host: &mut H, name: &'a str) -> Result<[u8; 4096], Fault<'a>>
     ensures files { KeepsFiles (H.state host.old) (H.state host.new) }
     ensures disk { KeepsDisk (H.state host.old) (H.state host.new) }
-    ensures read { IfOk result (λ node. HasNode name.now node (H.state host.old) (H.state host.new)) }
+    ensures read { IfOk result (λ node. ReadsNode name.now node (H.state host.old) (H.state host.new)) }
     ensures refused { IfErr result (λ fault. (user : List ℕ) (world : World) → Falls (Unseals user name.now) (λ _ _. KeepsDisk) fault (with_host world (H.state host.old)) (with_host world (H.state host.new))) }
 {
     if !is_target(name) {
@@ -76,7 +76,7 @@ fn read_node<'a, H: Host>(host: &mut H, name: &'a str) -> Result<[u8; 4096], Fau
 
 // Opens node 0 under the user's key.
 fn open_node(user: &[u8; 16], node: &[u8; 4096]) -> Result<MetaSecret, Fault<'static>>
-    requires { IsWhole node.now }
+    requires { IsOpenable node.now }
     ensures opened { IfOk result (OpensTo user.now node.now) }
     ensures refused { IfErr result (Refuses (NodeRefused user.now node.now)) }
 {
@@ -94,7 +94,7 @@ pub(crate) fn decrypt<'a, H: Host, K: Sink>(
     command: &Decrypt<'a>,
     out: &mut K,
 ) -> Result<(), Fault<'a>>
-    ensures { (world : World) → Ends (DecryptLeads command.now.key.now command.now.input.now) (λ _ _. KeepsDisk) result
+    ensures { (world : World) → ComesOut (DecryptLeads command.now.key.now command.now.input.now) (λ _ _. KeepsDisk) result
         (with_out (with_host world (H.state host.old)) (K.state out.old)) (with_out (with_host world (H.state host.new)) (K.state out.new)) }
 {
     let user = read_key(host, command.key)?;

@@ -2,7 +2,7 @@
 ghost use Rattle.std.specs.Prelude.{◌≡◌, ◌++◌, ◌↔◌, IsTrue};
 ghost use Rattle.pf_io.specs.Names.{IsTarget};
 ghost use Rattle.pf_tool.specs.World.{World, with_host, with_random};
-ghost use Rattle.pf_tool.specs.Outcomes.{Ends};
+ghost use Rattle.pf_tool.specs.Outcomes.{ComesOut};
 ghost use Rattle.pf_tool.specs.Encrypting.{IsInput, Seals, EncryptLeads, EncryptLeaves};
 ghost use Rattle.pf_tool.specs.Making.{LeavesSealed};
 
@@ -42,7 +42,7 @@ fn seal_input<'a, H: Host, R: Words>(
 ) -> Result<(), Fault<'a>>
     requires target { IsTarget command.now.output.now }
     requires input { IsInput command.now.input.now command.now.output.now }
-    ensures { (world : World) → Ends (Seals user.now command.now.input.now command.now.output.now) (LeavesSealed user.now command.now.input.now command.now.output.now) result
+    ensures { (world : World) → ComesOut (Seals user.now command.now.input.now command.now.output.now) (LeavesSealed user.now command.now.input.now command.now.output.now) result
         (with_random (with_host world (H.state host.old)) (R.state random.old)) (with_random (with_host world (H.state host.new)) (R.state random.new)) }
 {
     let Some(_) = host.len(command.input)? else {
@@ -72,7 +72,7 @@ pub(crate) fn encrypt<'a, H: Host, R: Words>(
     random: &mut R,
     command: &Encrypt<'a>,
 ) -> Result<(), Fault<'a>>
-    ensures { (world : World) → Ends (EncryptLeads command.now.key.now command.now.input.now command.now.output.now) (EncryptLeaves command.now.key.now command.now.input.now command.now.output.now) result
+    ensures { (world : World) → ComesOut (EncryptLeads command.now.key.now command.now.input.now command.now.output.now) (EncryptLeaves command.now.key.now command.now.input.now command.now.output.now) result
         (with_random (with_host world (H.state host.old)) (R.state random.old)) (with_random (with_host world (H.state host.new)) (R.state random.new)) }
 {
     let user = read_key(host, command.key)?;

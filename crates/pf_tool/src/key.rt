@@ -5,7 +5,7 @@ ghost use Rattle.pf_io.specs.Unchanged.{KeepsDisk};
 ghost use Rattle.pf_tool.specs.World.{World, with_host};
 ghost use Rattle.pf_tool.specs.Happened.{Passed};
 ghost use Rattle.pf_tool.specs.Outcomes.{Falls};
-ghost use Rattle.pf_tool.specs.Keys.{HasKey, KeyRefused, key_events};
+ghost use Rattle.pf_tool.specs.Keys.{IsKeyOf, KeyRefused, key_events};
 
 use crate::fault::Fault;
 use pf_io::{Host, is_name};
@@ -14,7 +14,7 @@ use pf_io::{Host, is_name};
 pub(crate) fn read_key<'a, H: Host>(host: &mut H, name: &'a str) -> Result<[u8; 16], Fault<'a>>
     ensures files { KeepsFiles (H.state host.old) (H.state host.new) }
     ensures disk { KeepsDisk (H.state host.old) (H.state host.new) }
-    ensures key { IfOk result (HasKey name.now) }
+    ensures key { IfOk result (IsKeyOf name.now) }
     ensures read { IfOk result (λ user. (world : World) → Passed (key_events name.now user) (with_host world (H.state host.old)) (with_host world (H.state host.new))) }
     ensures refused { IfErr result (λ fault. (world : World) → Falls (KeyRefused name.now) (λ _ _. KeepsDisk) fault (with_host world (H.state host.old)) (with_host world (H.state host.new))) }
 {

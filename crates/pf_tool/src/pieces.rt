@@ -3,7 +3,7 @@ ghost use Rattle.std.specs.Prelude.{◌≡◌, ◌^◌, ◌≤◌, List, ℕ, le
 ghost use Rattle.pf_io.specs.Host.{KeepsFiles};
 ghost use Rattle.pf_io.specs.Unchanged.{KeepsDisk};
 ghost use Rattle.pf_tool.specs.World.{World, with_host, with_out};
-ghost use Rattle.pf_tool.specs.Outcomes.{Ends};
+ghost use Rattle.pf_tool.specs.Outcomes.{ComesOut};
 ghost use Rattle.pf_tool.specs.Unsealing.{tree_fault};
 ghost use Rattle.pf_tool.specs.Decrypting.{PiecesLead};
 
@@ -40,7 +40,7 @@ pub(crate) fn write_pieces<H: Host, K: Sink>(
     requires size { secret.now.size ≤ 2 ^ 32 }
     ensures files { KeepsFiles (H.state host.old) (H.state host.new) }
     ensures disk { KeepsDisk (H.state host.old) (H.state host.new) }
-    ensures ends { (node : List ℕ) (world : World) → length node ≡ 4096 → Ends (PiecesLead name.now node secret.now) (λ _ _. KeepsDisk) result
+    ensures ends { (node : List ℕ) (world : World) → length node ≡ 4096 → ComesOut (PiecesLead name.now node secret.now) (λ _ _. KeepsDisk) result
         (with_out (with_host world (H.state host.old)) (K.state out.old)) (with_out (with_host world (H.state host.new)) (K.state out.new)) }
 {
     if secret.size == 0 {

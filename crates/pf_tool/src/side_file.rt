@@ -3,7 +3,7 @@ ghost use Rattle.std.specs.Prelude.{◌≡◌, ◌≤◌, IfOk, OnErr, length};
 ghost use Rattle.node_layout.specs.Metadata.{IsPath};
 ghost use Rattle.pf_io.specs.Names.{side_of};
 ghost use Rattle.pf_tool.specs.World.{World, with_host, with_random};
-ghost use Rattle.pf_tool.specs.Outcomes.{Ends};
+ghost use Rattle.pf_tool.specs.Outcomes.{ComesOut};
 ghost use Rattle.pf_tool.specs.Encrypting.{MOST_FIRST, node_of};
 ghost use Rattle.pf_tool.specs.Making.{IsDrawn, DrawFails, Begins, LeavesBegun, Publishes, LeavesPublished};
 
@@ -54,7 +54,7 @@ pub(crate) fn begin<H: Host, R: Words>(
 ) -> Result<(), Fault<'static>>
     requires path { IsPath output.now }
     requires side { side.now ≡ side_of output.now }
-    ensures { (world : World) → Ends (Begins user.now output.now) (LeavesBegun output.now) result
+    ensures { (world : World) → ComesOut (Begins user.now output.now) (LeavesBegun output.now) result
         (with_random (with_host world (H.state host.old)) (R.state random.old)) (with_random (with_host world (H.state host.new)) (R.state random.new)) }
 {
     let nonce = draw_nonce(random)?;
@@ -76,7 +76,7 @@ pub(crate) fn publish<H: Host, R: Words>(
     requires path { IsPath output.now }
     requires side { side.now ≡ side_of output.now }
     requires small { length content.now ≤ MOST_FIRST }
-    ensures { (world : World) → Ends (Publishes user.now output.now content.now) (LeavesPublished user.now output.now content.now) result
+    ensures { (world : World) → ComesOut (Publishes user.now output.now content.now) (LeavesPublished user.now output.now content.now) result
         (with_random (with_host world (H.state host.old)) (R.state random.old)) (with_random (with_host world (H.state host.new)) (R.state random.new)) }
 {
     let nonce = draw_nonce(random)?;

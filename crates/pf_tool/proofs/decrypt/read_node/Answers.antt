@@ -1,10 +1,9 @@
-use Rattle.std.proofs.Common.{◌≡◌, ◌≤◌, ℕ, List, length, take, refl, ap, ◌∙◌, sym, arith, rules, subst, Option, Some, None}
+use Rattle.std.proofs.Common.{◌≡◌, ◌≤◌, ℕ, List, length, take, refl, sym, arith, rules, subst, None}
 use Rattle.std.proofs.lemmas.Result.{err_from_is_err_and}
 use Rattle.std.proofs.lemmas.List.{take_all, length-take}
 use Rattle.pf_io.specs.Names.{IsTarget}
-use Rattle.pf_io.specs.Host.{LengthWas, HostState}
 use Rattle.pf_io.proofs.Unchanged.{kept_once, kept_then}
-use Rattle.pf_tool.specs.Unsealing.{Refuses, HasNode}
+use Rattle.pf_tool.specs.Unsealing.{Refuses, ReadsNode}
 use Rattle.pf_tool.specs.Decrypting.{NodeRefused}
 use Rattle.pf_tool.specs.declared.fault.Fault.{Fault}
 use Rattle.pf_tool.proofs.Calls.{length_passed, length_failed, read_passed, read_failed}
@@ -95,7 +94,7 @@ returns-clause-read g c =
     let bytes = take c.in_ok-given.given c.read_at.new.to in
     let whole = c.in_ok-check_node.ensures.whole in
     let all : bytes ≡ c.read_at.new.to = take_all _ _ (omega (arith, whole.whole, length-take c.in_ok-given.given c.read_at.new.to, c.in_ok-given.ensures.rest.same_length)) in
-    subst (λ (l : List ℕ). HasNode c.args.name.now l s0 s2) all
+    subst (λ (l : List ℕ). ReadsNode c.args.name.now l s0 s2) all
     (node_given c.args.name.now c.in-Some.field-0 c.in_ok-len.field-0 bytes s0 s1 s2 target whole c.in-Some.is
     (length_passed c.args.name.now c.in_ok-len.field-0 s0 s1 c.in_ok-len.ensures.told c.in_ok-len.ensures.cause.still c.len.ensures.counts c.in_ok-len.ensures.honest) c.len.ensures.files
     (read_passed c.args.name.now 0 c.in_ok-given.given 4096 _ c.read_at.new.to s1 s2 c.in_ok-given.ensures.rest refl c.in_ok-given.ensures.told c.in_ok-given.ensures.cause.still c.read_at.ensures.counts c.in_ok-given.ensures.honest))

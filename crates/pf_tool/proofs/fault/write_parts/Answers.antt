@@ -1,5 +1,5 @@
 use Rattle.std.proofs.lemmas.Result.{err_from_is_err_and}
-use Rattle.pf_tool.specs.Reports.{Wrote}
+use Rattle.pf_tool.specs.Reports.{WroteAll}
 use Rattle.pf_tool.proofs.Writing.{written_by, line_fails_first, line_fails_second, line_fails_third, line_ends}
 use Rattle.pf_tool.proofs.fault.write_parts.Goals as goal
 
@@ -17,7 +17,7 @@ returns-in_err-write-2 g c =
     let s0 = g.L.Sink.state c.args.log.now in
     let s1 = g.L.Sink.state c.write.new.self in
     let s2 = g.L.Sink.state c.write-2.new.self in
-    let first : Wrote c.args.first.now s0 s1 = record { calm = c.in_ok-write.ensures.cause.still; told = rw c.as_bytes.ensures.value at c.in_ok-write.ensures.taken } in
+    let first : WroteAll c.args.first.now s0 s1 = record { calm = c.in_ok-write.ensures.cause.still; told = rw c.as_bytes.ensures.value at c.in_ok-write.ensures.taken } in
     rw p.1 (line_fails_second c.args.first.now c.args.second.now c.args.third.now s0 s1 s2 first
     (record { rose = c.in_err-write-2.ensures.cause.rose; told = rw c.as_bytes-2.ensures.value at c.in_err-write-2.ensures.taken }))
 
@@ -28,8 +28,8 @@ returns-in_err-write-3 g c =
     let s1 = g.L.Sink.state c.write.new.self in
     let s2 = g.L.Sink.state c.write-2.new.self in
     let s3 = g.L.Sink.state c.write-3.new.self in
-    let first : Wrote c.args.first.now s0 s1 = record { calm = c.in_ok-write.ensures.cause.still; told = rw c.as_bytes.ensures.value at c.in_ok-write.ensures.taken } in
-    let second : Wrote c.args.second.now s1 s2 = record { calm = c.in_ok-write-2.ensures.cause.still; told = rw c.as_bytes-2.ensures.value at c.in_ok-write-2.ensures.taken } in
+    let first : WroteAll c.args.first.now s0 s1 = record { calm = c.in_ok-write.ensures.cause.still; told = rw c.as_bytes.ensures.value at c.in_ok-write.ensures.taken } in
+    let second : WroteAll c.args.second.now s1 s2 = record { calm = c.in_ok-write-2.ensures.cause.still; told = rw c.as_bytes-2.ensures.value at c.in_ok-write-2.ensures.taken } in
     rw p.1 (line_fails_third c.args.first.now c.args.second.now c.args.third.now s0 s1 s2 s3 first second
     (record { rose = c.in_err-write-3.ensures.cause.rose; told = rw c.as_bytes-3.ensures.value at c.in_err-write-3.ensures.taken }))
 
@@ -40,8 +40,8 @@ returns g c =
     let s2 = g.L.Sink.state c.write-2.new.self in
     let s3 = g.L.Sink.state c.write-3.new.self in
     let s4 = g.L.Sink.state c.write-4.new.self in
-    let first : Wrote c.args.first.now s0 s1 = record { calm = c.in_ok-write.ensures.cause.still; told = rw c.as_bytes.ensures.value at c.in_ok-write.ensures.taken } in
-    let second : Wrote c.args.second.now s1 s2 = record { calm = c.in_ok-write-2.ensures.cause.still; told = rw c.as_bytes-2.ensures.value at c.in_ok-write-2.ensures.taken } in
-    let third : Wrote c.args.third.now s2 s3 = record { calm = c.in_ok-write-3.ensures.cause.still; told = rw c.as_bytes-3.ensures.value at c.in_ok-write-3.ensures.taken } in
+    let first : WroteAll c.args.first.now s0 s1 = record { calm = c.in_ok-write.ensures.cause.still; told = rw c.as_bytes.ensures.value at c.in_ok-write.ensures.taken } in
+    let second : WroteAll c.args.second.now s1 s2 = record { calm = c.in_ok-write-2.ensures.cause.still; told = rw c.as_bytes-2.ensures.value at c.in_ok-write-2.ensures.taken } in
+    let third : WroteAll c.args.third.now s2 s3 = record { calm = c.in_ok-write-3.ensures.cause.still; told = rw c.as_bytes-3.ensures.value at c.in_ok-write-3.ensures.taken } in
     line_ends c.args.first.now c.args.second.now c.args.third.now s0 c.write-4.result s1 s2 s3 s4 first second third
     (written_by c.write-4.result _ s3 s4 c.write-4.ensures.cause c.write-4.ensures.taken)

@@ -1,4 +1,4 @@
-use Rattle.std.proofs.Common.{◌≡◌, ℕ, ◌+◌, List, length, take, refl, ◌∙◌, sym, subst, arith}
+use Rattle.std.proofs.Common.{take, refl, ◌∙◌, sym, subst, arith}
 use Rattle.std.proofs.lemmas.Result.{err_from_is_err_and}
 use Rattle.node_tree.specs.State.{TreeState}
 use Rattle.node_tree.proofs.Fresh.{fresh}

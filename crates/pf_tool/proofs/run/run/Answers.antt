@@ -1,9 +1,9 @@
-use Rattle.std.proofs.Common.{◌≡◌, ℕ, List, ◌∙◌, sym, subst, refl, ap}
-use Rattle.pf_tool.specs.World.{World, world_of}
+use Rattle.std.proofs.Common.{subst}
+use Rattle.pf_tool.specs.World.{world_of}
 use Rattle.pf_tool.specs.Requests.{Request, request_of, texts}
-use Rattle.pf_tool.specs.Runs.{Runs, Usage, ByWords, Content, Decided, Honest, OnDisks, Stays}
+use Rattle.pf_tool.specs.Runs.{Runs, ByWords, Content, Decided, Honest, OnDisks, Stays}
 use Rattle.pf_tool.proofs.RunLaws.{one_request, over_one}
-use Rattle.pf_tool.proofs.RunClauses.{usage_causes, run_causes, run_by_words, run_content, run_decided, run_honest, run_not_two, run_unread, run_stays}
+use Rattle.pf_tool.proofs.RunClauses.{run_causes, run_by_words, run_content, run_decided, run_honest, run_not_two, run_stays}
 use Rattle.pf_tool.proofs.RunDisk.{run_disk}
 use Rattle.pf_tool.proofs.run.run.Goals as goal
 

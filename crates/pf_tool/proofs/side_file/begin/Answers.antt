@@ -1,11 +1,11 @@
-use Rattle.std.proofs.Common.{◌≡◌, ◌<◌, ℕ, List, [], ◌∷◌, ◌++◌, length, refl, subst, ap, ◌∙◌, sym, Result, Err, arith, rules}
+use Rattle.std.proofs.Common.{◌≡◌, ℕ, List, [], ◌∷◌, ◌++◌, length, refl, subst, ap, ◌∙◌, Result, Err, arith, rules}
 use Rattle.std.proofs.lemmas.Result.{err_from_is_err_and}
 use Rattle.pf_io.specs.Host.{Answer, Wrote, Synced, Made}
 use Rattle.pf_io.specs.Names.{side_of}
 use Rattle.pf_io.specs.Steps.{KeepsOthers}
 use Rattle.pf_io.proofs.Images.{made_others}
-use Rattle.pf_tool.specs.Events.{Event, Answers, Draws}
-use Rattle.pf_tool.specs.Endings.{Done, Stop, AtEnd, Failed}
+use Rattle.pf_tool.specs.Events.{Answers, Draws}
+use Rattle.pf_tool.specs.Endings.{Done, AtEnd, Failed}
 use Rattle.pf_tool.specs.Happened.{HostPassed, HostFailed}
 use Rattle.pf_tool.specs.Encrypting.{node_of, begun_events}
 use Rattle.pf_tool.proofs.Calls.{make_passed, make_failed, write_passed, write_failed, sync_passed, sync_failed}

@@ -1,10 +1,10 @@
-use Rattle.std.proofs.Common.{◌≡◌, ℕ, List, [], ◌∷◌, ◌++◌, length, take, refl, subst, ap, ◌∙◌, sym, arith, rules}
+use Rattle.std.proofs.Common.{◌≡◌, ℕ, List, [], ◌∷◌, ◌++◌, length, take, refl, subst, ap, ◌∙◌, rules}
 use Rattle.std.specs.List.{concat}
 use Rattle.std.proofs.lemmas.Result.{err_from_is_err_and}
 use Rattle.pf_io.specs.Host.{Answer, Wrote, Synced, Swapped}
 use Rattle.pf_io.specs.Names.{side_of}
-use Rattle.pf_tool.specs.Events.{Event, Answers, Draws, words_in}
-use Rattle.pf_tool.specs.Endings.{Done, Stop, AtEnd, Failed}
+use Rattle.pf_tool.specs.Events.{Answers, Draws, words_in}
+use Rattle.pf_tool.specs.Endings.{Done, AtEnd, Failed}
 use Rattle.pf_tool.specs.Happened.{HostPassed, HostFailed}
 use Rattle.pf_tool.specs.SideFiles.{IsSwapped}
 use Rattle.pf_tool.specs.Encrypting.{node_of, published_events}
