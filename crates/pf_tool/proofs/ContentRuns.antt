@@ -29,14 +29,15 @@ use Rattle.pf_tool.proofs.RunStops.{said, status_of, done_at_zero}
 use Rattle.pf_tool.proofs.ContentLaws.{decrypts_sheets}
 
 -- what the host told
-told_of : (es : List Event) (stop : Stop) (old new : World) → Happened es stop old new → Both old.host.given new.host.given (IsMore (answers_in es))
+pub told_of : (es : List Event) (stop : Stop) (old new : World) → Happened es stop old new → Both old.host.given new.host.given (IsMore (answers_in es))
 told_of es (AtEnd ending) old new happened = happened.host.told
 told_of es Starved old new happened = happened.host.told
 told_of es (Failed (Answers a)) old new happened = subst (λ (o : Option (List Answer)). Both old.host.given o (IsMore (answers_in es))) (sym happened.2.0.told) happened.1.host.told
 told_of es (Failed (Draws w)) old new happened = subst (λ (v : World). Both old.host.given v.host.given (IsMore (answers_in es))) (sym happened.2.1) happened.1.host.told
 told_of es (Failed (Puts b)) old new happened = subst (λ (v : World). Both old.host.given v.host.given (IsMore (answers_in es))) (sym happened.2.1) happened.1.host.told
 
-these_told : (old new : HostState) (these those : List Answer) → Both old.given new.given (IsMore these) → WereTold those old new → these ≡ those
+-- the answers that were told are one list
+pub these_told : (old new : HostState) (these those : List Answer) → Both old.given new.given (IsMore these) → WereTold those old new → these ≡ those
 these_told old new these those told were =
     let more : Both (Some were.before) (Some (were.before ++ those)) (IsMore these) = subst (λ (o : Option (List Answer)). Both (Some were.before) o (IsMore these)) were.now (subst (λ (o : Option (List Answer)). Both o new.given (IsMore these)) were.was told) in
     sym (append_cancel_left were.before those these more)
@@ -51,7 +52,7 @@ front_of content at (piece ∷ pieces) are =
           ∙ ap (λ (l : List ℕ). l ++ (concat pieces ++ more.0)) (sym are.1) ∙ sym (append_assoc piece (concat pieces) more.0),
     )
 
-front_taken : (bytes rest all before now : List ℕ) → all ≡ bytes ++ rest → IsMore bytes before now → TakesFront all before now
+pub front_taken : (bytes rest all before now : List ℕ) → all ≡ bytes ++ rest → IsMore bytes before now → TakesFront all before now
 front_taken bytes rest all before now is more = record { count = length bytes; taken = more ∙ ap (λ (l : List ℕ). before ++ l) (sym (take-append_seam bytes rest) ∙ ap (λ (l : List ℕ). take (length bytes) l) (sym is)) }
 
 -- and so they are with a front of the next one

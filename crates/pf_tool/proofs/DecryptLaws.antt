@@ -125,41 +125,48 @@ key_by key es ending (key_absent named is ends) = ends ∙ ap (λ (l : List Even
 key_by key es ending (key_length n named other is ends) = ends ∙ ap (λ (l : List Event). key_ending (answers_in l)) (sym is)
 key_by key es ending (key_short bytes named short is ends) = ends ∙ ap (λ (l : List Event). key_ending (answers_in l)) (sym is)
 
--- a key that was read was not refused
-key_apart : (key : Name) (es others : List Event) (e : Ending) (user : List ℕ) (rest : List Event) → KeyRefused key es e → IsKeyOf key user → others ≡ key_events key user ++ rest → answers_in es ≡ answers_in others → ⊥
-key_apart key es others e user rest (key_unnamed u is ends) has read same = u has.is_name
-key_apart key es others e user rest (key_absent named is ends) has read same =
-    let all : LengthWas key None ∷ [] ≡ LengthWas key (Some 16) ∷ Gave key 0 16 user ∷ answers_in rest = sym (ap (λ (l : List Event). answers_in l) is) ∙ same ∙ ap (λ (l : List Event). answers_in l) read in
-    absurd (cc)
-key_apart key es others e user rest (key_length n named other is ends) has read same =
-    let all : LengthWas key (Some n) ∷ [] ≡ LengthWas key (Some 16) ∷ Gave key 0 16 user ∷ answers_in rest = sym (ap (λ (l : List Event). answers_in l) is) ∙ same ∙ ap (λ (l : List Event). answers_in l) read in
-    absurd (cc)
-key_apart key es others e user rest (key_short bytes named short is ends) has read same =
-    let all : LengthWas key (Some 16) ∷ Gave key 0 16 bytes ∷ [] ≡ LengthWas key (Some 16) ∷ Gave key 0 16 user ∷ answers_in rest = sym (ap (λ (l : List Event). answers_in l) is) ∙ same ∙ ap (λ (l : List Event). answers_in l) read in
-    let alike : bytes ≡ user = cc in
-    omega (arith, short, ap (λ (l : List ℕ). length l) alike, has.whole)
+-- a key that was read was not refused, whatever answers follow
+pub key_apart : (key : Name) (es others : List Event) (e : Ending) (user : List ℕ) (rest : List Event) (more further : List Answer) → KeyRefused key es e → IsKeyOf key user → others ≡ key_events key user ++ rest → answers_in es ++ more ≡ answers_in others ++ further → ⊥
+key_apart key es others e user rest more further refused has read same = apart refused where
+  all : (these : List Event) → es ≡ these → answers_in these ++ more ≡ LengthWas key (Some 16) ∷ Gave key 0 16 user ∷ (answers_in rest ++ further)
+  all these is = sym (ap (λ (l : List Event). answers_in l ++ more) is) ∙ same ∙ ap (λ (l : List Event). answers_in l ++ further) read
 
--- the same answers behind a key lead to one run
-unseals_one : (user : List ℕ) (input : Name) (es others : List Event) (e f : Ending) → Unseals user input es e → Unseals user input others f → answers_in es ≡ answers_in others → (es ≡ others) × (e ≡ f)
-unseals_one user input es others e f (input_unnamed u is ends) (input_unnamed u2 is2 ends2) same = (is ∙ sym is2, ends ∙ sym ends2)
-unseals_one user input es others e f (input_unnamed u is ends) (input_absent target is2 ends2) same = absurd (u target)
-unseals_one user input es others e f (input_unnamed u is ends) (input_read size file pieces target comes is2) same = absurd (u target)
-unseals_one user input es others e f (input_absent target is ends) (input_unnamed u is2 ends2) same = absurd (u target)
-unseals_one user input es others e f (input_absent target is ends) (input_absent target2 is2 ends2) same = (is ∙ sym is2, ends ∙ sym ends2)
-unseals_one user input es others e f (input_absent target is ends) (input_read size file pieces target2 comes is2) same =
-    let all : LengthWas input None ∷ [] ≡ LengthWas input (Some size) ∷ Gave input 0 4096 (block_of file 0) ∷ answers_in (piece_events input file 0 pieces f) = sym (ap (λ (l : List Event). answers_in l) is) ∙ same ∙ ap (λ (l : List Event). answers_in l) is2 in
+  apart : KeyRefused key es e → ⊥
+  apart (key_unnamed u is ends) = u has.is_name
+  apart (key_absent named is ends) =
+      let whole : LengthWas key None ∷ more ≡ LengthWas key (Some 16) ∷ Gave key 0 16 user ∷ (answers_in rest ++ further) = all (Answers (LengthWas key None) ∷ []) is in
+      absurd (cc)
+  apart (key_length n named other is ends) =
+      let whole : LengthWas key (Some n) ∷ more ≡ LengthWas key (Some 16) ∷ Gave key 0 16 user ∷ (answers_in rest ++ further) = all (Answers (LengthWas key (Some n)) ∷ []) is in
+      let long : n ≡ 16 = cc in
+      other long
+  apart (key_short bytes named short is ends) =
+      let whole : LengthWas key (Some 16) ∷ Gave key 0 16 bytes ∷ more ≡ LengthWas key (Some 16) ∷ Gave key 0 16 user ∷ (answers_in rest ++ further) = all (key_events key bytes) is in
+      let alike : bytes ≡ user = cc in
+      omega (arith, short, ap (λ (l : List ℕ). length l) alike, has.whole)
+
+-- the same answers behind a key lead to one run, and so do those with more behind them
+pub unseals_one : (user : List ℕ) (input : Name) (es others : List Event) (more : List Answer) (e f : Ending) → Unseals user input es e → Unseals user input others f → answers_in es ++ more ≡ answers_in others → (es ≡ others) × (e ≡ f)
+unseals_one user input es others more e f (input_unnamed u is ends) (input_unnamed u2 is2 ends2) same = (is ∙ sym is2, ends ∙ sym ends2)
+unseals_one user input es others more e f (input_unnamed u is ends) (input_absent target is2 ends2) same = absurd (u target)
+unseals_one user input es others more e f (input_unnamed u is ends) (input_read size file pieces target comes is2) same = absurd (u target)
+unseals_one user input es others more e f (input_absent target is ends) (input_unnamed u is2 ends2) same = absurd (u target)
+unseals_one user input es others more e f (input_absent target is ends) (input_absent target2 is2 ends2) same = (is ∙ sym is2, ends ∙ sym ends2)
+unseals_one user input es others more e f (input_absent target is ends) (input_read size file pieces target2 comes is2) same =
+    let all : LengthWas input None ∷ more ≡ LengthWas input (Some size) ∷ Gave input 0 4096 (block_of file 0) ∷ answers_in (piece_events input file 0 pieces f) = sym (ap (λ (l : List Event). answers_in l ++ more) is) ∙ same ∙ ap (λ (l : List Event). answers_in l) is2 in
     absurd (cc)
-unseals_one user input es others e f (input_read size file pieces target comes is) (input_unnamed u is2 ends2) same = absurd (u target)
-unseals_one user input es others e f (input_read size file pieces target comes is) (input_absent target2 is2 ends2) same =
-    let all : LengthWas input (Some size) ∷ Gave input 0 4096 (block_of file 0) ∷ answers_in (piece_events input file 0 pieces e) ≡ LengthWas input None ∷ [] = sym (ap (λ (l : List Event). answers_in l) is) ∙ same ∙ ap (λ (l : List Event). answers_in l) is2 in
+unseals_one user input es others more e f (input_read size file pieces target comes is) (input_unnamed u is2 ends2) same = absurd (u target)
+unseals_one user input es others more e f (input_read size file pieces target comes is) (input_absent target2 is2 ends2) same =
+    let all : LengthWas input (Some size) ∷ Gave input 0 4096 (block_of file 0) ∷ (answers_in (piece_events input file 0 pieces e) ++ more) ≡ LengthWas input None ∷ [] = sym (ap (λ (l : List Event). answers_in l ++ more) is) ∙ same ∙ ap (λ (l : List Event). answers_in l) is2 in
     absurd (cc)
-unseals_one user input es others e f (input_read size file pieces target comes is) (input_read size2 file2 pieces2 target2 comes2 is2) same =
-    let all : LengthWas input (Some size) ∷ Gave input 0 4096 (block_of file 0) ∷ answers_in (piece_events input file 0 pieces e) ≡ LengthWas input (Some size2) ∷ Gave input 0 4096 (block_of file2 0) ∷ answers_in (piece_events input file2 0 pieces2 f) =
-    sym (ap (λ (l : List Event). answers_in l) is) ∙ same ∙ ap (λ (l : List Event). answers_in l) is2 in
+unseals_one user input es others more e f (input_read size file pieces target comes is) (input_read size2 file2 pieces2 target2 comes2 is2) same =
+    let all : LengthWas input (Some size) ∷ Gave input 0 4096 (block_of file 0) ∷ (answers_in (piece_events input file 0 pieces e) ++ more) ≡ LengthWas input (Some size2) ∷ Gave input 0 4096 (block_of file2 0) ∷ answers_in (piece_events input file2 0 pieces2 f) =
+    sym (ap (λ (l : List Event). answers_in l ++ more) is) ∙ same ∙ ap (λ (l : List Event). answers_in l) is2 in
     let sizes : size ≡ size2 = cc in
     let first : block_of file 0 ≡ block_of file2 0 = cc in
-    let rest : answers_in (piece_events input file 0 pieces e) ≡ answers_in (piece_events input file2 0 pieces2 f) = cc in
-    let there = follow_file user input (only_file file2) file pieces e comes first (subst (λ (l : List Answer). AllByRecursion (IsAnswerOf (only_file file2)) l) (sym rest) (own_pieces input file2 0 pieces2 f)) in
+    let rest : answers_in (piece_events input file 0 pieces e) ++ more ≡ answers_in (piece_events input file2 0 pieces2 f) = cc in
+    let own = all_split (IsAnswerOf (only_file file2)) (answers_in (piece_events input file 0 pieces e)) more (subst (λ (l : List Answer). AllByRecursion (IsAnswerOf (only_file file2)) l) (sym rest) (own_pieces input file2 0 pieces2 f)) in
+    let there = follow_file user input (only_file file2) file pieces e comes first own.0 in
     let one = comes_one user file2 pieces pieces2 e f there.0 comes2 in (
       is ∙ ap₂ (λ (n : ℕ) (b : List ℕ). Answers (LengthWas input (Some n)) ∷ Answers (Gave input 0 4096 b) ∷ piece_events input file 0 pieces e) sizes first
           ∙ ap (λ (l : List Event). Answers (LengthWas input (Some size2)) ∷ Answers (Gave input 0 4096 (block_of file2 0)) ∷ l) (there.1 ∙ ap₂ (λ (ps : List (List ℕ)) (x : Ending). piece_events input file2 0 ps x) one.0 one.1) ∙ sym is2,
@@ -280,13 +287,13 @@ module _ (key input : Name) where
   -- the same answers lead to one run
   pub decrypt_one : (es others : List Event) (ending other : Ending) → DecryptLeads key input es ending → DecryptLeads key input others other → answers_in es ≡ answers_in others → ending ≡ other
   decrypt_one es others ending other (decrypt_key_refused refused) (decrypt_key_refused refused2) same = key_by key es ending refused ∙ ap key_ending same ∙ sym (key_by key others other refused2)
-  decrypt_one es others ending other (decrypt_key_refused refused) (decrypt_key_read user rest has is unseals) same = absurd (key_apart key es others ending user rest refused has is same)
-  decrypt_one es others ending other (decrypt_key_read user rest has is unseals) (decrypt_key_refused refused) same = absurd (key_apart key others es other user rest refused has is (sym same))
+  decrypt_one es others ending other (decrypt_key_refused refused) (decrypt_key_read user rest has is unseals) same = absurd (key_apart key es others ending user rest [] [] refused has is (ap (λ (l : List Answer). l ++ []) same))
+  decrypt_one es others ending other (decrypt_key_read user rest has is unseals) (decrypt_key_refused refused) same = absurd (key_apart key others es other user rest [] [] refused has is (ap (λ (l : List Answer). l ++ []) (sym same)))
   decrypt_one es others ending other (decrypt_key_read user rest has is unseals) (decrypt_key_read user2 rest2 has2 is2 unseals2) same =
       let all : LengthWas key (Some 16) ∷ Gave key 0 16 user ∷ answers_in rest ≡ LengthWas key (Some 16) ∷ Gave key 0 16 user2 ∷ answers_in rest2 = sym (ap (λ (l : List Event). answers_in l) is) ∙ same ∙ ap (λ (l : List Event). answers_in l) is2 in
       let one : user2 ≡ user = cc in
       let more : answers_in rest ≡ answers_in rest2 = cc in
-      (unseals_one user input rest rest2 ending other unseals (subst (λ (u : List ℕ). Unseals u input rest2 other) one unseals2) more).1
+      (unseals_one user input rest rest2 [] ending other unseals (subst (λ (u : List ℕ). Unseals u input rest2 other) one unseals2) (append-nil (answers_in rest) ∙ more)).1
 
   module _ (files : Files) where
     unseals_over : (user : List ℕ) (es : List Event) (ending : Ending) → KeyOver files key (Ok user) → Unseals user input es ending → AllByRecursion (IsAnswerOf files) (answers_in es) → DecryptOver key input files (pieces_in es) ending

@@ -29,10 +29,14 @@ pub record Front (input : Name) (node : List ℕ) (secret : MetaSecret) (at : �
   pub goes_on : (other : List ℕ) (rest : List (List ℕ)) (end : Option Damage) → SameTo (node_count (min at secret.size)) file other → ArePiecesFrom other secret at rest end
       → ArePiecesFrom other secret 0 (pieces ++ rest) end × (piece_events input other 0 (pieces ++ rest) (end_of end) ≡ events ++ piece_events input other at rest (end_of end))
 
+-- the nodes below a number open
+abbrev pub AreOpen : MetaSecret → List ℕ → ℕ → Type 0
+AreOpen secret file j = (k : ℕ) → 1 ≤ k → k < j → (plain : List ℕ) × Opened NothingHeld (BlockOf file) (root_entry secret) k plain
+
 -- the blocks of a file are the nodes below a number, and they open
 pub record Ready (secret : MetaSecret) (file : List ℕ) (j : ℕ) : Type 0 where
   pub long : length file ≡ 4096 * j
-  pub opens : (k : ℕ) → 1 ≤ k → k < j → (plain : List ℕ) × Opened NothingHeld (BlockOf file) (root_entry secret) k plain
+  pub opens : AreOpen secret file j
 
 pub front_none : (input : Name) (node : List ℕ) (secret : MetaSecret) → block_of node 0 ≡ node → Front input node secret 0 node []
 front_none input node secret first = record { first = first; pieces = []; goes_on = λ other rest end same are. (are, refl) }
@@ -44,14 +48,14 @@ between j k =
       | inr ge ↦ inr (λ b. omega (arith, b.1, ge))
     ]
 
-module _ (secret : MetaSecret) (file : List ℕ) (j : ℕ) (ready : Ready secret file j) where
+module _ (secret : MetaSecret) (file : List ℕ) (j : ℕ) (opens : AreOpen secret file j) where
   text_of : (k : ℕ) → ((1 ≤ k) × (k < j)) ⊎ ¬ ((1 ≤ k) × (k < j)) → List ℕ
-  text_of k (inl b) = (ready.opens k b.0 b.1).0
+  text_of k (inl b) = (opens k b.0 b.1).0
   text_of k (inr outside) = []
 
   text_opened : (k : ℕ) (c : ((1 ≤ k) × (k < j)) ⊎ ¬ ((1 ≤ k) × (k < j))) → 1 ≤ k → k < j → Opened NothingHeld (BlockOf file) (root_entry secret) k (text_of k c)
   unfolding text_of
-  text_opened k (inl b) low high = (ready.opens k b.0 b.1).1
+  text_opened k (inl b) low high = (opens k b.0 b.1).1
   text_opened k (inr outside) low high = absurd (outside (low, high))
 
   -- where all nodes of a piece open, it is whole
@@ -65,7 +69,8 @@ module _ (secret : MetaSecret) (file : List ℕ) (j : ℕ) (ready : Ready secret
     },
   )
 
-  -- where the next node is behind the file's end, it is short
+-- where the next node is behind the file's end, it is short
+module _ (secret : MetaSecret) (file : List ℕ) (j : ℕ) (ready : Ready secret file j) where
   pub broken_next : (at n : ℕ) → 0 < n → node_count at ≤ j → j < node_count (at + n) → IsBroken NothingHeld (BlockOf file) (root_entry secret) at n (record { node = j; kind = Short })
   broken_next at n some low high = record {
     touched = touched_between at (at + n) j (omega arith) low high;
@@ -148,7 +153,7 @@ module _ (input : Name) (node : List ℕ) (secret : MetaSecret) where
                     leads = close input node secret at file events front file [] (Some damage) (λ k below. refl) (lt, broken_next secret file (node_count at) ready_at at n (omega arith) (omega arith) more);
                   }
               | inr none ↦
-                  let whole = whole_next secret file (node_count at) ready_at at n none in
+                  let whole = whole_next secret file (node_count at) ready_at.opens at n none in
                   record {
                     rest = piece_events input file at (whole.0 ∷ []) (end_of None);
                     ending = end_of None;

@@ -26,6 +26,7 @@ mod EncryptLaws
 pub mod DecryptLaws
 pub mod SheetNodes
 pub mod ContentLaws
+mod LastAnswers
 mod RunLaws
 mod RunClauses
 mod RunDisk

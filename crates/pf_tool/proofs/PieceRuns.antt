@@ -185,7 +185,7 @@ module _ (input : Name) (node : List ℕ) (secret : MetaSecret) (at : ℕ) (tree
               (Answers (Gave input (4096 * j) 4096 next.0), next.1.rest, next.1.ending, subst (λ (l : List Event). PiecesLead input node secret (l ++ Answers (Gave input (4096 * j) 4096 next.0) ∷ next.1.rest) next.1.ending) nodes next.1.leads)
           | inr all ↦
               let is : j ≡ node_count (at + n) = omega (arith, most, all) in
-              let whole = whole_next secret begun.other j begun.ready at n (omega (arith, is)) in
+              let whole = whole_next secret begun.other j begun.ready.opens at n (omega (arith, is)) in
               let long : length whole.0 ≡ n = length-whole NothingHeld (BlockOf begun.other) (root_entry secret) secret.first at n whole.0 whole.1 in
               let puts = puts_piece input node secret at so_far.file so_far.events so_far.front lt begun.other begun.same whole.0 whole.1 (subst (λ (m : ℕ). Ready secret begun.other m) is begun.ready) in
               let same : node_events input begun.other (node_count at) (node_count (at + length whole.0)) ≡ map (λ a. Answers a) these =

@@ -1,10 +1,8 @@
 -- The clauses of a run, each from what the whole run came to.
-use Rattle.std.proofs.Common.{◌≡◌, ◌⊎◌, inl, inr, ⊎_elim, ℕ, ◌≤◌, List, [], ◌∷◌, ◌++◌, length, take, subst, ap, ◌∙◌, sym, arith, Option, Some, Result, Ok, Err, IfSome}
+use Rattle.std.proofs.Common.{◌≡◌, ◌≢◌, ◌⊎◌, inl, inr, ⊎_elim, ℕ, ◌≤◌, List, [], ◌∷◌, ◌++◌, subst, ap, ◌∙◌, sym, arith, Option, Some, Result, Ok, Err, IfSome}
 use Rattle.std.specs.List.{AllByRecursion, concat}
-use Rattle.std.proofs.lemmas.List.{append_cancel_left}
-use Rattle.std.proofs.Math.Seq.{take-append_seam}
 use Rattle.pf_io.specs.Disk.{Name, Files}
-use Rattle.pf_io.specs.Host.{Answer, HostState, Both, IsMore, files_of}
+use Rattle.pf_io.specs.Host.{Answer, HostState, IsMore, files_of}
 use Rattle.pf_io.specs.Answered.{IsAnswerOf, WereTold}
 use Rattle.pf_io.specs.Streams.{SourceState, SinkState, TakesFront}
 use Rattle.pf_io.specs.Words.{WordsState}
@@ -21,10 +19,10 @@ use Rattle.pf_tool.specs.Reports.{Reported, Reports}
 use Rattle.pf_tool.specs.Requests.{Request, Decrypt, Encrypt}
 use Rattle.pf_tool.specs.Runs.{Leads, LeavesHost, Runs, Usage, Causes, ByWords, Content, Decided, NoneRose, Honestly, as_files_give, starved, Honest, Stays}
 use Rattle.pf_tool.proofs.RunStops.{not_two, reports_of, stop_low, reported_said, said, status_of, host_rose, random_rose, out_rose, all_passed, none_failed, input_kept, undrawn, unput, done_at_zero}
-use Rattle.pf_tool.proofs.RunLaws.{silent, decided, over, over_front}
+use Rattle.pf_tool.proofs.RunLaws.{silent, decided, none_left, over, over_front}
 use Rattle.pf_tool.proofs.DecryptLaws.{decrypt_undrawn}
 use Rattle.pf_tool.proofs.EncryptLaws.{encrypt_unput, encrypt_given}
-use Rattle.pf_tool.proofs.ContentRuns.{took_content}
+use Rattle.pf_tool.proofs.ContentRuns.{told_of, these_told, front_taken, took_content}
 use Rattle.pf_tool.specs.Encrypting.{EncryptLeads, GaveSealed}
 
 -- a command, and what was said of it
@@ -50,15 +48,6 @@ nothing_passed : (es : List Event) (old new : World) → es ≡ [] → Passed es
 nothing_passed es old new none passed =
     same_world old.host new.host old.input new.input old.out new.out old.log new.log old.random new.random (passed.host.untouched (ap (λ (l : List Event). answers_in l) none)) passed.input
     (passed.out.untouched (ap (λ (l : List Event). pieces_in l) none)) passed.log (passed.random.untouched (ap (λ (l : List Event). words_in l) none))
-
--- the answers that were told are one list
-one_told : (old new : HostState) (these those : List Answer) → Both old.given new.given (IsMore these) → WereTold those old new → these ≡ those
-one_told old new these those told were =
-    let more : Both (Some were.before) (Some (were.before ++ those)) (IsMore these) = subst (λ (o : Option (List Answer)). Both (Some were.before) o (IsMore these)) were.now (subst (λ (o : Option (List Answer)). Both o new.given (IsMore these)) were.was told) in
-    sym (append_cancel_left were.before those these more)
-
-front_taken : (bytes rest : List ℕ) (all before now : List ℕ) → all ≡ bytes ++ rest → IsMore bytes before now → TakesFront all before now
-front_taken bytes rest all before now is more = record { count = length bytes; taken = more ∙ ap (λ (l : List ℕ). before ++ l) (sym (take-append_seam bytes rest) ∙ ap (λ (l : List ℕ). take (length bytes) l) (sym is)) }
 
 all_of : (files : Files) (o : Option Files) (these : List Answer) → o ≡ Some files → IfSome o (λ f. AllByRecursion (IsAnswerOf f) these) → AllByRecursion (IsAnswerOf files) these
 all_of files o these is honest = subst (λ (x : Option Files). IfSome x (λ f. AllByRecursion (IsAnswerOf f) these)) is honest
@@ -128,13 +117,17 @@ module _ (request : Request) (old new : World) (status : ℕ) (run : Runs reques
   pub run_by_words : ByWords request old new status
   run_by_words ending leads = by_words_at run.stop run.outcome.events ending leads run.outcome.stands run.outcome.happened run.reports
 
-  decided_at : (stop : Stop) (es events : List Event) (ending : Ending) → Leads request events ending → WereTold (answers_in events) old.host new.host → status ≤ 3 → StopsAt (Leads request) es stop → Happened es stop old Now → Reports stop old.log new.log status
+  decided_at : (stop : Stop) (es events : List Event) (ending : Ending) → Leads request events ending → WereTold (answers_in events) old.host new.host → (status ≤ 3) ⊎ (ending ≢ Done) → StopsAt (Leads request) es stop → Happened es stop old Now → Reports stop old.log new.log status
       → Reports (AtEnd ending) old.log new.log status
   decided_at (AtEnd other) es events ending leads told low stands happened reports =
-      let same : other ≡ ending = decided request es events other ending stands leads (one_told old.host new.host (answers_in es) (answers_in events) happened.host.told told) in
+      let same : other ≡ ending = decided request es events other ending stands leads (these_told old.host new.host (answers_in es) (answers_in events) happened.host.told told) in
       subst (λ (e : Ending). Reports (AtEnd e) old.log new.log status) same reports
-  decided_at (Failed event) es events ending leads told low stands happened reports = absurd (⊎_elim (λ both. omega (arith, both.0, low, failed_high event)) (λ both. omega (arith, both.0, low)) (said (Failed event) old.log new.log status reports))
-  decided_at Starved es events ending leads told low stands happened reports = absurd (⊎_elim (λ both. omega (arith, both.0, low)) (λ both. omega (arith, both.0, low)) (said Starved old.log new.log status reports))
+  decided_at (Failed event) es events ending leads told (inr refused) stands happened reports =
+      absurd (none_left request events es event stands.0 ending stands.1 refused leads stands.2 (these_told old.host new.host (answers_in es) (answers_in events) (told_of es (Failed event) old Now happened) told))
+  decided_at (Failed event) es events ending leads told (inl low) stands happened reports = absurd (⊎_elim (λ both. omega (arith, both.0, low, failed_high event)) (λ both. omega (arith, both.0, low)) (said (Failed event) old.log new.log status reports))
+  decided_at Starved es events ending leads told (inr refused) stands happened reports =
+      absurd (none_left request events es stands.0 stands.1 ending stands.2 refused leads stands.3 (these_told old.host new.host (answers_in es) (answers_in events) (told_of es Starved old Now happened) told))
+  decided_at Starved es events ending leads told (inl low) stands happened reports = absurd (⊎_elim (λ both. omega (arith, both.0, low)) (λ both. omega (arith, both.0, low)) (said Starved old.log new.log status reports))
 
   pub run_decided : Decided request old new status
   run_decided events ending leads told low = decided_at run.stop run.outcome.events events ending leads told low run.outcome.stands run.outcome.happened run.reports
@@ -168,7 +161,7 @@ run_content (Encrypt key input output) old new status run = λ these told zero_i
     let es = run.outcome.events in
     let done = done_at_zero run.stop old.log new.log status run.reports zero_is in
     let passed : Passed es old (with_log new old.log) = subst (λ (s : Stop). Happened es s old (with_log new old.log)) done run.outcome.happened in
-    let same : answers_in es ≡ these = one_told old.host new.host (answers_in es) these passed.host.told told in
+    let same : answers_in es ≡ these = these_told old.host new.host (answers_in es) these passed.host.told told in
     subst (λ (l : List Answer). GaveSealed key input output l) same (done_given key input output es run.stop done run.outcome.stands)
 
 pub run_stays : (request : Request) (old new : World) (status : ℕ) → Runs request old new status → Stays request old new

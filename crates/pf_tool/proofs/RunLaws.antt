@@ -1,14 +1,17 @@
 -- What holds of each command.
-use Rattle.std.proofs.Common.{◌≡◌, ℕ, List, [], ◌++◌, ap, ◌∙◌, sym}
+use Rattle.std.proofs.Common.{◌≡◌, ◌≢◌, ℕ, List, [], ◌∷◌, ◌++◌, ap, ◌∙◌, sym}
 use Rattle.std.specs.List.{AllByRecursion, concat}
+use Rattle.std.proofs.lemmas.List.{append-nil}
 use Rattle.pf_io.specs.Disk.{Files}
+use Rattle.pf_io.specs.Host.{Answer}
 use Rattle.pf_io.specs.Answered.{IsAnswerOf}
 use Rattle.pf_tool.specs.Events.{Event, answers_in, pieces_in, bytes_in}
-use Rattle.pf_tool.specs.Endings.{Ending}
+use Rattle.pf_tool.specs.Endings.{Ending, Done}
 use Rattle.pf_tool.specs.Requests.{Request, Decrypt, Encrypt, AskFor}
 use Rattle.pf_tool.specs.Runs.{Leads, Over}
-use Rattle.pf_tool.proofs.Composing.{pieces_then, no_first}
+use Rattle.pf_tool.proofs.Composing.{answers_then, pieces_then, no_first}
 use Rattle.pf_tool.proofs.EncryptLaws.{encrypt_unput, encrypt_silent, encrypt_one, encrypt_over, encrypt_over_one}
+use Rattle.pf_tool.proofs.LastAnswers.{EndsAnswered, has_answer, decrypt_answered, encrypt_answered, decrypt_no_more, encrypt_no_more}
 use Rattle.pf_tool.proofs.DecryptLaws.{decrypt_silent, decrypt_one, decrypt_over, decrypt_front, decrypt_over_one}
 
 -- words ask for one thing
@@ -27,6 +30,23 @@ silent (Encrypt key input output) ending other es first second = encrypt_silent 
 pub decided : (request : Request) (es others : List Event) (ending other : Ending) → Leads request es ending → Leads request others other → answers_in es ≡ answers_in others → ending ≡ other
 decided (Decrypt key input) es others ending other first second same = decrypt_one key input es others ending other first second same
 decided (Encrypt key input output) es others ending other first second same = encrypt_one key input output es others ending other first second same
+
+answered : (request : Request) (es : List Event) (ending : Ending) → Leads request es ending → ending ≢ Done → EndsAnswered es
+answered (Decrypt key input) es ending leads refused = decrypt_answered key input es ending leads refused
+answered (Encrypt key input output) es ending leads refused = encrypt_answered key input output es ending leads refused
+
+no_more : (request : Request) (es others : List Event) (more : List Answer) (ending other : Ending) → ending ≢ Done → Leads request es ending → Leads request others other → answers_in es ++ more ≡ answers_in others → more ≡ []
+no_more (Decrypt key input) es others more ending other refused first second same = decrypt_no_more key input es others more ending other first second same
+no_more (Encrypt key input output) es others more ending other refused first second same = encrypt_no_more key input output es others more ending other refused first second same
+
+-- behind all answers of a refusal or a damage no event comes
+pub none_left : (request : Request) (es front : List Event) (event : Event) (rest : List Event) (ending other : Ending) → ending ≢ Done → Leads request es ending → Leads request (front ++ event ∷ rest) other → answers_in front ≡ answers_in es → ⊥
+none_left request es front event rest ending other refused first second same =
+    let behind = answers_in (event ∷ rest) in
+    let all : answers_in es ++ behind ≡ answers_in (front ++ event ∷ rest) = ap (λ (l : List Answer). l ++ behind) (sym same) ∙ sym (answers_then front (event ∷ rest)) in
+    let none = no_more request es (front ++ event ∷ rest) behind ending other refused first second all in
+    let one : ending ≡ other = decided request es (front ++ event ∷ rest) ending other first second (sym (append-nil (answers_in es)) ∙ ap (λ (l : List Answer). answers_in es ++ l) (sym none) ∙ all) in
+    has_answer front event rest (answered request (front ++ event ∷ rest) other second (λ is. refused (one ∙ is))) none
 
 -- what came of what files answered is what they give
 pub over : (request : Request) (files : Files) (es : List Event) (ending : Ending) → Leads request es ending → AllByRecursion (IsAnswerOf files) (answers_in es) → Over request files (pieces_in es) ending

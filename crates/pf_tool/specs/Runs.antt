@@ -11,7 +11,7 @@ use Rattle.pf_io.specs.Answered.{WereTold}
 use Rattle.pf_io.specs.Unchanged.{KeepsDisk}
 use Rattle.pf_tool.specs.World.{World, with_log}
 use Rattle.pf_tool.specs.Events.{Event, answers_in}
-use Rattle.pf_tool.specs.Endings.{Ending, Stop, AtEnd, ending_line, ending_status, memory_line, no_command_line}
+use Rattle.pf_tool.specs.Endings.{Ending, Done, Stop, AtEnd, ending_line, ending_status, memory_line, no_command_line}
 use Rattle.pf_tool.specs.Outcomes.{Outcome}
 use Rattle.pf_tool.specs.Reports.{WroteAll, Reported, Reports}
 use Rattle.pf_tool.specs.Requests.{Request, Decrypt, Encrypt}
@@ -71,9 +71,10 @@ abbrev pub Content : Request → World → World → ℕ → Type 0
 Content (Decrypt key input) old new status = TookContent key input old new status
 Content (Encrypt key input output) old new status = (these : List Answer) → WereTold these old.host new.host → status ≡ 0 → GaveSealed key input output these
 
--- where the host told these answers, and they lead to an ending, it is reported
+-- Where the host told these answers, and they lead to an ending, it is reported: a refusal or a damage always, since no event
+-- comes behind its answers, and `Done` where the status is at most 3, since a piece may come behind the last and fail.
 abbrev pub Decided : Request → World → World → ℕ → Type 0
-Decided request old new status = (events : List Event) (ending : Ending) → Leads request events ending → WereTold (answers_in events) old.host new.host → status ≤ 3
+Decided request old new status = (events : List Event) (ending : Ending) → Leads request events ending → WereTold (answers_in events) old.host new.host → (status ≤ 3) ⊎ (ending ≢ Done)
     → Reports (AtEnd ending) old.log new.log status
 
 -- no count of faults rose, and none stands at its last value
