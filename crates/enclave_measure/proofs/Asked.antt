@@ -1,10 +1,11 @@
 -- What the calls of a measurement ask.
-use Rattle.std.proofs.Common.{◌≡◌, ◌∙◌, ℕ, suc, ◌+◌, ◌*◌, ◌-◌, ◌≤◌, Bool, true, false, List, [], ◌++◌, length, take, drop, refl, sym, ap, arith, subst, Ok, Err}
+use Rattle.std.proofs.Common.{◌≡◌, ◌∙◌, ℕ, suc, ◌+◌, ◌*◌, ◌-◌, ◌≤◌, Bool, true, false, if◌then◌else◌, List, [], ◌++◌, length, take, drop, refl, sym, ap, arith, subst, Ok, Err}
 use Rattle.std.proofs.lemmas.List.{take-append-drop, length-take-le, length-replicate, drop-replicate, append_assoc, append-nil}
-use Rattle.pf_io.specs.Counts.{Rose}
+use Rattle.std.proofs.lemmas.List.Sums.{fold-append}
+use Rattle.pf_io.specs.Counts.{Rose, counted}
 use Rattle.pf_io.specs.Moments.{Does}
 use Rattle.pf_io.specs.Steps.{Stays}
-use Rattle.pf_io.specs.Host.{Answer, HostState, OnDisk, KeepsRest}
+use Rattle.pf_io.specs.Host.{Answer, HostState, CountsNeither, CountsRead, OnDisk, KeepsRest}
 use Rattle.pf_io.proofs.Answering.{answered_none}
 use Rattle.pf_io.proofs.Unchanged.{kept_none, kept_once, kept_then}
 use Rattle.enclave_measure.specs.declared.page.Page.{Page}
@@ -14,7 +15,7 @@ use Rattle.enclave_measure.specs.declared.fault.MeasureFault.{MeasureFault}
 use Rattle.enclave_measure.specs.declared.fault.MeasureFault.TheVariants as faults
 use Rattle.enclave_measure.specs.Pages.{PAGE}
 use Rattle.enclave_measure.specs.Records.{CHUNK, zeros, padded, addition, extension, extensions, page_records}
-use Rattle.enclave_measure.specs.Measuring.{SourceGives, GivesWhere}
+use Rattle.enclave_measure.specs.Measuring.{SourceGives, GivesWhere, is_length, reads_after, CountsReads}
 use Rattle.enclave_measure.specs.Hashing.{Asking, SourceCame, SourceEnded, PageHashed, PageEnded}
 
 -- no call
@@ -41,6 +42,28 @@ pub asking_both : {T : Type 0} (value : T) (old mid new : HostState) → mid.fau
 asking_both value old mid new still first still' second = record {
   cause = record { later = omega (arith, still, still'); still = still' ∙ still; rose = tt };
   disk = kept_then old mid new (kept_once old mid first) (kept_once mid new second);
+}
+
+-- no call that is counted
+pub counts_no_read : (these : List Answer) (old new : HostState) → reads_after old.reads these ≡ old.reads → CountsNeither old new → CountsReads these old new
+counts_no_read these old new none counts = record { reads = counts.reads ∙ sym none; writes = counts.writes; widest = omega (arith, counts.widest) }
+
+-- a length, and then a read
+pub counts_one_read : (these : List Answer) (old mid new : HostState) → reads_after old.reads these ≡ counted old.reads → CountsNeither old mid → CountsRead PAGE mid new → CountsReads these old new
+counts_one_read these old mid new one first second = record {
+  reads = second.reads ∙ ap counted first.reads ∙ sym one;
+  writes = second.writes ∙ first.writes;
+  widest = omega (arith, first.widest, second.widest);
+}
+
+pub counts_none : (state : HostState) → CountsReads [] state state
+counts_none state = record { reads = refl; writes = refl; widest = omega arith }
+
+pub counts_then : (xs ys : List Answer) (old mid new : HostState) → CountsReads xs old mid → CountsReads ys mid new → CountsReads (xs ++ ys) old new
+counts_then xs ys old mid new first second = record {
+  reads = second.reads ∙ ap (λ (n : ℕ). reads_after n ys) first.reads ∙ sym (fold-append (λ count answer. if is_length answer then counted count else count) old.reads xs ys);
+  writes = second.writes ∙ first.writes;
+  widest = omega (arith, first.widest, second.widest);
 }
 
 -- a buffer of zeros that was read into has what was given, and zeros
@@ -74,6 +97,8 @@ page_measured page bytes held added extended old new is came first second = reco
   these = came.these;
   bytes = bytes;
   answered = came.answered;
+  counted = came.counted;
+  untouched = came.untouched;
   gives = gives_where page.measured page.source came.these bytes is came.gives;
   hashed = λ message holds. subst extended (append_assoc message (addition page) (extensions 16 page.offset bytes) ∙ ap (λ (ms : List ℕ). message ++ ms) (sym (records_measured page bytes is))) (second (message ++ addition page) (first message holds));
 }
@@ -84,6 +109,8 @@ page_bare page held added state is first = record {
   these = [];
   bytes = [];
   answered = answered_none state;
+  counted = counts_none state;
+  untouched = λ none. refl;
   gives = bare_where page.measured page.source is;
   hashed = λ message holds. subst added (ap (λ (ms : List ℕ). message ++ ms) (sym (records_bare page [] is))) (first message holds);
 }
@@ -96,12 +123,13 @@ page_ended place page fault old new is ended = record {
   these = ended.these;
   of_file = record { measured = is; source = ended.of_file };
   answered = ended.answered;
+  counted = ended.counted;
   ends = ended.ends;
 }
 
 -- zeros came of themselves
 pub zero_came : (source : Source) (bytes : List ℕ) (state : HostState) → source ≡ sources.Zero → bytes ≡ zeros PAGE → SourceCame source bytes state state
-zero_came source bytes state is all = record { these = []; answered = answered_none state; gives = rw is (refl, all) }
+zero_came source bytes state is all = record { these = []; answered = answered_none state; counted = counts_none state; untouched = λ none. refl; gives = rw is (refl, all) }
 
 -- one chunk more
 pub extended_more : (i offset : ℕ) (bytes head chunk : List ℕ) (fed hashed added : List ℕ → Type 0) → ((rest : List ℕ) → head ++ rest ≡ extension (offset + CHUNK * i) rest) → chunk ≡ take CHUNK (drop (CHUNK * i) bytes)

@@ -18,6 +18,7 @@ use Rattle.enclave_measure.specs.Pages.{IsInside, Listed}
 use Rattle.enclave_measure.specs.Records.{creation, padded, page_records, records, measured_bytes, measurement}
 use Rattle.enclave_measure.specs.Measuring.{SourceGives, GivesWhere, PageGives, Gives, EndsAt, Measures, Whole, Ended, host_part, source_in, bytes_in, IsThere, MeasuresFiles, IsMeasured, IsOfFiles}
 use Rattle.enclave_measure.specs.Hashing.{Asking, PageHashed, PageEnded, PagesHashed, PagesEnded}
+use Rattle.enclave_measure.proofs.Asked.{counts_none, counts_then}
 
 gives_push : (pages : List Page) (page : Page) (these last : List Answer) (contents : List (List ℕ)) (bytes : List ℕ) → Gives pages these contents → PageGives page last bytes → Gives (pages ++ page ∷ []) (these ++ last) (contents ++ bytes ∷ [])
 gives_push [] page these last contents bytes so_far gives =
@@ -38,7 +39,11 @@ records_push (p ∷ pages) page these contents bytes gives =
     ∙ ap (λ (cs : List (List ℕ)). records (p ∷ pages) cs ++ page_records page bytes) (sym gives.7)
 
 pub hashed_none : (held : List ℕ → Type 0) (state : HostState) → PagesHashed [] held held state state
-hashed_none held state = record { these = []; contents = []; answered = answered_none state; gives = (refl, refl); hashed = λ message holds. subst held (sym (append-nil message)) holds }
+hashed_none held state = record { these = []; contents = []; answered = answered_none state; counted = counts_none state; untouched = λ none. refl; gives = (refl, refl); hashed = λ message holds. subst held (sym (append-nil message)) holds }
+
+both_none : (xs ys : List Answer) → xs ++ ys ≡ [] → (xs ≡ []) × (ys ≡ [])
+both_none [] ys none = (refl, none)
+both_none (x ∷ xs) ys none = absurd (cc)
 
 -- one page more
 pub hashed_more : (pages : List Page) (page : Page) (held mid_held new_held : List ℕ → Type 0) (old mid new : HostState) → PagesHashed pages held mid_held old mid → PageHashed page mid_held new_held mid new → PagesHashed (pages ++ page ∷ []) held new_held old new
@@ -46,6 +51,8 @@ hashed_more pages page held mid_held new_held old mid new so_far this = record {
   these = so_far.these ++ this.these;
   contents = so_far.contents ++ this.bytes ∷ [];
   answered = answered_then so_far.these this.these old mid new so_far.answered this.answered;
+  counted = counts_then so_far.these this.these old mid new so_far.counted this.counted;
+  untouched = λ none. let parts = both_none so_far.these this.these none in this.untouched parts.1 ∙ so_far.untouched parts.0;
   gives = gives_push pages page so_far.these this.these so_far.contents this.bytes so_far.gives this.gives;
   hashed = λ message holds. subst new_held (append_assoc message (records pages so_far.contents) (page_records page this.bytes) ∙ ap (λ (rs : List ℕ). message ++ rs) (sym (records_push pages page so_far.these so_far.contents this.bytes so_far.gives)))
       (this.hashed (message ++ records pages so_far.contents) (so_far.hashed message holds));
@@ -68,6 +75,7 @@ ended_at pages front page others place fault held mid_held old mid new whole lon
   of_file = this.of_file;
   ends = subst (λ n. EndsAt n this.name this.these fault) (sym long) this.ends;
   answered = answered_then so_far.these this.these old mid new so_far.answered this.answered;
+  counted = counts_then so_far.these this.these old mid new so_far.counted this.counted;
 }
 
 -- more calls that only ask
@@ -145,13 +153,15 @@ of_files files layout these outcome all (Ended front page others asked last give
 
 -- what an honest host answered is what its files have
 pub honest_of : (layout : Listed) (outcome : Result (List ℕ) MeasureFault) (old new : HostState) → IsMeasured outcome layout old new → IsOfFiles outcome layout old
-honest_of layout outcome old new came = IfSome_then (files_of old) came.answered.honest (λ files all. of_files files layout came.these outcome all came.holds)
+honest_of layout outcome old new came = IfSome_then (files_of old) came.answered.honest (λ files all. of_files files layout came.these outcome all came.measures)
 
 pub ended_came : (layout : Listed) (fault : MeasureFault) (old new : HostState) → PagesEnded layout.pages fault old new → IsMeasured (Err fault) layout old new
 ended_came layout fault old new ended = record {
   these = ended.asked ++ ended.last;
   answered = ended.answered;
-  holds = Ended ended.front ended.page ended.others ended.asked ended.last ended.contents ended.name ended.at fault ended.whole ended.gives ended.of_file ended.ends refl refl;
+  counted = ended.counted;
+  untouched = tt;
+  measures = Ended ended.front ended.page ended.others ended.asked ended.last ended.contents ended.name ended.at fault ended.whole ended.gives ended.of_file ended.ends refl refl;
 }
 
 pub inside_all : (size : ℕ) (pages : List Page) → size ≤ 2 ^ 40 → AllByRecursion (IsInside size) pages → AllByRecursion (IsInside (2 ^ 40)) pages
@@ -169,5 +179,7 @@ pub hashed_came : (layout : Listed) (digest : List ℕ) (created hashed : List �
 hashed_came layout digest created hashed old new all first ends = record {
   these = all.these;
   answered = all.answered;
-  holds = Whole all.contents all.gives (ap Ok (ends (measured_bytes layout all.contents) (all.hashed (creation layout.size layout.ssa) first)));
+  counted = all.counted;
+  untouched = all.untouched;
+  measures = Whole all.contents all.gives (ap Ok (ends (measured_bytes layout all.contents) (all.hashed (creation layout.size layout.ssa) first)));
 }

@@ -1,5 +1,5 @@
 -- What the parts of a measurement ask and hash.
-use Rattle.std.specs.Prelude.{◌≡◌, ℕ, List, ◌∷◌, ◌++◌, length, Result, Ok, Err}
+use Rattle.std.specs.Prelude.{◌≡◌, ℕ, List, [], ◌∷◌, ◌++◌, length, Result, Ok, Err}
 use Rattle.pf_io.specs.Counts.{HasCause}
 use Rattle.pf_io.specs.Host.{Name, Answer, HostState}
 use Rattle.pf_io.specs.Answered.{Answered}
@@ -9,7 +9,7 @@ use Rattle.enclave_measure.specs.declared.page.Source.TheVariants as sources
 use Rattle.enclave_measure.specs.declared.page.Page.{Page}
 use Rattle.enclave_measure.specs.declared.fault.MeasureFault.{MeasureFault}
 use Rattle.enclave_measure.specs.Records.{page_records, records}
-use Rattle.enclave_measure.specs.Measuring.{SourceGives, PageGives, Gives, IsOfFile, EndsAt, host_part}
+use Rattle.enclave_measure.specs.Measuring.{SourceGives, PageGives, Gives, IsOfFile, EndsAt, CountsReads, host_part}
 
 -- calls that only ask
 pub record Asking {T : Type 0} (result : Result T MeasureFault) (old new : HostState) : Type 0 where
@@ -20,6 +20,8 @@ pub record Asking {T : Type 0} (result : Result T MeasureFault) (old new : HostS
 pub record SourceCame (source : Source) (bytes : List ℕ) (old new : HostState) : Type 0 where
   pub these : List Answer
   pub answered : Answered these old new
+  pub counted : CountsReads these old new
+  pub untouched : these ≡ [] → new ≡ old
   pub gives : SourceGives source these bytes
 
 -- the run ended at a source of a file
@@ -29,6 +31,7 @@ pub record SourceEnded (place : ℕ) (source : Source) (fault : MeasureFault) (o
   pub these : List Answer
   pub of_file : source ≡ sources.File name at
   pub answered : Answered these old new
+  pub counted : CountsReads these old new
   pub ends : EndsAt place name these fault
 
 abbrev pub SourceEnds : Result (List ℕ) MeasureFault → ℕ → Source → HostState → HostState → Type 0
@@ -40,6 +43,8 @@ pub record PageHashed (page : Page) (held held_now : List ℕ → Type 0) (old n
   pub these : List Answer
   pub bytes : List ℕ
   pub answered : Answered these old new
+  pub counted : CountsReads these old new
+  pub untouched : these ≡ [] → new ≡ old
   pub gives : PageGives page these bytes
   pub hashed : (message : List ℕ) → held message → held_now (message ++ page_records page bytes)
 
@@ -50,6 +55,7 @@ pub record PageEnded (place : ℕ) (page : Page) (fault : MeasureFault) (old new
   pub these : List Answer
   pub of_file : IsOfFile page name at
   pub answered : Answered these old new
+  pub counted : CountsReads these old new
   pub ends : EndsAt place name these fault
 
 abbrev pub PageEnds : {T : Type 0} → Result T MeasureFault → ℕ → Page → (List ℕ → Type 0) → (List ℕ → Type 0) → HostState → HostState → Type 0
@@ -61,6 +67,8 @@ pub record PagesHashed (pages : List Page) (held held_now : List ℕ → Type 0)
   pub these : List Answer
   pub contents : List (List ℕ)
   pub answered : Answered these old new
+  pub counted : CountsReads these old new
+  pub untouched : these ≡ [] → new ≡ old
   pub gives : Gives pages these contents
   pub hashed : (message : List ℕ) → held message → held_now (message ++ records pages contents)
 
@@ -79,6 +87,7 @@ pub record PagesEnded (pages : List Page) (fault : MeasureFault) (old new : Host
   pub of_file : IsOfFile page name at
   pub ends : EndsAt (length front) name last fault
   pub answered : Answered (asked ++ last) old new
+  pub counted : CountsReads (asked ++ last) old new
 
 abbrev pub PagesEnd : {T : Type 0} → Result T MeasureFault → List Page → (List ℕ → Type 0) → (List ℕ → Type 0) → HostState → HostState → Type 0
 PagesEnd (Ok value) pages held held_now old new = PagesHashed pages held held_now old new

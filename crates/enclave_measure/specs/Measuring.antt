@@ -1,8 +1,9 @@
 -- What a measurement asks of a host, and what it comes to.
-use Rattle.std.specs.Prelude.{◌≡◌, ◌≢◌, ◌⊎◌, ℕ, ◌≤◌, Bool, true, false, if◌then◌else◌, List, [], ◌∷◌, ◌++◌, length, take, drop, map, Option, Some, None, Result, Ok, Err, ⊤}
+use Rattle.std.specs.Prelude.{◌≡◌, ◌≢◌, ◌⊎◌, ℕ, ◌≤◌, Bool, true, false, if◌then◌else◌, max, List, [], ◌∷◌, ◌++◌, length, take, drop, map, fold, Option, Some, None, Result, Ok, Err, OnOk, ⊤}
 use Rattle.std.specs.List.{AllByRecursion}
+use Rattle.pf_io.specs.Counts.{counted}
 use Rattle.pf_io.specs.Host.{Name, Files, Answer, LengthWas, Gave, Wrote, WasCut, Synced, Made, Swapped, Removed, HostState, OnHonest, contents}
-use Rattle.pf_io.specs.Answered.{Came}
+use Rattle.pf_io.specs.Answered.{Answered}
 use Rattle.enclave_measure.specs.declared.page.Source.{Source}
 use Rattle.enclave_measure.specs.declared.page.Source.TheVariants as sources
 use Rattle.enclave_measure.specs.declared.page.Page.{Page}
@@ -102,9 +103,36 @@ MeasuresFiles files layout (Ok measured) = AllByRecursion (IsThere files) layout
 MeasuresFiles files layout (Err (faults.NotFound page)) = IsFirstAbsent files layout.pages page
 MeasuresFiles files layout (Err faults.Host) = ⊤
 
--- some answers came, which lead to the result
-abbrev pub IsMeasured : Result (List ℕ) MeasureFault → Listed → HostState → HostState → Type 0
-IsMeasured result layout old new = Came (λ these. Measures layout these result) old new
+-- the host had a length of a file
+abbrev pub is_length : Answer → Bool
+is_length (LengthWas name None) = false
+is_length (LengthWas name (Some length)) = true
+is_length (Gave name place room bytes) = false
+is_length (Wrote name place bytes) = false
+is_length (WasCut name length) = false
+is_length (Synced name) = false
+is_length (Made name) = false
+is_length (Swapped from to) = false
+is_length (Removed name) = false
+
+-- the reads that are counted after some answers: one for each length
+abbrev pub reads_after : ℕ → List Answer → ℕ
+reads_after reads these = fold (λ count answer. if is_length answer then counted count else count) reads these
+
+-- One read was made for each file that had a length, also the read that failed, and no other call that is counted.
+pub record CountsReads (these : List Answer) (old new : HostState) : Type 0 where
+  pub reads : new.reads ≡ reads_after old.reads these
+  pub writes : new.writes ≡ old.writes
+  pub widest : new.widest ≤ max old.widest PAGE
+
+-- Some answers came, which lead to the result, of calls that are all counted. Where there are none and no call failed,
+-- none was made.
+pub record IsMeasured (result : Result (List ℕ) MeasureFault) (layout : Listed) (old new : HostState) : Type 0 where
+  pub these : List Answer
+  pub answered : Answered these old new
+  pub counted : CountsReads these old new
+  pub untouched : OnOk result (these ≡ [] → new ≡ old)
+  pub measures : Measures layout these result
 
 -- over an honest host the result is that of its files
 abbrev pub IsOfFiles : Result (List ℕ) MeasureFault → Listed → HostState → Type 0
