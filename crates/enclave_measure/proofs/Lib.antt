@@ -5,6 +5,8 @@ pub mod Forming
 pub mod Listing
 pub mod Unique
 pub mod OneOutcome
+pub mod Deciding
+pub mod Existing
 pub mod Asked
 pub mod Measured
 pub mod Absent

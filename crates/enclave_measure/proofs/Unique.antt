@@ -14,7 +14,7 @@ use Rattle.enclave_measure.specs.Hexadecimal.{IsHex, hex_value}
 use Rattle.enclave_measure.specs.Pages.{AreEnclaveWords, letter_or, permissions_word, type_word, measured_word, IsSource, ArePageWords}
 use Rattle.enclave_measure.specs.Layouts.{IsLineOf}
 
-hex_one : (text : List ℕ) (a b : ℕ) → IsHex text a → IsHex text b → a ≡ b
+pub hex_one : (text : List ℕ) (a b : ℕ) → IsHex text a → IsHex text b → a ≡ b
 hex_one text a b one two =
     let same : one.digits ≡ two.digits = ap (λ (t : List ℕ). drop 2 t) (sym one.spelled ∙ two.spelled) in
     one.value ∙ ap hex_value same ∙ sym two.value
@@ -22,7 +22,7 @@ hex_one text a b one two =
 spells_one : (text : List ℕ) (a b : ℕ) → Spells text a → Spells text b → a ≡ b
 spells_one text a b one two = decimal_injective a b one.fits two.fits (sym one.digits ∙ two.digits)
 
-word_at : (n : ℕ) (xs ys : List (List ℕ)) → xs ≡ ys → get_or xs n [] ≡ get_or ys n []
+pub word_at : (n : ℕ) (xs ys : List (List ℕ)) → xs ≡ ys → get_or xs n [] ≡ get_or ys n []
 word_at n xs ys same = ap (λ (ws : List (List ℕ)). get_or ws n []) same
 
 pub enclave_one : (words : List (List ℕ)) (size ssa size' ssa' : ℕ) → AreEnclaveWords words size ssa → AreEnclaveWords words size' ssa' → (size ≡ size') × (ssa ≡ ssa')
@@ -43,14 +43,14 @@ made read write execute = record { read = read; write = write; execute = execute
 made_same : (a a' b b' c c' : Bool) → a ≡ a' → b ≡ b' → c ≡ c' → made a b c ≡ made a' b' c'
 made_same a a' b b' c c' one two three = rw (one, two, three) refl
 
-permissions_one : (p q : Permissions) → permissions_word p ≡ permissions_word q → p ≡ q
+pub permissions_one : (p q : Permissions) → permissions_word p ≡ permissions_word q → p ≡ q
 permissions_one p q same =
     let read = letter_one 114 (λ e. omega (arith, e)) p.read q.read (ap (λ (w : List ℕ). get_or w 0 0) same) in
     let write = letter_one 119 (λ e. omega (arith, e)) p.write q.write (ap (λ (w : List ℕ). get_or w 1 0) same) in
     let execute = letter_one 120 (λ e. omega (arith, e)) p.execute q.execute (ap (λ (w : List ℕ). get_or w 2 0) same) in
     made_same p.read q.read p.write q.write p.execute q.execute read write execute
 
-type_one : (a b : PageType) → type_word a ≡ type_word b → a ≡ b
+pub type_one : (a b : PageType) → type_word a ≡ type_word b → a ≡ b
 type_one types.Tcs types.Tcs same = refl
 type_one types.Reg types.Reg same = refl
 type_one types.Tcs types.Reg same = absurd (omega (arith, ap (λ (w : List ℕ). get_or w 0 0) same))

@@ -9,9 +9,10 @@ ghost use Rattle.enclave_measure.specs.Pages.{Listed};
 ghost use Rattle.enclave_measure.specs.Layouts.{ReadsTo};
 ghost use Rattle.enclave_measure.specs.Measuring.{Measures, IsDecided, is_absence};
 
-/// A text lists one layout, or is refused for one cause.
+/// Each text has an outcome, and no other: it lists one layout, or is refused for one cause.
 pub fn text_has_one_outcome()
-    ensures { (text : List ℕ) (outcome other : Result Listed LayoutFault) → ReadsTo text outcome → ReadsTo text other → outcome ≡ other }
+    ensures there { (text : List ℕ) → (outcome : Result Listed LayoutFault) × ReadsTo text outcome }
+    ensures no_other { (text : List ℕ) (outcome other : Result Listed LayoutFault) → ReadsTo text outcome → ReadsTo text other → outcome ≡ other }
 {}
 
 /// `NotFound` comes exactly where one of the answers is that a file has no length.
