@@ -1,11 +1,11 @@
 -- The entries of a list of items, one item after another.
-use Rattle.std.proofs.Common.{◌≡◌, ◌≢◌, ◌∙◌, ℕ, zero, suc, Bool, true, false, cond, not, List, [], ◌∷◌, ◌++◌, map, filter, take, Option, Some, None, bytes_eq, refl, sym, ap}
+use Rattle.std.proofs.Common.{◌≡◌, ◌∙◌, ℕ, suc, Bool, true, false, cond, List, [], ◌∷◌, ◌++◌, map, filter, take, Option, Some, None, bytes_eq, refl, sym, ap}
 use Rattle.std.specs.Option.{option_or}
 use Rattle.std.proofs.lemmas.List.{map-append}
 use Rattle.manifest_model.specs.declared.entries.Trusted.{Trusted}
 use Rattle.manifest_model.specs.Trusting.{sum_in, summed_by, is_other, firsts, entries_of, named}
 use Rattle.manifest_model.specs.Indexing.{joined, added, entry_sum}
-use Rattle.manifest_model.proofs.Indexed.{Told, Yes, No, same_name, bytes_eq_comm}
+use Rattle.manifest_model.proofs.Indexed.{Yes, No, same_name, bytes_eq_comm}
 
 bytes_eq_self : (a : List ℕ) → bytes_eq a a ≡ true
 bytes_eq_self a = elim (same_name a a) [ Yes b s ↦ b | No b s ↦ absurd (s refl) ]

@@ -3,7 +3,7 @@ use Rattle.std.specs.Prelude.{◌≡◌, ℕ, if◌then◌else◌, List, [], ◌
 use Rattle.hex.specs.Hex.{encode_lower}
 use Rattle.toml.specs.Data.{Data, string, array, table, Items, no_items, item, Members, no_members, member, same_key, get_member}
 use Rattle.manifest_model.specs.declared.entries.Trusted.{Trusted}
-use Rattle.manifest_model.specs.Listed.{sgx, Lists, Seen}
+use Rattle.manifest_model.specs.Listed.{sgx, Seen}
 
 -- one sum for each entry, which is the listed one where there is one
 abbrev pub FitSums : List Trusted → List (List ℕ) → Type 0

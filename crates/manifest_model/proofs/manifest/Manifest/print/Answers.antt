@@ -1,9 +1,7 @@
-use Rattle.std.proofs.Common.{◌≡◌, ◌∙◌, true, false, sym, ap, subst, string_bytes, Some, refl}
+use Rattle.std.proofs.Common.{◌∙◌, sym, refl}
 use Rattle.std.proofs.lemmas.Bool.{false≢true}
 use Rattle.std.proofs.lemmas.Str.{IsUtf8-string_bytes}
 use Rattle.toml.specs.View.{table_view}
-use Rattle.toml.specs.Parse.{parse_document}
-use Rattle.manifest_model.specs.Listed.{IsTextOf}
 use Rattle.manifest_model.proofs.Accepted.{depth_of, dates_of}
 use Rattle.manifest_model.proofs.manifest.Manifest.print.Goals as goal
 
