@@ -7,7 +7,7 @@ use Rattle.manifest_model.specs.Trusting.{sum_in, summed_by, is_other, firsts, e
 use Rattle.manifest_model.specs.Indexing.{joined, added, entry_sum}
 use Rattle.manifest_model.proofs.Indexed.{Yes, No, same_name, bytes_eq_comm}
 
-bytes_eq_self : (a : List ℕ) → bytes_eq a a ≡ true
+pub bytes_eq_self : (a : List ℕ) → bytes_eq a a ≡ true
 bytes_eq_self a = elim (same_name a a) [ Yes b s ↦ b | No b s ↦ absurd (s refl) ]
 
 -- how many items have a name
@@ -54,7 +54,7 @@ option_or-None : (o : Option (List ℕ)) → option_or o None ≡ o
 option_or-None None = refl
 option_or-None (Some s) = refl
 
-option_or-assoc : (a b c : Option (List ℕ)) → option_or (option_or a b) c ≡ option_or a (option_or b c)
+pub option_or-assoc : (a b c : Option (List ℕ)) → option_or (option_or a b) c ≡ option_or a (option_or b c)
 option_or-assoc None b c = refl
 option_or-assoc (Some s) b c = refl
 
