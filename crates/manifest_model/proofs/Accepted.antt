@@ -1,5 +1,5 @@
 -- What holds of a table of which nothing is refused.
-use Rattle.std.proofs.Common.{◌≡◌, ◌∙◌, ◌⊎◌, inl, inr, ℕ, zero, suc, ◌+◌, ◌<◌, ◌≤◌, max, Bool, true, false, cond, ◌&&◌, nat_lt, nat_le, List, [], ◌∷◌, ◌++◌, length, get_or, codes, Option, Some, None, option_map, bytes_eq, Ordering, Less, Equal, Greater, refl, sym, ap, arith}
+use Rattle.std.proofs.Common.{◌≡◌, ◌∙◌, ◌⊎◌, inl, inr, ℕ, zero, suc, ◌+◌, ◌<◌, ◌≤◌, Bool, true, false, cond, ◌&&◌, nat_lt, List, [], ◌++◌, length, get_or, codes, Option, Some, None, bytes_eq, Ordering, Less, Equal, Greater, refl, arith}
 use Rattle.std.specs.Prelude.{is_some, option_and_then}
 use Rattle.std.specs.Option.{option_or}
 use Rattle.std.specs.Map.{lookup}
@@ -7,20 +7,19 @@ use Rattle.std.specs.Cmp.Lexicographic.{slice_cmp}
 use Rattle.std.specs.Ordering.{nat_cmp, match_ordering}
 use Rattle.std.proofs.lemmas.Map.Text.{is_eq-slice_cmp}
 use Rattle.std.proofs.lemmas.Bool.Decides.{nat_tests}
-use Rattle.std.proofs.lemmas.Slice.Eq.{bytes_eq-Decides}
 use Rattle.toml.specs.Data.{Data, string, integer, float, boolean, datetime, array, table, Items, no_items, item, Members, no_members, member, as_str, as_table, as_array, get, get_member, depth, items_depth, members_depth, has_valid_dates, items_have_valid_dates, members_have_valid_dates}
 use Rattle.manifest_model.specs.declared.entries.Mount.{Mount}
 use Rattle.manifest_model.specs.declared.fault.ManifestFault.{ManifestFault}
 use Rattle.manifest_model.specs.declared.fault.ManifestFault.TheVariants as faults
 use Rattle.manifest_model.specs.Names.{normal, normal_parts, kept_of, is_absolute}
-use Rattle.manifest_model.specs.Places.{at_key, at_item, bad_field, first_of}
+use Rattle.manifest_model.specs.Places.{at_key, at_item, bad_field}
 use Rattle.manifest_model.specs.Walk.{too_deep, walk, walk_items, walk_members, walk_table}
-use Rattle.manifest_model.specs.Fields.{wants, needs, text_or, or_else, field_in, members_in, items_in, bytes_of}
+use Rattle.manifest_model.specs.Fields.{wants, needs, text_or, or_else, members_in, items_in, bytes_of}
 use Rattle.manifest_model.specs.Mounting.{path_refusal, mount_refusal, mounts_refusal, mount_of, mounts_of, root_refusal, root_of}
 use Rattle.manifest_model.specs.Listed.{sgx, fs, refusal, policy_refusal, trusted_refusal, allowed_refusal, mounting_refusal, mounting_of, key_refusal, keys_refusal, keying_refusal, keying_of, keys_of}
 use Rattle.manifest_model.specs.Reading.{key_at}
 use Rattle.manifest_model.proofs.Normal.{normal-normal, normal-absolute}
-use Rattle.manifest_model.proofs.Indexed.{Told, Yes, No, same_name}
+use Rattle.manifest_model.proofs.Indexed.{Yes, No, same_name}
 
 pub both_none : (a b : Option ManifestFault) → option_or a b ≡ None → (a ≡ None) × (b ≡ None)
 both_none None b e = (refl, e)

@@ -1,13 +1,13 @@
 -- The entries of a list of items, one item after another.
-use Rattle.std.proofs.Common.{◌≡◌, ◌≢◌, ◌∙◌, ℕ, zero, suc, Bool, true, false, cond, not, List, [], ◌∷◌, ◌++◌, map, filter, take, Option, Some, None, bytes_eq, refl, sym, ap}
+use Rattle.std.proofs.Common.{◌≡◌, ◌∙◌, ℕ, suc, Bool, true, false, cond, List, [], ◌∷◌, ◌++◌, map, filter, take, Option, Some, None, bytes_eq, refl, sym, ap}
 use Rattle.std.specs.Option.{option_or}
 use Rattle.std.proofs.lemmas.List.{map-append}
 use Rattle.manifest_model.specs.declared.entries.Trusted.{Trusted}
 use Rattle.manifest_model.specs.Trusting.{sum_in, summed_by, is_other, firsts, entries_of, named}
 use Rattle.manifest_model.specs.Indexing.{joined, added, entry_sum}
-use Rattle.manifest_model.proofs.Indexed.{Told, Yes, No, same_name, bytes_eq_comm}
+use Rattle.manifest_model.proofs.Indexed.{Yes, No, same_name, bytes_eq_comm}
 
-bytes_eq_self : (a : List ℕ) → bytes_eq a a ≡ true
+pub bytes_eq_self : (a : List ℕ) → bytes_eq a a ≡ true
 bytes_eq_self a = elim (same_name a a) [ Yes b s ↦ b | No b s ↦ absurd (s refl) ]
 
 -- how many items have a name
@@ -54,7 +54,7 @@ option_or-None : (o : Option (List ℕ)) → option_or o None ≡ o
 option_or-None None = refl
 option_or-None (Some s) = refl
 
-option_or-assoc : (a b c : Option (List ℕ)) → option_or (option_or a b) c ≡ option_or a (option_or b c)
+pub option_or-assoc : (a b c : Option (List ℕ)) → option_or (option_or a b) c ≡ option_or a (option_or b c)
 option_or-assoc None b c = refl
 option_or-assoc (Some s) b c = refl
 

@@ -5,5 +5,6 @@ pub mod Entered
 pub mod Steps
 pub mod Normal
 pub mod Accepted
+pub mod Agreed
 pub mod Deciding
 pub mod SumLists

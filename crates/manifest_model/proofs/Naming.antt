@@ -1,8 +1,7 @@
 -- Names and their parts.
 use denote.Ref.{Bor}
 use Rattle.std.proofs.lemmas.List.{take_all, take_more, map-append}
-use Rattle.std.proofs.Common.{◌-◌, ◌<◌, get_or, drop, ◌≡◌, ◌≢◌, ◌∙◌, ◌↔◌, ℕ, zero, suc, ◌+◌, ◌≤◌, append-nil, append_assoc, Bool, true, false, not, ◌&&◌, ◌==◌, nat_le, cond, List, [], ◌∷◌, ◌++◌, reverse, length, map, take, All, IsTrue, refl, sym, ap, rules, arith, le-leb}
-use Rattle.std.proofs.lemmas.Grind.{common_steps}
+use Rattle.std.proofs.Common.{◌-◌, ◌<◌, get_or, drop, ◌≡◌, ◌≢◌, ◌∙◌, ◌↔◌, ℕ, suc, ◌+◌, ◌≤◌, append-nil, append_assoc, Bool, true, false, not, ◌==◌, nat_le, cond, List, [], ◌∷◌, ◌++◌, length, map, take, All, IsTrue, refl, sym, ap, arith}
 use Rattle.std.specs.Bool.{Decides}
 use Rattle.std.proofs.lemmas.Bool.Decides.{Decides-and, Decides-by_and, Decides-not, Decides-eqb, nat_tests, Decides-like, same_from_decides}
 use Rattle.std.specs.List.{list_all, join_with_byte}

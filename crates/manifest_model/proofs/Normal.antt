@@ -1,13 +1,13 @@
 -- Normal names: each is its own normal name.
 use Rattle.std.proofs.lemmas.List.Sums.{fold-append}
-use Rattle.std.proofs.Common.{◌≡◌, ◌∙◌, ◌⊎◌, inl, inr, ℕ, Bool, true, false, cond, not, ◌&&◌, ◌==◌, List, [], ◌∷◌, ◌++◌, reverse, fold, codes, bytes_eq, refl, sym, ap}
-use Rattle.std.specs.List.{list_all, slice_split, join_with_byte, onto_first}
+use Rattle.std.proofs.Common.{◌≡◌, ◌∙◌, ◌⊎◌, inl, inr, ℕ, Bool, true, false, cond, not, ◌&&◌, ◌==◌, List, [], ◌∷◌, ◌++◌, reverse, fold, bytes_eq, refl, sym, ap}
+use Rattle.std.specs.List.{list_all, join_with_byte, onto_first}
 use Rattle.std.proofs.lemmas.Bool.{and_parts}
-use Rattle.std.proofs.lemmas.List.{reverse-append, reverse-reverse}
+use Rattle.std.proofs.lemmas.List.{reverse-append}
 use Rattle.std.proofs.lemmas.List.Folds.{list_all-append}
 use Rattle.pf_io.specs.Names.{SLASH}
 use Rattle.manifest_model.specs.Names.{parts, is_absolute, ABOVE, is_here, is_plain, go_above, go, kept_of, normal_parts, name_of, normal, climbs, are_normal}
-use Rattle.manifest_model.proofs.Indexed.{Told, Yes, No, same_name}
+use Rattle.manifest_model.proofs.Indexed.{Yes, No, same_name}
 
 tell : (b : Bool) → (b ≡ true) ⊎ (b ≡ false)
 tell true = inl refl

@@ -1,13 +1,12 @@
 -- Lists of items, one item after another.
-use Rattle.std.proofs.Common.{◌≡◌, ◌∙◌, ℕ, ◌+◌, ◌<◌, List, [], ◌∷◌, ◌++◌, length, get_or, take, drop, Option, Some, None, Bor, refl, sym, ap, rules}
+use Rattle.std.proofs.Common.{◌≡◌, ◌∙◌, ℕ, ◌+◌, ◌<◌, List, [], ◌∷◌, ◌++◌, length, get_or, take, drop, Some, None, Bor, refl, sym, ap, rules}
 use Rattle.std.specs.Option.{option_or}
 use Rattle.std.proofs.lemmas.List.{take_more}
-use Rattle.toml.specs.Data.{Data, Items, item}
+use Rattle.toml.specs.Data.{item}
 use Rattle.toml.specs.View.{view, items_view}
 use Rattle.toml.specs.declared.value.Value.{Value}
 use Rattle.toml.proofs.Views.{items_view-drop}
 use Rattle.manifest_model.specs.declared.entries.Trusted.{Trusted}
-use Rattle.manifest_model.specs.declared.entries.Mount.{Mount}
 use Rattle.manifest_model.specs.declared.places.Place.{Place, Path, Key, Item, the_lemmas}
 use Rattle.manifest_model.specs.declared.fault.ManifestFault.{ManifestFault}
 use Rattle.manifest_model.specs.Places.{place_text, at_key, at_item}

@@ -8,7 +8,7 @@ use Rattle.std.specs.BTreeMap.{insert_entry, is_at}
 use Rattle.toml.proofs.Views.{Entry, table_index}
 use Rattle.toml.specs.View.{view, members_view}
 use Rattle.toml.specs.declared.value.Value.{Value}
-use Rattle.std.proofs.Common.{cond, drop, codes, Option, Some, None, IsSome, String, Global, string_bytes, Ordering, Less, Equal, Greater, ◌≡◌, ◌∙◌, ℕ, suc, ◌+◌, ◌<◌, List, [], ◌∷◌, ◌++◌, length, get_or, take, refl, sym, ap, arith, length-append}
+use Rattle.std.proofs.Common.{cond, drop, codes, Option, Some, None, IsSome, String, Global, string_bytes, Ordering, Less, Equal, Greater, ◌≡◌, ◌∙◌, ℕ, ◌+◌, ◌<◌, List, [], ◌∷◌, ◌++◌, length, get_or, take, refl, sym, ap, arith}
 use Rattle.std.proofs.lemmas.List.{take_more, length-take-le}
 use Rattle.toml.specs.Data.{Data, Items, item, push_item, Members, member, get_member, array, table}
 use Rattle.manifest_model.specs.declared.entries.Trusted.{Trusted}

@@ -1,7 +1,7 @@
 -- What a table lists, or the first refusal of it.
-use Rattle.std.specs.Prelude.{◌≡◌, ◌⊎◌, ℕ, ◌+◌, Bool, true, false, if◌then◌else◌, List, [], ◌∷◌, ◌++◌, codes, bytes_eq, Option, Some, None, is_some, Result, Ok, Err, IsUtf8}
+use Rattle.std.specs.Prelude.{◌≡◌, ℕ, ◌+◌, if◌then◌else◌, List, [], ◌∷◌, codes, bytes_eq, Option, Some, None, is_some, Result, Ok, Err, IsUtf8}
 use Rattle.std.specs.Option.{option_or}
-use Rattle.toml.specs.Data.{Data, string, Items, no_items, item, Members, no_members, member, as_str, as_table, as_array, get_member}
+use Rattle.toml.specs.Data.{Data, Items, no_items, item, Members, no_members, member, as_str, as_table, as_array, get_member}
 use Rattle.toml.specs.Parse.{parse_document}
 use Rattle.manifest_model.specs.declared.entries.Policy.{Policy}
 use Rattle.manifest_model.specs.declared.entries.Policy.TheVariants.{Strict, AllowAllButLog}

@@ -1,5 +1,5 @@
 -- The mounts of a table.
-use Rattle.std.specs.Prelude.{ℕ, ◌+◌, Bool, true, false, not, ◌||◌, if◌then◌else◌, List, [], ◌∷◌, codes, bytes_eq, Option, Some, None}
+use Rattle.std.specs.Prelude.{ℕ, ◌+◌, Bool, true, false, ◌||◌, if◌then◌else◌, List, [], ◌∷◌, codes, bytes_eq, Option, Some, None}
 use Rattle.std.specs.Option.{option_or}
 use Rattle.toml.specs.Data.{Data, Items, no_items, item, Members, as_str, as_table, get, get_member}
 use Rattle.manifest_model.specs.declared.entries.Mount.{Mount}

@@ -1,5 +1,5 @@
 -- Names of files, and the lexical normal form of a name.
-use Rattle.std.specs.Prelude.{◌≡◌, ◌≢◌, ℕ, Bool, true, false, not, ◌&&◌, ◌==◌, nat_eq, nat_le, if◌then◌else◌, All, List, [], ◌∷◌, ◌++◌, reverse, length, drop, fold, codes, bytes_eq, Option, Some, None}
+use Rattle.std.specs.Prelude.{ℕ, Bool, true, false, not, ◌&&◌, ◌==◌, nat_eq, nat_le, if◌then◌else◌, List, [], ◌∷◌, ◌++◌, reverse, length, drop, fold, codes, bytes_eq, Option, Some, None}
 use Rattle.std.specs.List.{starts_with, ends_with, list_all, slice_split, join_with_byte}
 use Rattle.pf_io.specs.Names.{SLASH, LONGEST}
 

@@ -3,7 +3,7 @@ use Rattle.std.specs.Prelude.{◌≡◌, ℕ, if◌then◌else◌, List, [], ◌
 use Rattle.hex.specs.Hex.{encode_lower}
 use Rattle.toml.specs.Data.{Data, string, array, table, Items, no_items, item, Members, no_members, member, same_key, get_member}
 use Rattle.manifest_model.specs.declared.entries.Trusted.{Trusted}
-use Rattle.manifest_model.specs.Listed.{sgx, Lists, Seen}
+use Rattle.manifest_model.specs.Listed.{sgx}
 
 -- one sum for each entry, which is the listed one where there is one
 abbrev pub FitSums : List Trusted → List (List ℕ) → Type 0
@@ -11,12 +11,6 @@ FitSums [] [] = ⊤
 FitSums [] (sum ∷ sums) = ⊥
 FitSums (t ∷ ts) [] = ⊥
 FitSums (t ∷ ts) (sum ∷ sums) = IfSome t.sum (λ listed. listed ≡ sum) × FitSums ts sums
-
--- the entries with their sums
-abbrev pub with_sums : List Trusted → List (List ℕ) → List Trusted
-with_sums [] sums = []
-with_sums (t ∷ ts) [] = []
-with_sums (t ∷ ts) (sum ∷ sums) = record t { sum = Some sum } ∷ with_sums ts sums
 
 -- a table of exactly a uri and a sum, in lower case
 abbrev pub summed_item : List ℕ → List ℕ → Data
@@ -41,10 +35,3 @@ where_there (Some d) absent there = there
 unfoldable pub with_trusted : Items → Members → Members
 with_trusted ds ms = where_there (get_member (codes "trusted_files") (sgx ms)) ms
     (replaced (codes "sgx") (table (replaced (codes "trusted_files") (array ds) (sgx ms))) ms)
-
--- a manifest with all sums: each entry has its own, and nothing else is changed
-abbrev pub summed : Seen → List (List ℕ) → Seen
-summed seen sums = record {
-  «table» = with_trusted (summed_items seen.lists.trusted sums) seen.«table»;
-  lists = record seen.lists { trusted = with_sums seen.lists.trusted sums };
-}

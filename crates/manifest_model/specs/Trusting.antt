@@ -1,12 +1,12 @@
 -- The trusted files of a table.
-use Rattle.std.specs.Prelude.{ℕ, ◌+◌, Bool, true, false, not, ◌&&◌, if◌then◌else◌, List, [], ◌∷◌, ◌++◌, map, filter, codes, bytes_eq, Option, Some, None, is_some}
+use Rattle.std.specs.Prelude.{ℕ, ◌+◌, Bool, false, not, ◌&&◌, if◌then◌else◌, List, [], ◌∷◌, ◌++◌, map, filter, codes, bytes_eq, Option, Some, None, is_some}
 use Rattle.std.specs.Option.{option_or}
 use Rattle.toml.specs.Data.{Data, string, Items, no_items, item, as_str, as_table, get}
 use Rattle.manifest_model.specs.declared.entries.Trusted.{Trusted}
 use Rattle.manifest_model.specs.declared.fault.ManifestFault.{ManifestFault}
 use Rattle.manifest_model.specs.declared.fault.ManifestFault.TheVariants as faults
 use Rattle.manifest_model.specs.Names.{normal, file_name, is_name, ends_in_slash}
-use Rattle.manifest_model.specs.Places.{at_key, at_item, bad_field, first_of}
+use Rattle.manifest_model.specs.Places.{at_key, at_item, first_of}
 use Rattle.manifest_model.specs.Fields.{wants, needs, field_in, or_else, text_or, bytes_of}
 
 -- an item is a string, which is its uri, or a table with a uri and maybe a sum

@@ -1,5 +1,5 @@
 -- The walk of a whole table: which value is refused wherever it stands.
-use Rattle.std.specs.Prelude.{ℕ, ◌+◌, nat_lt, if◌then◌else◌, List, [], ◌∷◌, ◌++◌, codes, Option, Some, None}
+use Rattle.std.specs.Prelude.{ℕ, ◌+◌, nat_lt, if◌then◌else◌, List, [], ◌++◌, codes, Option, None}
 use Rattle.std.specs.Option.{option_or}
 use Rattle.toml.specs.Data.{Data, string, integer, float, boolean, datetime, array, table, Items, no_items, item, Members, no_members, member}
 use Rattle.manifest_model.specs.declared.fault.ManifestFault.{ManifestFault}

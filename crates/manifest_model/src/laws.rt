@@ -1,9 +1,9 @@
 //! Laws of manifests: normal names, entries, and one outcome for each text.
-ghost use Rattle.std.specs.Prelude.{◌≡◌, ℕ, List, Result, true, map, take};
-ghost use Rattle.toml.specs.Data.{Members};
+ghost use Rattle.std.specs.Prelude.{◌≡◌, ℕ, List, [], Contains, Some, None, Result, true, map, take};
+ghost use Rattle.toml.specs.Data.{Members, Items};
 ghost use Rattle.manifest_model.specs.declared.fault.ManifestFault.{ManifestFault};
 ghost use Rattle.manifest_model.specs.declared.entries.Trusted.{Trusted};
-ghost use Rattle.manifest_model.specs.Trusting.{entries_of, named, summed_by};
+ghost use Rattle.manifest_model.specs.Trusting.{entries_of, items_of, items_refusal, named, sum_in, summed_by};
 ghost use Rattle.manifest_model.specs.Listed.{Lists, Listed};
 ghost use Rattle.manifest_model.specs.Names.{normal, normal_parts, is_absolute, are_normal};
 
@@ -23,7 +23,8 @@ pub fn table_has_its_outcome()
 {}
 
 /// Of each name the entries have one, where an item has it: the first item of the name, with the first sum among the
-/// items of it.
+/// items of it. Where no item is refused, that is the sum of each item of the name that has one.
 pub fn entries_are_one_a_name()
-    ensures { (items : List Trusted) (name : List ℕ) → named name (entries_of items) ≡ map (summed_by items) (take 1 (named name items)) }
+    ensures agreed { (place : List ℕ) (items : Items) (one : Trusted) (sum : List ℕ) → items_refusal [] place 0 items ≡ None → Contains (items_of items) one → one.sum ≡ Some sum → sum_in one.name (items_of items) ≡ Some sum }
+    ensures entries { (items : List Trusted) (name : List ℕ) → named name (entries_of items) ≡ map (summed_by items) (take 1 (named name items)) }
 {}

@@ -37,11 +37,11 @@ impl Model for Manifest {
 }
 
 impl Manifest {
-    ghost use Rattle.std.specs.Prelude.{slice_get, IfSome, IfOk, true};
+    ghost use Rattle.std.specs.Prelude.{slice_get, IfOk, Ok, true};
     ghost use Rattle.std.specs.Map.{lookup};
     ghost use Rattle.toml.specs.Parse.{parse_document};
     ghost use Rattle.manifest_model.specs.Names.{normal, is_absolute};
-    ghost use Rattle.manifest_model.specs.Listed.{Seen, ReadsAs, IsTextOf, refusal, lists_of};
+    ghost use Rattle.manifest_model.specs.Listed.{Seen, Listed, ReadsAs, IsTextOf, refusal, lists_of};
     ghost use Rattle.manifest_model.specs.Reading.{IsTaken};
     ghost use Rattle.toml.specs.View.{table_view};
     ghost use Rattle.manifest_model.specs.Summed.{FitSums, with_trusted, summed_items};
@@ -78,7 +78,7 @@ impl Manifest {
         Ok(Manifest::of(table, taken))
     }
 
-    /// Reads a manifest: a TOML text in UTF-8. The first refusal in the order of the profile decides.
+    /// Reads a manifest: a TOML text in UTF-8. The first refusal decides, in the order of docs/FORMAT.md.
     pub fn read(alloc: Global, bytes: &[u8]) -> Result<Manifest, ManifestFault>
         ensures outcome { (result ≡ Err ManifestFault.Memory) ⊎ ReadsAs bytes.now result }
         ensures no_other { (outcome : Result Seen Fault) → ReadsAs bytes.now outcome → (result ≡ Err ManifestFault.Memory) ⊎ (result ≡ outcome) }
@@ -151,7 +151,7 @@ impl Manifest {
     pub fn with_sums(&self, alloc: Global, sums: &[[u8; 32]]) -> Result<Manifest, Memory>
         requires { FitSums self.now.lists.trusted sums.now }
         ensures whole { IfOk result (λ made. made.«table» ≡ with_trusted (summed_items self.now.lists.trusted sums.now) self.now.«table») }
-        ensures lists { IfOk result (λ made. made.lists ≡ lists_of made.«table») }
+        ensures lists { IfOk result (λ made. Listed made.«table» (Ok made.lists)) }
     {
         let table = with_sums_of(alloc, &self.table, self.trusted.as_slice(), sums)?;
         match take(alloc, &table) {
@@ -160,9 +160,10 @@ impl Manifest {
         }
     }
 
-    /// A TOML text of the manifest's table.
+    /// A TOML text of the manifest's table, which is read as this manifest.
     pub fn print(&self, alloc: Global) -> Result<Text, Memory>
-        ensures { IfOk result (λ text. IsTextOf text self.now.«table») }
+        ensures text { IfOk result (λ text. IsTextOf text self.now.«table») }
+        ensures reads { IfOk result (λ text. ReadsAs text (Ok self.now)) }
     {
         match toml::table_to_string(alloc, &self.table) {
             Ok(text) => Ok(Text::from(text)),

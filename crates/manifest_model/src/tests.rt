@@ -282,9 +282,7 @@ fn names_have_normal_forms(rt: HostRuntime) -> Result<(), Fail> {
         ("../a/../..", "../.."),
         ("a/..", "."),
     ] {
-        let Ok(found) = normal_name(alloc, name) else {
-            return Ok(());
-        };
+        let found = normal_name(alloc, name)?;
         assert_eq!(rt; found.as_str(), normal, "{name}");
     }
     Ok(())

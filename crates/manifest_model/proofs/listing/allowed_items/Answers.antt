@@ -1,4 +1,4 @@
-use Rattle.std.proofs.Common.{◌≡◌, ◌∙◌, ◌++◌, ◌∷◌, [], None, sym, ap}
+use Rattle.std.proofs.Common.{◌≡◌, ◌∙◌, None, sym}
 use Rattle.toml.specs.View.{view}
 use Rattle.manifest_model.specs.Places.{place_text, at_item}
 use Rattle.manifest_model.specs.Listed.{allowed_item_refusal}

@@ -1,8 +1,8 @@
-use Rattle.std.proofs.Common.{◌≡◌, ◌∙◌, None, Some, codes, [], sym, ap, refl}
+use Rattle.std.proofs.Common.{◌≡◌, ◌∙◌, None, Some, codes, refl}
 use Rattle.toml.specs.Data.{as_str, as_table, get}
 use Rattle.toml.specs.View.{view}
 use Rattle.manifest_model.specs.Places.{place_text, at_key}
-use Rattle.manifest_model.specs.Fields.{wants, needs, seen_value, text_or}
+use Rattle.manifest_model.specs.Fields.{wants, needs, seen_value}
 use Rattle.manifest_model.specs.Mounting.{mount_refusal, mount_of, path_refusal, source_refusal, type_text}
 use Rattle.manifest_model.proofs.Checking.{fails}
 use Rattle.manifest_model.proofs.Steps.{place_text-Key}

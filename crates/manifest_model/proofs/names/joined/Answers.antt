@@ -1,5 +1,5 @@
-use Rattle.std.proofs.Common.{◌≡◌, ◌∙◌, cond, [], ◌∷◌, ◌++◌, map, List, ℕ, Bor, ap, sym, get_or, drop, take, length, ◌-◌, refl}
-use Rattle.manifest_model.specs.Names.{behind, name_of}
+use Rattle.std.proofs.Common.{◌∙◌, ap, sym}
+use Rattle.manifest_model.specs.Names.{name_of}
 use Rattle.manifest_model.proofs.Naming.{first_and_others, name_of-behind}
 use Rattle.manifest_model.proofs.names.joined.Goals as goal
 

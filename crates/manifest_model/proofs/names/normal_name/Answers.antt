@@ -1,4 +1,4 @@
-use Rattle.std.proofs.Common.{◌≡◌, arith, rules}
+use Rattle.std.proofs.Common.{arith}
 use Rattle.std.proofs.lemmas.Grind.{common_steps}
 use Rattle.manifest_model.specs.Names.{normal}
 use Rattle.manifest_model.proofs.names.normal_name.Goals as goal

@@ -1,4 +1,4 @@
-use Rattle.std.proofs.Common.{◌≡◌, ◌∙◌, [], map, take, reverse, length, ℕ, List, Bor, Ok, sym, ap, arith, rules, lit<, refl}
+use Rattle.std.proofs.Common.{◌≡◌, ◌∙◌, [], map, take, reverse, ℕ, List, Bor, Ok, sym, ap, arith, lit<, refl}
 use Rattle.std.specs.declared.alloc.AllocError.{AllocError}
 use Rattle.std.specs.List.{fold}
 use Rattle.std.proofs.lemmas.List.{take_all, reverse-reverse}

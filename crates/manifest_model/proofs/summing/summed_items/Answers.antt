@@ -1,6 +1,6 @@
-use Rattle.std.proofs.Common.{◌≡◌, ◌∙◌, [], take, ap, sym, arith}
+use Rattle.std.proofs.Common.{◌∙◌, [], take, ap, sym, arith}
 use Rattle.std.proofs.lemmas.List.{take_all}
-use Rattle.toml.specs.View.{items_view, array_view}
+use Rattle.toml.specs.View.{items_view}
 use Rattle.toml.proofs.Views.{items_view-push}
 use Rattle.manifest_model.specs.Summed.{summed_items}
 use Rattle.manifest_model.proofs.SumLists.{same_length, summed_more}

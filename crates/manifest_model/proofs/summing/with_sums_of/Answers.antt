@@ -1,4 +1,4 @@
-use Rattle.std.proofs.Common.{◌≡◌, ◌∙◌, codes, ap, sym}
+use Rattle.std.proofs.Common.{◌≡◌, ◌∙◌, codes, ap}
 use Rattle.std.proofs.lemmas.Result.{IfOk-weaker}
 use Rattle.toml.specs.Data.{array, table}
 use Rattle.toml.specs.View.{view, table_view}

@@ -1,7 +1,7 @@
 use Rattle.std.proofs.Common.{◌≡◌, ◌∙◌, Some, None, sym, ap, string_bytes, length, arith}
 use Rattle.std.proofs.lemmas.Map.Text.{btree_map_updates_text}
 use Rattle.std.specs.BTreeMap.{get_by_text}
-use Rattle.manifest_model.specs.Indexing.{clash, entry_sum, added, place_of}
+use Rattle.manifest_model.specs.Indexing.{clash, entry_sum, place_of}
 use Rattle.manifest_model.proofs.Checking.{refuses}
 use Rattle.manifest_model.proofs.Indexed.{within, sum_at, in_place, no_entry, place_last}
 use Rattle.manifest_model.proofs.trusting.add.Goals as goal

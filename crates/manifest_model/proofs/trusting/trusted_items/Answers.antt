@@ -1,10 +1,9 @@
-use Rattle.std.proofs.Common.{◌≡◌, ◌∙◌, ◌++◌, ◌∷◌, [], List, ℕ, take, None, Some, sym, ap, subst, refl, rules, arith}
-use Rattle.std.proofs.lemmas.Grind.{common_steps}
+use Rattle.std.proofs.Common.{◌≡◌, ◌∙◌, [], List, take, None, sym, ap, refl, rules}
 use Rattle.toml.specs.View.{view, items_view, array_view}
 use Rattle.manifest_model.specs.declared.entries.Trusted.{Trusted}
 use Rattle.manifest_model.specs.Places.{place_text, at_item}
 use Rattle.manifest_model.specs.Trusting.{own_refusal, item_of, items_of, items_refusal, entries_of}
-use Rattle.manifest_model.specs.Indexing.{clash, entry_sum, added}
+use Rattle.manifest_model.specs.Indexing.{clash, entry_sum}
 use Rattle.manifest_model.proofs.Checking.{fails}
 use Rattle.manifest_model.proofs.Entered.{added-entries}
 use Rattle.manifest_model.proofs.Steps.{place_text-Item, items_more, own_refused, sum_refused, items_step}

@@ -1,8 +1,7 @@
-use Rattle.std.proofs.Common.{◌≡◌, ◌∙◌, None, Some, codes, [], sym, ap, refl}
+use Rattle.std.proofs.Common.{◌≡◌, ◌∙◌, None, Some, codes, sym, refl}
 use Rattle.toml.specs.Data.{as_array, get_member}
 use Rattle.toml.specs.View.{table_view, array_view}
-use Rattle.manifest_model.specs.Places.{place_text}
-use Rattle.manifest_model.specs.Fields.{wants, field_in, seen_value}
+use Rattle.manifest_model.specs.Fields.{wants, field_in}
 use Rattle.manifest_model.specs.Trusting.{entries_of}
 use Rattle.manifest_model.specs.Listed.{trusted_refusal, trusted_of}
 use Rattle.manifest_model.proofs.Checking.{form_and_items}

@@ -1,4 +1,4 @@
-use Rattle.std.proofs.Common.{◌≡◌, ◌∙◌, sym, ap, bytes_eq}
+use Rattle.std.proofs.Common.{◌∙◌, ap, bytes_eq}
 use Rattle.std.specs.Map.{lookup}
 use Rattle.toml.specs.View.{table_view}
 use Rattle.manifest_model.proofs.Accepted.{key_found}
