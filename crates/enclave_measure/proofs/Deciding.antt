@@ -238,16 +238,19 @@ page_found (name ∷ offset_word ∷ access_word ∷ kind_word ∷ extent_word �
 
     by_allowed : (name ≡ codes "page") → (offset : ℕ) → IsHex offset_word offset → (p : Permissions) → access_word ≡ permissions_word p → (t : PageType) → kind_word ≡ type_word t
         → (m : Bool) → extent_word ≡ measured_word m → (source : Source) → IsSource source_words source → Sure (IsAllowed offset p t) → Found (ArePageWords words)
-    by_allowed is offset hex p access t kind m extent source from (inl allowed) = inl (record { offset = offset; permissions = p; page_type = t; measured = m; source = source }, record {
-      offset_word = offset_word;
-      access_word = access_word;
-      kind_word = kind_word;
-      extent_word = extent_word;
-      source_words = source_words;
-      form = ap (λ (w : List ℕ). w ∷ offset_word ∷ access_word ∷ kind_word ∷ extent_word ∷ source_words) is;
-      fields = record { offset_is = hex; permissions_is = access; type_is = kind; measured_is = extent; allowed = allowed };
-      source = from;
-    })
+    by_allowed is offset hex p access t kind m extent source from (inl allowed) = inl (
+      record { offset = offset; permissions = p; page_type = t; measured = m; source = source },
+      record {
+        offset_word = offset_word;
+        access_word = access_word;
+        kind_word = kind_word;
+        extent_word = extent_word;
+        source_words = source_words;
+        form = ap (λ (w : List ℕ). w ∷ offset_word ∷ access_word ∷ kind_word ∷ extent_word ∷ source_words) is;
+        fields = record { offset_is = hex; permissions_is = access; type_is = kind; measured_is = extent; allowed = allowed };
+        source = from;
+      },
+    )
     by_allowed is offset hex p access t kind m extent source from (inr never) = inr (λ page form. never (allowed_as offset page.offset p page.permissions t page.page_type
         (hex_one offset_word offset page.offset hex (offset_of page form)) (permissions_one p page.permissions (sym access ∙ access_of page form)) (type_one t page.page_type (sym kind ∙ kind_of page form)) form.fields.allowed))
 

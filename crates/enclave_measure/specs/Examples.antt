@@ -1,5 +1,6 @@
--- A layout of two pages, small enough to compute.
-use Rattle.std.specs.Prelude.{◌≡◌, ℕ, true, false, List, [], ◌∷◌, ◌++◌, length, take, drop, Ok, Err, codes}
+-- A layout of two pages, and the reads of two files, small enough to compute.
+use Rattle.std.specs.Prelude.{◌≡◌, ℕ, true, false, List, [], ◌∷◌, ◌++◌, length, take, drop, Some, None, Ok, Err, codes}
+use Rattle.pf_io.specs.Host.{LengthWas, Gave}
 use Rattle.enclave_measure.specs.declared.page.PageType.TheVariants as types
 use Rattle.enclave_measure.specs.declared.page.Source.TheVariants as sources
 use Rattle.enclave_measure.specs.declared.page.Page.{Page}
@@ -7,6 +8,7 @@ use Rattle.enclave_measure.specs.declared.fault.LayoutFault.TheVariants as fault
 use Rattle.enclave_measure.specs.Pages.{PAGE, Listed}
 use Rattle.enclave_measure.specs.Layouts.{ReadsTo}
 use Rattle.enclave_measure.specs.Records.{zeros, measured_bytes}
+use Rattle.enclave_measure.specs.Measuring.{reads_after}
 
 abbrev pub line : List ℕ → List ℕ
 line text = text ++ 10 ∷ []
@@ -45,3 +47,10 @@ pub record TwoPagesMeasured : Type 0 where
   pub first_extension : take 16 (drop 128 two_measured) ≡ codes "EEXTEND" ++ zeros 1 ++ zeros 8
   pub last_extension : take 16 (drop 4928 two_measured) ≡ codes "EEXTEND" ++ zeros 1 ++ 0 ∷ 15 ∷ zeros 6
   pub second_addition : take 24 (drop 5248 two_measured) ≡ codes "EADD" ++ zeros 4 ++ 0 ∷ 16 ∷ zeros 6 ++ 0 ∷ 1 ∷ zeros 6
+
+-- A file that is there is read once, also where the read fails; one that is absent is not read.
+pub record ReadsCounted : Type 0 where
+  pub both_there : reads_after 7 (LengthWas (codes "a") (Some 3) ∷ Gave (codes "a") 0 PAGE (codes "abc") ∷ LengthWas (codes "b") (Some 0) ∷ Gave (codes "b") 9 PAGE [] ∷ []) ≡ 9
+  pub second_absent : reads_after 7 (LengthWas (codes "a") (Some 3) ∷ Gave (codes "a") 0 PAGE (codes "abc") ∷ LengthWas (codes "b") None ∷ []) ≡ 8
+  pub read_failed : reads_after 7 (LengthWas (codes "a") (Some 3) ∷ []) ≡ 8
+  pub nothing_asked : reads_after 7 [] ≡ 7
