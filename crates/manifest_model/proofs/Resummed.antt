@@ -1,9 +1,7 @@
 -- A table with sums: nothing of it is refused, and its entries are those of the table with these sums.
-use Rattle.std.proofs.Common.{◌≡◌, ◌∙◌, ℕ, zero, suc, ◌+◌, ◌<◌, Bool, true, false, cond, codes, All, List, [], ◌∷◌, ◌++◌, length, map, filter, Option, Some, None, option_map, IsSome, bytes_eq, Result, Ok, Err, refl, sym, ap, subst, arith}
-use Rattle.std.specs.Prelude.{is_some, ⊤, IfSome}
+use Rattle.std.proofs.Common.{◌≡◌, ◌∙◌, ℕ, zero, suc, ◌+◌, Bool, true, false, cond, codes, All, List, [], ◌∷◌, ◌++◌, map, filter, Option, Some, None, option_map, IsSome, bytes_eq, Result, Ok, refl, sym, ap, arith}
+use Rattle.std.specs.Prelude.{is_some, ⊤}
 use Rattle.std.specs.Option.{option_or}
-use Rattle.std.specs.Cmp.Lexicographic.{slice_cmp}
-use Rattle.std.specs.Ordering.{nat_cmp}
 use Rattle.std.proofs.lemmas.Bool.{false≢true}
 use Rattle.std.proofs.lemmas.List.{append_assoc, append-nil}
 use Rattle.std.proofs.lemmas.Map.Text.{is_eq-slice_cmp}
@@ -20,11 +18,11 @@ use Rattle.manifest_model.specs.Names.{normal, file_name}
 use Rattle.manifest_model.specs.Places.{at_key, at_item, first_of}
 use Rattle.manifest_model.specs.Fields.{wants, needs, text_or, or_else, ok, bytes_of, items_in, members_in}
 use Rattle.manifest_model.specs.Walk.{walk, walk_items, walk_members, walk_table}
-use Rattle.manifest_model.specs.Trusting.{item_form, uri_field, uri_text, file_refusal, sum_refusal, differ, sum_in, two_sums, own_refusal, item_refusal, items_refusal, item_of, items_of, is_other, firsts, summed_by, entries_of}
+use Rattle.manifest_model.specs.Trusting.{item_form, uri_field, uri_text, file_refusal, sum_refusal, differ, two_sums, own_refusal, item_refusal, items_refusal, item_of, items_of, is_other, firsts, summed_by, entries_of}
 use Rattle.manifest_model.specs.Indexing.{added, place_of}
 use Rattle.manifest_model.specs.Listed.{sgx, fs, Lists, policy_named, known_policy, allowed_items_refusal, allowed_uris, refusal, lists_of, policy_refusal, policy_of, trusted_refusal, trusted_of, allowed_refusal, allowed_of, mounting_refusal, mounting_of, keying_refusal, keying_of, Listed, Accepted}
 use Rattle.manifest_model.specs.Summed.{FitSums, IsSum, with_sums, summed_item, summed_items, replaced, where_there, with_trusted}
-use Rattle.manifest_model.proofs.Indexed.{Told, Yes, No, same_name, bytes_eq_comm, no_entry}
+use Rattle.manifest_model.proofs.Indexed.{Yes, No, same_name, bytes_eq_comm, no_entry}
 use Rattle.manifest_model.proofs.Entered.{has, sum_in-none, added-entries}
 use Rattle.manifest_model.proofs.Accepted.{both_none, compared, passed}
 
