@@ -80,6 +80,9 @@ mutual
 pub record Passed (ms : Members) : Type 0 where
   pub walked : walk_table ms ≡ None
   pub fs_form : wants as_table (codes "fs") (get_member (codes "fs") ms) ≡ None
+  pub policy : policy_refusal (sgx ms) ≡ None
+  pub trusted : trusted_refusal (sgx ms) ≡ None
+  pub allowed : allowed_refusal (sgx ms) ≡ None
   pub mounting : mounting_refusal (fs ms) ≡ None
   pub keying : keying_refusal (fs ms) ≡ None
 
@@ -94,7 +97,7 @@ passed ms e =
     let (allowed, e6) = both_none (allowed_refusal (sgx ms)) _ e5 in
     let (mounting, e7) = both_none (mounting_refusal (fs ms)) _ e6 in
     let (keying, e8) = both_none (keying_refusal (fs ms)) None e7 in
-    record { walked = walked; fs_form = fs_form; mounting = mounting; keying = keying }
+    record { walked = walked; fs_form = fs_form; policy = policy; trusted = trusted; allowed = allowed; mounting = mounting; keying = keying }
 
 pub depth_of : (ms : Members) → refusal ms ≡ None → members_depth ms ≤ 80
 depth_of ms e = omega (arith, members-depth 1 [] ms (passed ms e).walked (omega arith))
@@ -170,7 +173,7 @@ digits_there place name d e =
 key_of : List ℕ → Members → Option (List ℕ)
 key_of name ms = option_and_then (λ d. option_and_then (bytes_of 16) (as_str d)) (get_member name ms)
 
-compared : (name key : List ℕ) (o : Option Data) (d : Data) → match_ordering (slice_cmp nat_cmp name key) o (Some d) o ≡ cond (bytes_eq name key) (Some d) o
+pub compared : (name key : List ℕ) (o : Option Data) (d : Data) → match_ordering (slice_cmp nat_cmp name key) o (Some d) o ≡ cond (bytes_eq name key) (Some d) o
 compared name key o d = by_order (slice_cmp nat_cmp name key) refl
   where
     by_order : (r : Ordering) → slice_cmp nat_cmp name key ≡ r → match_ordering r o (Some d) o ≡ cond (bytes_eq name key) (Some d) o

@@ -8,3 +8,4 @@ pub mod Accepted
 pub mod Agreed
 pub mod Deciding
 pub mod SumLists
+pub mod Resummed

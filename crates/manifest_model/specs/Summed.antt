@@ -1,6 +1,6 @@
 -- A table with the sums of its trusted files.
-use Rattle.std.specs.Prelude.{◌≡◌, ℕ, if◌then◌else◌, List, [], ◌∷◌, codes, Option, Some, None, IfSome, ⊤}
-use Rattle.hex.specs.Hex.{encode_lower}
+use Rattle.std.specs.Prelude.{◌≡◌, ℕ, if◌then◌else◌, List, [], ◌∷◌, codes, Option, Some, None, IfSome, ⊤, length}
+use Rattle.hex.specs.Hex.{IsBytes, encode_lower}
 use Rattle.toml.specs.Data.{Data, string, array, table, Items, no_items, item, Members, no_members, member, same_key, get_member}
 use Rattle.manifest_model.specs.declared.entries.Trusted.{Trusted}
 use Rattle.manifest_model.specs.Listed.{sgx}
@@ -11,6 +11,16 @@ FitSums [] [] = ⊤
 FitSums [] (sum ∷ sums) = ⊥
 FitSums (t ∷ ts) [] = ⊥
 FitSums (t ∷ ts) (sum ∷ sums) = IfSome t.sum (λ listed. listed ≡ sum) × FitSums ts sums
+
+-- a SHA-256: 32 bytes
+abbrev pub IsSum : List ℕ → Type 0
+IsSum sum = (length sum ≡ 32) × IsBytes sum
+
+-- the entries with their sums
+abbrev pub with_sums : List Trusted → List (List ℕ) → List Trusted
+with_sums [] sums = []
+with_sums (t ∷ ts) [] = []
+with_sums (t ∷ ts) (sum ∷ sums) = record t { sum = Some sum } ∷ with_sums ts sums
 
 -- a table of exactly a uri and a sum, in lower case
 abbrev pub summed_item : List ℕ → List ℕ → Data

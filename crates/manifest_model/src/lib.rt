@@ -19,6 +19,8 @@ mod walk;
 
 pub use entries::{Mount, MountKind, Policy, Trusted};
 pub use fault::ManifestFault;
-pub use laws::{entries_are_one_a_name, name_is_normal, table_has_its_outcome};
+pub use laws::{
+    entries_are_one_a_name, name_is_normal, table_has_its_outcome, tables_with_sums_list_the_same,
+};
 pub use manifest::Manifest;
 pub use names::normal_name;
