@@ -179,7 +179,14 @@ impl Tree {
             return Ok(0);
         }
         let numbers = touched(at, at + count as u64);
-        fetch_all(&mut self.nodes, &self.root, host, name, &numbers, self.alloc)?;
+        fetch_all(
+            &mut self.nodes,
+            &self.root,
+            host,
+            name,
+            &numbers,
+            self.alloc,
+        )?;
         copy_out(&self.first, &self.nodes, at, &mut to[..count]);
         Ok(count)
     }

@@ -1,4 +1,4 @@
-use Rattle.std.proofs.Common.{ℕ, [], ◌∷◌, length, refl, ◌∙◌, sym, subst, Err}
+use Rattle.std.proofs.Common.{[], ◌∷◌, length, refl, ◌∙◌, sym, subst, Err}
 use Rattle.std.specs.BTreeMap.{get}
 use Rattle.std.specs.Ordering.{nat_cmp}
 use Rattle.std.proofs.lemmas.Result.{err_from_is_err_and}
