@@ -251,8 +251,8 @@ module _ (name : Name) (at : ℕ) (from : List ℕ) (inside : Inside) (old : Tre
 
             plain_cut : IsCutAt (node_count size) (plain_at q) (plain_at e)
             plain_cut = record {
-              below = λ k lt. ap (λ (o : Option HeldNode). option_map (λ node. node.plain) o) (cut.below k lt);
-              gone = λ k ge. ap (λ (o : Option HeldNode). option_map (λ node. node.plain) o) (cut.gone k ge);
+              below = λ k lt. ap (λ (o : Option HeldNode). option_map (λ node. node.plain.value) o) (cut.below k lt);
+              gone = λ k ge. ap (λ (o : Option HeldNode). option_map (λ node. node.plain.value) o) (cut.gone k ge);
             }
 
             dirty_after : (k : ℕ) → Contains (marked e.entries) k ↔ ((Contains (marked inside.nodes.entries) k ⊎ IsTouched at (at + length from) k) × (k < node_count size))

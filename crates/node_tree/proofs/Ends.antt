@@ -22,10 +22,10 @@ use Rattle.node_tree.proofs.Asking.{counts_none}
 use Rattle.node_tree.proofs.Coming.{fetched_none}
 use Rattle.node_tree.proofs.Order.{place_of, stands_before, same_rising}
 
-mapped : (test : ℕ → Bool) (es : List (ℕ × HeldNode)) → option_map (λ (n : HeldNode). n.plain) (lookup test es) ≡ lookup test (plains es)
+mapped : (test : ℕ → Bool) (es : List (ℕ × HeldNode)) → option_map (λ (n : HeldNode). n.plain.value) (lookup test es) ≡ lookup test (plains es)
 mapped test [] = refl
 mapped test (e ∷ es) =
-    elim (test e.0) as (λ b. option_map (λ (n : HeldNode). n.plain) (cond b (Some e.1) (lookup test es)) ≡ cond b (Some e.1.plain) (lookup test (plains es))) [ true ↦ refl | false ↦ mapped test es ]
+    elim (test e.0) as (λ b. option_map (λ (n : HeldNode). n.plain.value) (cond b (Some e.1) (lookup test es)) ≡ cond b (Some e.1.plain.value) (lookup test (plains es))) [ true ↦ refl | false ↦ mapped test es ]
 
 -- what nodes keep is what a state holds
 pub same_held : (nodes : BTreeMap ℕ HeldNode) → plain_at nodes ≡ (λ k. lookup (is_at (nat_cmp k)) (plains nodes.entries))

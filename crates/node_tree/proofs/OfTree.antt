@@ -109,7 +109,7 @@ damage_comes (Err (faults.Damaged damage)) name at buffer old new before after r
 damage_comes (Err faults.Host) name at buffer old new before after reads = tt
 damage_comes (Err faults.Memory) name at buffer old new before after reads = tt
 
-some_plain : (o : Option HeldNode) → is_some o ≡ is_some (option_map (λ (n : HeldNode). n.plain) o)
+some_plain : (o : Option HeldNode) → is_some o ≡ is_some (option_map (λ (n : HeldNode). n.plain.value) o)
 some_plain (Some node) = refl
 some_plain None = refl
 

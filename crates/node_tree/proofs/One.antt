@@ -41,13 +41,13 @@ missing_there : (f : ℕ → Option (List ℕ)) (k : ℕ) → ¬ (IsAt (At f) k)
 missing_there f k missing = ap (λ (o : Option (List ℕ)). cond (is_none o) (k ∷ []) []) (nowhere (f k) (λ plain is. missing (plain, is)))
 
 -- the calls for a node that is not held, where it fails, and where it is kept
-pub asks_missing : {T : Type 0} (f : ℕ → Option (List ℕ)) (k : ℕ) → ¬ (IsAt (At f) k) → (fault : TreeFault) (old new : HostState) → Asking {T = List ℕ} (Err fault) 1 old new → Asking {T = T} (Err fault) (length (missing_of f (k ∷ []))) old new
+pub asks_missing : {T : Type 0} (f : ℕ → Option (List ℕ)) (k : ℕ) → ¬ (IsAt (At f) k) → (fault : TreeFault) (old new : HostState) → Asking {T = Unit {0}} (Err fault) 1 old new → Asking {T = T} (Err fault) (length (missing_of f (k ∷ []))) old new
 asks_missing {T} f k missing fault old new asking =
     subst (λ (l : List ℕ). Asking {T = T} (Err fault) (length l) old new) (sym (missing_there f k missing)) (asking_err fault 1 old new asking)
 
-pub asks_kept : {T : Type 0} (f : ℕ → Option (List ℕ)) (k : ℕ) → ¬ (IsAt (At f) k) → (plain : List ℕ) (r : Result T TreeFault) (old new : HostState) → Asking {T = List ℕ} (Ok plain) 1 old new → IfErr r (λ fault. fault ≡ faults.Memory)
+pub asks_kept : {T : Type 0} (f : ℕ → Option (List ℕ)) (k : ℕ) → ¬ (IsAt (At f) k) → (r : Result T TreeFault) (old new : HostState) → Asking {T = Unit {0}} (Ok tt) 1 old new → IfErr r (λ fault. fault ≡ faults.Memory)
     → Asking r (length (missing_of f (k ∷ []))) old new
-asks_kept f k missing plain r old new asking memory = subst (λ (l : List ℕ). Asking r (length l) old new) (sym (missing_there f k missing)) (asking_as plain r 1 old new asking (memory_part r memory))
+asks_kept f k missing r old new asking memory = subst (λ (l : List ℕ). Asking r (length l) old new) (sym (missing_there f k missing)) (asking_as tt r 1 old new asking (memory_part r memory))
 
 asks_one : (name : Name) (f : ℕ → Option (List ℕ)) (k : ℕ) (block : List ℕ) → ¬ (IsAt (At f) k) → AsksInTurn name (missing_of f (k ∷ [])) (node_answer name k block)
 asks_one name f k block missing = subst (λ (l : List ℕ). AsksInTurn name l (node_answer name k block)) (sym (missing_there f k missing)) ((block, refl), tt)
@@ -85,10 +85,22 @@ module _ (name : Name) (k : ℕ) (root : Entry) where
     ends = λ i lt. only_one (IsAt (At f)) k i lt there;
   }
 
+  -- there is no memory for it
+  pub fetch_wants : {T : Type 0} (f : ℕ → Option (List ℕ)) (state : HostState) → Fetches {T = T} (Err faults.Memory) name (k ∷ []) f f root state state
+  fetch_wants f state = record {
+    these = [];
+    answered = answered_none state;
+    counted = counts_none state;
+    fetched = fetched_none (At f) (Given name []) root;
+    only = λ j held. inl held;
+    asked = record { done = []; left = missing_of f (k ∷ []); split = refl; asks = tt };
+    ends = λ j block there. absurd (omega (arith, there.1));
+  }
+
   -- it does not open, or the host fails
-  pub fetch_failed : {T : Type 0} (fault : TreeFault) (f : ℕ → Option (List ℕ)) (entry : Entry) (old new : HostState) → HasEntry (At f) root k entry → ¬ (IsAt (At f) k)
-      → CountsRead 4096 old new → NodeEnds (Err fault) name k entry old new → Fetches {T = T} (Err fault) name (k ∷ []) f f root old new
-  fetch_failed (faults.Damaged damage) f entry old new has missing counts ends = record {
+  pub fetch_failed : {T : Type 0} (fault : TreeFault) (plain : List ℕ) (f : ℕ → Option (List ℕ)) (entry : Entry) (old new : HostState) → HasEntry (At f) root k entry → ¬ (IsAt (At f) k)
+      → CountsRead 4096 old new → NodeEnds {T = T} (Err fault) plain name k entry old new → Fetches {T = T} (Err fault) name (k ∷ []) f f root old new
+  fetch_failed (faults.Damaged damage) plain f entry old new has missing counts ends = record {
     these = node_answer name k ends.block;
     answered = ends.answered;
     counted = counts_one old new counts;
@@ -103,7 +115,7 @@ module _ (name : Name) (k : ℕ) (root : Entry) where
       fails = subst (λ (n : ℕ). Fails (At f) (Given name (node_answer name k ends.block)) root n damage.kind) (sym ends.node_is) (fails_by (At f) (Given name (node_answer name k ends.block)) root entry k ends.block damage.kind missing has (given_one name k ends.block) ends.fails);
     };
   }
-  fetch_failed faults.Host f entry old new has missing counts ends = record {
+  fetch_failed faults.Host plain f entry old new has missing counts ends = record {
     these = [];
     answered = ends;
     counted = counts_one old new counts;
@@ -112,7 +124,7 @@ module _ (name : Name) (k : ℕ) (root : Entry) where
     asked = asks_before name f k missing;
     ends = λ j block there. absurd (omega (arith, there.1));
   }
-  fetch_failed faults.Memory f entry old new has missing counts ends = absurd ends
+  fetch_failed faults.Memory plain f entry old new has missing counts ends = absurd ends
 
   -- it opens, and is kept where there is memory
   module _ (f f' : ℕ → Option (List ℕ)) (entry : Entry) (plain : List ℕ) (old new : HostState) (has : HasEntry (At f) root k entry) (missing : ¬ (IsAt (At f) k)) (counts : CountsRead 4096 old new) (opens : NodeOpens name k entry old new plain) where

@@ -76,12 +76,12 @@ pub record NodeFails (name : Name) (k : ℕ) (entry : Entry) (old new : HostStat
   pub node_is : damage.node ≡ k
   pub fails : BlockFails entry block damage.kind
 
--- how the opening of node k ends
-abbrev pub NodeEnds : Result (List ℕ) TreeFault → Name → ℕ → Entry → HostState → HostState → Type 0
-NodeEnds (Ok plain) name k entry old new = NodeOpens name k entry old new plain
-NodeEnds (Err (faults.Damaged damage)) name k entry old new = NodeFails name k entry old new damage
-NodeEnds (Err faults.Host) name k entry old new = Answered [] old new
-NodeEnds (Err faults.Memory) name k entry old new = ⊥
+-- how the opening of node k ends, with this plain text
+abbrev pub NodeEnds : {T : Type 0} → Result T TreeFault → List ℕ → Name → ℕ → Entry → HostState → HostState → Type 0
+NodeEnds (Ok value) plain name k entry old new = NodeOpens name k entry old new plain
+NodeEnds (Err (faults.Damaged damage)) plain name k entry old new = NodeFails name k entry old new damage
+NodeEnds (Err faults.Host) plain name k entry old new = Answered [] old new
+NodeEnds (Err faults.Memory) plain name k entry old new = ⊥
 
 -- What is held afterwards was held before, or opens from given blocks; and nothing that was held is let go.
 pub record Fetched (held held_now given : AtNodes) (root : Entry) : Type 0 where

@@ -9,7 +9,7 @@ use Rattle.node_tree.specs.declared.tree.Tree.TheInside.{Inside}
 
 -- the numbers and plain texts of some nodes
 abbrev pub plains : List (ℕ × HeldNode) → List (ℕ × List ℕ)
-plains nodes = map (λ node. (node.0, node.1.plain)) nodes
+plains nodes = map (λ node. (node.0, node.1.plain.value)) nodes
 
 abbrev pub state_of : Inside → TreeState
 state_of tree = record {

@@ -8,7 +8,7 @@ use Rattle.node_tree.specs.declared.nodes.HeldNode.{HeldNode}
 
 -- the plain text that is kept of node k
 abbrev pub plain_at : BTreeMap ℕ HeldNode → ℕ → Option (List ℕ)
-plain_at nodes k = option_map (λ node. node.plain) (get nat_cmp nodes k)
+plain_at nodes k = option_map (λ node. node.plain.value) (get nat_cmp nodes k)
 
 abbrev pub Keeps : BTreeMap ℕ HeldNode → AtNodes
 Keeps nodes k plain = plain_at nodes k ≡ Some plain

@@ -9,7 +9,8 @@ ghost use Rattle.node_tree.specs.Marks.{KeepsMarks, marked_at};
 ghost use Rattle.node_tree.specs.Zeroing.{IsZeroed, IsCountBelow, MayZero, IsCutAt};
 
 use crate::fault::TreeFault;
-use crate::nodes::{HeldNode, keep};
+use crate::nodes::{HeldNode, blank, keep};
+use std::alloc::Global;
 use std::collections::BTreeMap;
 
 // How many of some numbers, which rise, are below a bound.
@@ -28,6 +29,7 @@ pub(crate) fn count_below(numbers: &[u64], bound: u64) -> usize
 pub(crate) fn add_zeroed(
     nodes: &mut BTreeMap<u64, HeldNode>,
     numbers: &[u64],
+    alloc: Global,
 ) -> Result<(), TreeFault>
     requires clean { (k : ℕ) → Contains numbers.now k → marked_at nodes.old k ≡ false }
     ensures zeroed { OnOk result (IsZeroed (length numbers.now) numbers.now (plain_at nodes.old) (plain_at nodes.new)) }
@@ -36,7 +38,8 @@ pub(crate) fn add_zeroed(
     ensures memory { IfErr result (λ fault. fault ≡ TreeFault.Memory) }
 {
     for number in numbers {
-        keep(nodes, *number, [0; 4096])?;
+        let block = blank(alloc)?;
+        keep(nodes, *number, block)?;
     }
     Ok(())
 }

@@ -25,7 +25,7 @@ fn held(nodes: &BTreeMap<u64, HeldNode>, number: u64) -> [u8; 4096]
     ensures { plain_at nodes.now number ≡ Some result }
 {
     match nodes.get(&number) {
-        Some(node) => node.plain,
+        Some(node) => *node.plain,
         None => unreachable!(),
     }
 }

@@ -96,8 +96,15 @@ impl Tree {
     {
         let numbers = touched(at, at + from.len() as u64);
         let live = count_below(&numbers, node_count(self.size));
-        fetch_all(&mut self.nodes, &self.root, host, name, &numbers[..live])?;
-        add_zeroed(&mut self.nodes, &numbers[live..])?;
+        fetch_all(
+            &mut self.nodes,
+            &self.root,
+            host,
+            name,
+            &numbers[..live],
+            self.alloc,
+        )?;
+        add_zeroed(&mut self.nodes, &numbers[live..], self.alloc)?;
         mark(&mut self.nodes, &numbers);
         put_bytes_at(&mut self.first, &mut self.nodes, at, from);
         self.size = size;

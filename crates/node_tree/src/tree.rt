@@ -33,6 +33,7 @@ pub struct Tree {
     pub(crate) root: ([u8; 16], [u8; 16]),
     pub(crate) base: u64,
     pub(crate) nodes: BTreeMap<u64, HeldNode>,
+    pub(crate) alloc: Global,
 }
 
 impl Model for Tree {
@@ -61,6 +62,7 @@ impl Tree {
             root: ([0; 16], [0; 16]),
             base: 1,
             nodes: BTreeMap::new(alloc),
+            alloc,
         })
     }
 
@@ -77,6 +79,7 @@ impl Tree {
             root: (meta.root_key, meta.root_tag),
             base: node_count(meta.size),
             nodes: BTreeMap::new(alloc),
+            alloc,
         })
     }
 
@@ -176,7 +179,14 @@ impl Tree {
             return Ok(0);
         }
         let numbers = touched(at, at + count as u64);
-        fetch_all(&mut self.nodes, &self.root, host, name, &numbers)?;
+        fetch_all(
+            &mut self.nodes,
+            &self.root,
+            host,
+            name,
+            &numbers,
+            self.alloc,
+        )?;
         copy_out(&self.first, &self.nodes, at, &mut to[..count]);
         Ok(count)
     }

@@ -1,4 +1,4 @@
-use Rattle.std.proofs.Common.{◌≡◌, ◌∙◌, false, slice_index}
+use Rattle.std.proofs.Common.{◌≡◌, ◌∙◌, ℕ, List, Some, false, slice_index, replicate, cond, eqb, subst}
 use Rattle.std.proofs.lemmas.List.Elements.{Contains-get_or}
 use Rattle.node_tree.specs.Nodes.{plain_at}
 use Rattle.node_tree.specs.Marks.{marked_at}
@@ -15,9 +15,11 @@ loop-number-preserved c =
     let i = c.loop-number.number-index in
     let number = slice_index c.args.numbers.now i in
     let clean : marked_at c.loop-number.nodes number ≡ false = so_far.marks.same number ∙ c.requires.clean number (Contains-get_or c.args.numbers.now i 0 c.loop-number-test.true) in
+    let zeros : (k : ℕ) → plain_at c.keep.new.nodes k ≡ cond (eqb k number) (Some (replicate 4096 0)) (plain_at c.loop-number.nodes k) =
+    subst (λ (l : List ℕ). (k : ℕ) → plain_at c.keep.new.nodes k ≡ cond (eqb k number) (Some l) (plain_at c.loop-number.nodes k)) c.in_ok-block.ensures.zeros c.in_ok-keep.ensures.ok in
     record {
-      zeroed = zeroed_more c.args.numbers.now i (plain_at c.args.nodes.now) (plain_at c.loop-number.nodes) (plain_at c.keep.new.nodes) c.loop-number-test.true so_far.zeroed c.in_ok-keep.ensures.ok;
-      may = may_more c.args.numbers.now i (plain_at c.args.nodes.now) (plain_at c.loop-number.nodes) (plain_at c.keep.new.nodes) c.loop-number-test.true so_far.may c.in_ok-keep.ensures.ok;
+      zeroed = zeroed_more c.args.numbers.now i (plain_at c.args.nodes.now) (plain_at c.loop-number.nodes) (plain_at c.keep.new.nodes) c.loop-number-test.true so_far.zeroed zeros;
+      may = may_more c.args.numbers.now i (plain_at c.args.nodes.now) (plain_at c.loop-number.nodes) (plain_at c.keep.new.nodes) c.loop-number-test.true so_far.may zeros;
       marks = keeps_marks_then c.args.nodes.now c.loop-number.nodes c.keep.new.nodes so_far.marks (c.keep.ensures.marks clean);
     }
 

@@ -6,4 +6,4 @@ use Rattle.node_tree.proofs.putting.put_piece.Goals as goal
 
 pub returns-clause-whole : goal.returns-clause-whole
 returns-clause-whole c = λ plain there.
-    ap (λ (l : List ℕ). length l) (same_Some plain c.in-Some.node.now.plain (sym there ∙ ap (λ (o : Option HeldNode). option_map (λ n. n.plain) o) (sym c.in-Some.ensures.value))) ∙ c.put_bytes.ensures.whole
+    ap (λ (l : List ℕ). length l) (same_Some plain c.in-Some.node.now.plain.value (sym there ∙ ap (λ (o : Option HeldNode). option_map (λ n. n.plain.value) o) (sym c.in-Some.ensures.value))) ∙ ap (λ (l : List ℕ). length l) (sym c.deref_mut.ensures.value) ∙ c.put_bytes.ensures.whole
