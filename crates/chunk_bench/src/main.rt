@@ -11,8 +11,8 @@ mod tests;
 
 use files::{hash_file, read_file};
 use pf_io::DiskHost;
-use std::io::{self, ErrorKind};
 use std::env;
+use std::io::{self, ErrorKind};
 
 const USAGE: &str = "usage: chunk_bench hash NAME | read NAME SUM";
 

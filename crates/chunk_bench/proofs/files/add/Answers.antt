@@ -1,4 +1,4 @@
-use Rattle.std.proofs.Common.{◌≡◌, ◌≤◌, ◌+◌, ◌*◌, ap, refl, sym, ◌∙◌, arith, take_all, get_or, take}
+use Rattle.std.proofs.Common.{◌+◌, ap, refl, sym, ◌∙◌, arith, take_all, get_or}
 use Rattle.std.specs.List.{sum}
 use Rattle.std.proofs.lemmas.List.Sums.{fold_more}
 use Rattle.chunk_bench.proofs.files.add.Goals as goal

@@ -1,11 +1,11 @@
-use Rattle.std.proofs.Common.{rules, ◌≡◌, ◌+◌, ◌*◌, ◌≤◌, ℕ, Option, Some, Err, length, refl, subst, ◌∙◌, arith}
+use Rattle.std.proofs.Common.{rules, ◌≡◌, ◌+◌, ◌*◌, ◌≤◌, ℕ, Option, length, refl, subst, ◌∙◌, arith}
 use Rattle.std.proofs.lemmas.Result.{err_from_is_err_and}
 use Rattle.pf_io.specs.Counts.{Rose}
 use Rattle.pf_io.specs.Host.{OnHonest, length_of}
 use Rattle.pf_io.proofs.Unchanged.{kept_once, kept_then}
-use Rattle.trusted_chunks.specs.Chunks.{CHUNK, chunk_count}
-use Rattle.chunk_bench.proofs.Counting.{neither_counts, one_slice, more_slices}
-use Rattle.chunk_bench.proofs.Hashing.{hashed_none, hashed_more, hashed_all, hashed_absent, counts_file, slices_are}
+use Rattle.trusted_chunks.specs.Chunks.{CHUNK}
+use Rattle.chunk_bench.proofs.Counting.{one_slice, more_slices}
+use Rattle.chunk_bench.proofs.Hashing.{hashed_none, hashed_more, hashed_all, counts_file, slices_are}
 use Rattle.chunk_bench.proofs.files.hash_file.Goals as goal
 
 pub returns-in_err-len-clause-disk : goal.returns-in_err-len-clause-disk
