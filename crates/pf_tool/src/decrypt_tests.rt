@@ -7,7 +7,8 @@ use cmac_kdf::metadata_key;
 use node_layout::{
     MetaSecret, PathText, data_place, node_count, parent_of, seal_meta, set_entry, slot_of,
 };
-use pf_io::{ListWords, MemHost, MemSink};
+use pf_fakes::{Answer, ScriptHost};
+use pf_io::{Bytes, ListWords, MemHost, MemSink};
 use std::alloc::{AllocError, Global};
 use std::process::Abort;
 use std::test::Fail;
@@ -181,6 +182,44 @@ fn a_file_that_ends_early_is_damaged_at_its_end(rt: HostRuntime) -> Result<(), F
         let outcome = ran(alloc, &mut host, DECRYPT)?;
         expect_front(&rt, &outcome, 1, log.as_bytes(), count);
     }
+    Ok(())
+}
+
+// A host that answers as one with this file, but of one node gives these bytes.
+fn host_answering(
+    alloc: Global,
+    file: &[u8],
+    node: usize,
+    bytes: &[u8],
+) -> Result<ScriptHost, Fail> {
+    let mut host = ScriptHost::new(alloc);
+    host.answer(Answer::Len(Some(16)))?;
+    host.answer(Answer::Given(Bytes::copy(alloc, &USER)?))?;
+    host.answer(Answer::Len(Some(file.len() as u64)))?;
+    for (number, block) in file.chunks(4096).enumerate() {
+        let given = if number == node { bytes } else { block };
+        host.answer(Answer::Given(Bytes::copy(alloc, given)?))?;
+    }
+    Ok(host)
+}
+
+#[test]
+fn a_changed_answer_is_damaged(rt: HostRuntime) -> Result<(), Fail> {
+    let alloc = rt.alloc();
+    let file = file_of(&rt, alloc, 7168)?;
+    let mut flipped = [0; 4096];
+    if let Some(block) = file.get(8192..12_288) {
+        flipped.copy_from_slice(block);
+    }
+    let mut same = host_answering(alloc, &file, 2, &flipped)?;
+    expect_front(&rt, &ran(alloc, &mut same, DECRYPT)?, 0, b"", 7168);
+    flipped[7] ^= 1;
+    let mut changed = host_answering(alloc, &file, 2, &flipped)?;
+    let outcome = ran(alloc, &mut changed, DECRYPT)?;
+    expect_front(&rt, &outcome, 1, b"damaged node 2 tag\n", 0);
+    let mut short = host_answering(alloc, &file, 1, flipped.get(..4095).unwrap_or(&[]))?;
+    let outcome = ran(alloc, &mut short, DECRYPT)?;
+    expect_front(&rt, &outcome, 1, b"damaged node 1 short\n", 0);
     Ok(())
 }
 

@@ -1,5 +1,7 @@
+ghost use Rattle.std.specs.Prelude.{None};
+
 use crate::tests::{Outcome, USER, expect, ran, ran_with};
-use pf_io::{Host, ListWords, MemHost, MemSink, Tear};
+use pf_io::{Host, ListWords, MemHost, MemSink, Tear, Words, WordsFault};
 use std::alloc::Global;
 use std::process::Abort;
 use std::test::Fail;
@@ -146,6 +148,47 @@ fn want_of_random_words_and_failing_calls_are_faults(rt: HostRuntime) -> Result<
         let failed = ran_drawing(alloc, &mut host, ENCRYPT, 4)?;
         expect(&rt, &failed, 4, b"", b"host fault\n", "call");
         expect_file(&rt, &host, "a.pf", None);
+    }
+    Ok(())
+}
+
+// Random words of which one does not come, and those behind it would.
+#[derive(Drop)]
+struct FailsOnce {
+    at: u64,
+    calls: u64,
+    faults: u64,
+}
+
+impl Words for FailsOnce {
+    ghost state = { λ words. record { faults = words.faults; left = None } };
+
+    fn next16(&mut self) -> Result<[u8; 16], WordsFault> {
+        let call = self.calls;
+        self.calls = call.saturating_add(1);
+        if call == self.at {
+            self.faults = self.faults.saturating_add(1);
+            return Err(WordsFault);
+        }
+        Ok([7; 16])
+    }
+}
+
+#[test]
+fn nothing_is_asked_after_a_word_that_failed(rt: HostRuntime) -> Result<(), Fail> {
+    let alloc = rt.alloc();
+    // The key takes two calls, and IN's length one. Behind the second word the side file takes three, and IN one.
+    for (at, calls) in [(0, 3), (1, 3), (2, 7), (3, 7)] {
+        let mut host = host_with(alloc, b"after")?;
+        host.stop_at(calls);
+        let mut random = FailsOnce {
+            at,
+            calls: 0,
+            faults: 0,
+        };
+        let failed = ran_with(alloc, &mut host, ENCRYPT, MemSink::new(alloc), &mut random)?;
+        expect(&rt, &failed, 6, b"", b"random fault\n", "word");
+        assert_eq!(rt; random.calls, at + 1);
     }
     Ok(())
 }

@@ -1,6 +1,6 @@
 use crate::run::run;
 use node_layout::{MetaSecret, PathText, seal_meta};
-use pf_io::{Bytes, ListWords, MemHost, MemSink, MemSource, Memory};
+use pf_io::{Bytes, Host, ListWords, MemHost, MemSink, MemSource, Memory, Words};
 use std::alloc::{AllocError, Global};
 use std::process::Abort;
 use std::test::Fail;
@@ -24,12 +24,12 @@ fn words_of(alloc: Global, line: &str) -> Result<Vec<String>, AllocError> {
 }
 
 // Runs a line of words with this output and these random words.
-pub(crate) fn ran_with(
+pub(crate) fn ran_with<H: Host, R: Words>(
     alloc: Global,
-    host: &mut MemHost,
+    host: &mut H,
     line: &str,
     output: MemSink,
-    random: &mut ListWords,
+    random: &mut R,
 ) -> Result<Outcome, AllocError> {
     let words = words_of(alloc, line)?;
     let mut input = MemSource::new(Bytes::from(Vec::new(alloc)));
@@ -40,7 +40,7 @@ pub(crate) fn ran_with(
 }
 
 // Runs a line of words without random words.
-pub(crate) fn ran(alloc: Global, host: &mut MemHost, line: &str) -> Result<Outcome, AllocError> {
+pub(crate) fn ran<H: Host>(alloc: Global, host: &mut H, line: &str) -> Result<Outcome, AllocError> {
     let mut random = ListWords::new(alloc);
     ran_with(alloc, host, line, MemSink::new(alloc), &mut random)
 }
