@@ -23,8 +23,8 @@ const SLICE: usize = 16_384;
 // How many bytes of a trusted file are read at once.
 const PIECE: usize = 32_768;
 
-/// The SHA-256 sum of a file, which is taken in slices; `None` where it is absent. An honest host is asked for each
-/// slice once.
+/// The SHA-256 sum of a file, which is taken in slices; `None` where it is absent. An honest host is asked for no
+/// more slices than the file has chunks.
 pub fn hash_file<H: Host>(host: &mut H, name: &str) -> Result<Option<[u8; 32]>, HostFault>
     ensures cause { HasCause (H.state host.old).faults (H.state host.new).faults result }
     ensures disk { KeepsDisk (H.state host.old) (H.state host.new) }
