@@ -152,9 +152,10 @@ impl Tree {
     /// Reads the content from the byte at `at` on, as far as `to`, of at most 32,768 bytes, and the content reach, and
     /// answers how many bytes.
     ///
-    /// The touched nodes that are not held are fetched from the host's file `name` in rising number, opened, and held from
-    /// then on, also where the read fails at a later one. `Damaged` names the first that is short or does not open under
-    /// its entry. `Host` comes where a call of the host failed, and `Memory` is want of memory. The content stays.
+    /// The touched nodes that are not held are fetched from the host's file `name` in rising number and opened. At `Ok`
+    /// all of them are held; where the read fails at a later one, they may be. `Damaged` names the first that is short or
+    /// does not open under its entry. `Host` comes where a call of the host failed, and `Memory` is want of memory. The
+    /// content stays.
     pub fn read<H: Host>(
         &mut self,
         host: &mut H,
