@@ -118,7 +118,7 @@ def test_after_any_error_status_0_means_that_it_is_made():
                     raise AssertionError(f"nothing was made by {about}")
                 if os.path.exists("out.pf") and got("out.pf") != old:
                     holds(b"content")
-                if call == "fsync":
+                if call in ("fsync", "pwrite64"):
                     same(ran.status, 4, about)
 
 
