@@ -22,7 +22,7 @@ fn has_magic(node: &[u8; 4096]) -> bool
     ensures { IsTrue result ↔ (take 8 node.now ≡ magic) }
 {
     match MetaPlain::read(node) {
-        Err(PlainFault::Refused(Why::NotProtected)) => false,
+        Err(PlainFault::NotProtected) => false,
         Err(PlainFault::BadVersion { .. }) => true,
         Ok(_) => true,
     }
