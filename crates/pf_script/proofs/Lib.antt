@@ -1,0 +1,4 @@
+pub mod Wording
+pub mod Answering
+pub mod Commands
+pub mod OneReading
