@@ -1,3 +1,5 @@
 pub mod Words
 pub mod ScriptLines
 pub mod Reading
+pub mod Lines
+pub mod LineReading
