@@ -10,6 +10,7 @@ mod encrypt_tests;
 mod fault;
 mod key;
 mod pieces;
+mod plain_file;
 mod run;
 mod side_file;
 #[cfg(test)]
