@@ -9,12 +9,14 @@ mod encrypt;
 mod encrypt_tests;
 mod fault;
 mod key;
+mod lines;
 mod pieces;
 mod plain_file;
 mod run;
 mod side_file;
 #[cfg(test)]
 mod tests;
+mod why;
 mod words;
 
 use pf_io::{Bytes, DeviceWords, DiskHost, MemSource, StdSink};
