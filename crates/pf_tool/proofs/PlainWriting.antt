@@ -5,7 +5,7 @@ use Rattle.std.specs.List.{AllByRecursion}
 use Rattle.std.proofs.lemmas.List.{append-nil}
 use Rattle.std.proofs.lemmas.List.Elements.{Contains-append_right}
 use Rattle.std.proofs.lemmas.List.Sums.{fold-append}
-use Rattle.pf_io.specs.Counts.{counted, Rose}
+use Rattle.pf_io.specs.Counts.{counted}
 use Rattle.pf_io.specs.Disk.{Name, File, Files, Disk, Image, IsImage}
 use Rattle.pf_io.specs.Host.{Answer, LengthWas, Gave, Wrote, WasCut, Synced, Made, Swapped, Removed, HostState, Both, IsMore, OnDisk, files_of}
 use Rattle.pf_io.specs.Answered.{IsAnswerOf}
@@ -158,11 +158,11 @@ writes_then : (these : List Answer) (old new : HostState) → (after these old n
 writes_then [] old new = refl
 writes_then (a ∷ these) old new = refl
 
-last_failed : (output : Name) (answered : List Answer) (failed : Answer) (old new : HostState) → IsStep output failed → Both old.given new.given (IsMore answered) → Rose old.faults new.faults
+last_failed : (output : Name) (answered : List Answer) (failed : Answer) (old new : HostState) → IsStep output failed → Both old.given new.given (IsMore answered) → new.faults ≡ counted old.faults
     → CountsSteps (answered ++ failed ∷ []) old new → HostFailed failed (after answered old new) new
-last_failed output answered failed old new step told rose counts = record {
+last_failed output answered failed old new step told once counts = record {
   told = told_after answered old new told;
-  rose = subst (λ (n : ℕ). Rose n new.faults) (sym (faults_after answered old new)) rose;
+  once = subst (λ (n : ℕ). new.faults ≡ counted n) (sym (faults_after answered old new)) once;
   reads = counts.reads ∙ sym (reads_then answered old new) ∙ sym (steps_reads output (failed ∷ []) (after answered old new).reads (step, tt));
   writes = counts.writes ∙ fold-append counts_step old.writes answered (failed ∷ []) ∙ ap (λ (n : ℕ). fold counts_step n (failed ∷ [])) (sym (writes_then answered old new)) ∙ sym (steps_writes (failed ∷ []) (after answered old new).writes);
 }
@@ -280,9 +280,9 @@ module _ (output : Name) (bytes : List ℕ) where
       }
 
   -- a step failed
-  pub failed_whole : (world : World) (old new : HostState) (fault : Fault) → fault ≡ faults.Host → FailedFile output Side bytes old new → Rose old.faults new.faults
+  pub failed_whole : (world : World) (old new : HostState) (fault : Fault) → fault ≡ faults.Host → FailedFile output Side bytes old new → new.faults ≡ counted old.faults
       → Falls (WritesWhole output bytes) (LeavesWhole output bytes) fault (with_host world old) (with_host world new)
-  failed_whole world old new fault is stopped rose =
+  failed_whole world old new fault is stopped once =
       let answered = stopped.answered in
       let failed = stopped.failed in
       let all = all_split (IsStep output) answered (failed ∷ stopped.left) (subst (λ (l : List Answer). AllByRecursion (IsStep output) l) stopped.steps.in_order (all_steps output bytes)) in
@@ -292,7 +292,7 @@ module _ (output : Name) (bytes : List ℕ) where
       passed_host (map Answers answered) world old mid (no_words answered) (no_pieces answered) (subst (λ (l : List Answer). HostPassed l old mid) (sym (answers_of answered)) passed) in
       let order : map Answers answered ++ Answers failed ∷ map Answers stopped.left ≡ written_events output bytes = sym (map_append answered (failed ∷ stopped.left)) ∙ ap (map Answers) (sym stopped.steps.in_order) in
       host_fails (WritesWhole output bytes) (LeavesWhole output bytes) (map Answers answered) (map Answers stopped.left) Done fault (with_host world old) (with_host world mid) (with_host world new) failed is
-      (record { are = order; done = refl }) asked (failed_host failed world mid new (last_failed output answered failed old new all.1.0 stopped.steps.told rose stopped.steps.counts))
+      (record { are = order; done = refl }) asked (failed_host failed world mid new (last_failed output answered failed old new all.1.0 stopped.steps.told once stopped.steps.counts))
       (failed_left old new answered failed all.1.0 (made_first output bytes answered failed stopped.left stopped.steps.in_order) stopped.before_the_swap stopped.at_most_swapped)
 
   -- there was no memory for the side file's name

@@ -18,7 +18,7 @@ returns-in_err-write_by_side_file g c =
     let s1 = g.H.Host.state c.write_by_side_file.new.host in
     let side : c.as_str.result.now ≡ side_of output = c.as_str.ensures ∙ c.in_ok-side.ensures in
     let failed : FailedFile output (side_of output) c.args.bytes.now s0 s1 = subst (λ (n : List ℕ). FailedFile output n c.args.bytes.now s0 s1) side c.in_err-write_by_side_file.ensures.failed in
-    λ world. rw p.1 (failed_whole output c.args.bytes.now world s0 s1 p.0 p.2 failed c.in_err-write_by_side_file.ensures.cause.rose)
+    λ world. rw p.1 (failed_whole output c.args.bytes.now world s0 s1 p.0 p.2 failed c.in_err-write_by_side_file.ensures.cause.once)
 
 pub returns : goal.returns
 returns g c world =
