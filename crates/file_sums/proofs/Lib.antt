@@ -1,0 +1,4 @@
+mod Slicing
+mod Taken
+mod Summed
+mod Collected

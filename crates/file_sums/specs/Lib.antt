@@ -1,0 +1,5 @@
+pub mod Slices
+pub mod Summing
+pub mod Taking
+pub mod Collecting
+pub mod Lines
