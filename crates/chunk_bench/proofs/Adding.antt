@@ -14,7 +14,7 @@ use Rattle.pf_io.proofs.Unchanged.{kept_none, kept_then}
 use Rattle.trusted_chunks.specs.Chunks.{CHUNK, chunk_count}
 use Rattle.trusted_chunks.specs.State.{FileState, Holds, Kept}
 use Rattle.trusted_chunks.specs.Kept.{touched, span, missing_of, kept_at}
-use Rattle.trusted_chunks.specs.Slices.{CountsSlices}
+use Rattle.pf_io.specs.Slices.{CountsSlices}
 use Rattle.pf_io.specs.Counts.{HasCause}
 use Rattle.trusted_chunks.specs.Opening.{OpensFile, HonestOpen, host_part as open_part}
 use Rattle.trusted_chunks.specs.declared.fault.TrustFault.{TrustFault}

@@ -2,7 +2,7 @@
 use Rattle.std.proofs.Common.{◌≡◌, ℕ, ◌+◌, ◌≤◌, refl, ◌∙◌, arith}
 use Rattle.pf_io.specs.Host.{HostState, CountsRead, CountsNeither}
 use Rattle.trusted_chunks.specs.Chunks.{CHUNK}
-use Rattle.trusted_chunks.specs.Slices.{CountsSlices}
+use Rattle.pf_io.specs.Slices.{CountsSlices}
 
 pub no_slice : (state : HostState) → CountsSlices 0 state state
 no_slice state = record { reads = omega arith; writes = refl; widest = omega arith }

@@ -12,7 +12,7 @@ use Rattle.pf_io.specs.Unchanged.{KeepsDisk}
 use Rattle.pf_io.proofs.Answering.{both_honest, read_whole}
 use Rattle.pf_io.proofs.Unchanged.{kept_once, kept_then}
 use Rattle.trusted_chunks.specs.Chunks.{CHUNK, chunk_count}
-use Rattle.trusted_chunks.specs.Slices.{CountsSlices}
+use Rattle.pf_io.specs.Slices.{CountsSlices}
 use Rattle.chunk_bench.proofs.Counting.{neither_counts, one_slice, more_slices, counts_within}
 
 -- of an honest host, what holds of all files

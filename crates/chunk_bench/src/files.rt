@@ -7,7 +7,7 @@ ghost use Rattle.pf_io.specs.Host.{OnHonest, contents};
 ghost use Rattle.pf_io.specs.Unchanged.{KeepsDisk};
 ghost use Rattle.trusted_chunks.specs.Chunks.{chunk_count};
 ghost use Rattle.trusted_chunks.specs.Reading.{host_part as read_part};
-ghost use Rattle.trusted_chunks.specs.Slices.{CountsSlices};
+ghost use Rattle.pf_io.specs.Slices.{CountsSlices};
 ghost use Rattle.trusted_chunks.specs.State.{Holds};
 ghost use Rattle.chunk_bench.specs.Files.{host_part, Adds, ReadsFile};
 

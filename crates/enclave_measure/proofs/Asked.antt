@@ -2,7 +2,7 @@
 use Rattle.std.proofs.Common.{◌≡◌, ◌∙◌, ℕ, suc, ◌+◌, ◌*◌, ◌-◌, ◌≤◌, Bool, true, false, if◌then◌else◌, List, [], ◌++◌, length, take, drop, refl, sym, ap, arith, subst, Ok, Err}
 use Rattle.std.proofs.lemmas.List.{take-append-drop, length-take-le, length-replicate, drop-replicate, append_assoc, append-nil}
 use Rattle.std.proofs.lemmas.List.Sums.{fold-append}
-use Rattle.pf_io.specs.Counts.{Rose, counted}
+use Rattle.pf_io.specs.Counts.{counted}
 use Rattle.pf_io.specs.Moments.{Does}
 use Rattle.pf_io.specs.Steps.{Stays}
 use Rattle.pf_io.specs.Host.{Answer, HostState, CountsNeither, CountsRead, OnDisk, KeepsRest}
@@ -20,27 +20,27 @@ use Rattle.enclave_measure.specs.Hashing.{Asking, SourceCame, SourceEnded, PageH
 
 -- no call
 pub asking_none : {T : Type 0} (value : T) (state : HostState) → Asking (Ok value) state state
-asking_none value state = record { cause = record { later = omega arith; still = refl; rose = tt }; disk = kept_none state }
+asking_none value state = record { cause = record { later = omega arith; still = refl; once = tt }; disk = kept_none state }
 
 -- a first call failed
-pub asking_failed : {T : Type 0} (old new : HostState) → old.faults ≤ new.faults → Rose old.faults new.faults → OnDisk old new (Does Stays) → Asking {T = T} (Err faults.Host) old new
-asking_failed old new later rose disk = record { cause = record { later = later; still = tt; rose = rose }; disk = kept_once old new disk }
+pub asking_failed : {T : Type 0} (old new : HostState) → old.faults ≤ new.faults → new.faults ≡ counted old.faults → OnDisk old new (Does Stays) → Asking {T = T} (Err faults.Host) old new
+asking_failed old new later once disk = record { cause = record { later = later; still = tt; once = once }; disk = kept_once old new disk }
 
 -- a second one
-pub asking_failed_next : {T : Type 0} (old mid new : HostState) → mid.faults ≡ old.faults → OnDisk old mid (Does Stays) → mid.faults ≤ new.faults → Rose mid.faults new.faults → OnDisk mid new (Does Stays) → Asking {T = T} (Err faults.Host) old new
-asking_failed_next old mid new still first later rose second = record {
-  cause = record { later = omega (arith, still, later); still = tt; rose = subst (λ n. Rose n new.faults) still rose };
+pub asking_failed_next : {T : Type 0} (old mid new : HostState) → mid.faults ≡ old.faults → OnDisk old mid (Does Stays) → mid.faults ≤ new.faults → new.faults ≡ counted mid.faults → OnDisk mid new (Does Stays) → Asking {T = T} (Err faults.Host) old new
+asking_failed_next old mid new still first later once second = record {
+  cause = record { later = omega (arith, still, later); still = tt; once = subst (λ n. new.faults ≡ counted n) still once };
   disk = kept_then old mid new (kept_once old mid first) (kept_once mid new second);
 }
 
 -- the file is absent
 pub asking_absent : {T : Type 0} (place : ℕ) (old new : HostState) → new.faults ≡ old.faults → OnDisk old new (Does Stays) → Asking {T = T} (Err (faults.NotFound place)) old new
-asking_absent place old new still disk = record { cause = record { later = omega (arith, still); still = still; rose = tt }; disk = kept_once old new disk }
+asking_absent place old new still disk = record { cause = record { later = omega (arith, still); still = still; once = tt }; disk = kept_once old new disk }
 
 -- the bytes came
 pub asking_both : {T : Type 0} (value : T) (old mid new : HostState) → mid.faults ≡ old.faults → OnDisk old mid (Does Stays) → new.faults ≡ mid.faults → OnDisk mid new (Does Stays) → Asking (Ok value) old new
 asking_both value old mid new still first still' second = record {
-  cause = record { later = omega (arith, still, still'); still = still' ∙ still; rose = tt };
+  cause = record { later = omega (arith, still, still'); still = still' ∙ still; once = tt };
   disk = kept_then old mid new (kept_once old mid first) (kept_once mid new second);
 }
 

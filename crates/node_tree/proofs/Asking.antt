@@ -1,6 +1,6 @@
 -- Calls of a host that only read.
 use Rattle.std.proofs.Common.{◌≡◌, ℕ, zero, suc, ◌+◌, ◌≤◌, refl, ap, ◌∙◌, sym, arith, subst, Result, Ok, Err, IfErr}
-use Rattle.pf_io.specs.Counts.{Rose, HasCause, counted}
+use Rattle.pf_io.specs.Counts.{HasCause, counted}
 use Rattle.pf_io.specs.Moments.{Does}
 use Rattle.pf_io.specs.Steps.{Stays}
 use Rattle.pf_io.specs.Host.{HostState, Both, CountsRead}
@@ -10,7 +10,7 @@ use Rattle.node_tree.specs.declared.fault.TreeFault.{TreeFault}
 use Rattle.node_tree.specs.declared.fault.TreeFault.TheVariants as faults
 
 still_cause : (a b : ℕ) (r : Result (Unit {0}) (Unit {0})) → r ≡ Ok tt → b ≡ a → HasCause a b r
-still_cause a b r is same = subst (λ (x : Result (Unit {0}) (Unit {0})). HasCause a b x) (sym is) (record { later = omega (arith, same); still = same; rose = tt })
+still_cause a b r is same = subst (λ (x : Result (Unit {0}) (Unit {0})). HasCause a b x) (sym is) (record { later = omega (arith, same); still = same; once = tt })
 
 -- no call
 pub asking_none : {T : Type 0} (value : T) (n : ℕ) (state : HostState) → Asking (Ok value) n state state
@@ -57,8 +57,8 @@ pub asking_once : {T : Type 0} (r : Result T TreeFault) (old new : HostState) �
 asking_once r old new is same counts does = record { cause = still_cause old.faults new.faults (host_part r) is same; counts = counts_once old new counts; disk = kept_once old new does }
 
 -- one that failed
-pub asking_failed : {T : Type 0} (old new : HostState) → old.faults ≤ new.faults → Rose old.faults new.faults → CountsRead 4096 old new → Both old.honest new.honest (Does Stays) → Asking {T = T} (Err faults.Host) 1 old new
-asking_failed old new later rose counts does = record { cause = record { later = later; still = tt; rose = rose }; counts = counts_once old new counts; disk = kept_once old new does }
+pub asking_failed : {T : Type 0} (old new : HostState) → old.faults ≤ new.faults → new.faults ≡ counted old.faults → CountsRead 4096 old new → Both old.honest new.honest (Does Stays) → Asking {T = T} (Err faults.Host) 1 old new
+asking_failed old new later once counts does = record { cause = record { later = later; still = tt; once = once }; counts = counts_once old new counts; disk = kept_once old new does }
 
 -- calls after others that were answered
 pub asking_then : {T U : Type 0} (value : T) (r : Result U TreeFault) (m n most : ℕ) (old mid new : HostState) → Asking (Ok value) m old mid → Asking r n mid new → m + n ≤ most → Asking r most old new

@@ -4,6 +4,7 @@ pub mod Loans
 pub mod Runs
 pub mod Images
 pub mod Unchanged
+pub mod Slices
 mod SideFiles
 mod SideEnds
 mod Exemplified

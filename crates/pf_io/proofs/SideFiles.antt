@@ -4,7 +4,7 @@ use Rattle.std.proofs.lemmas.List.{append-nil, take_all, drop_all, take_min, len
 use Rattle.std.proofs.lemmas.Grind.{div_ceil_times}
 use Rattle.std.proofs.lemmas.List.Sums.{fold-append}
 use Rattle.std.proofs.Math.Seq.{take-add}
-use Rattle.pf_io.specs.Counts.{HasCause, Rose}
+use Rattle.pf_io.specs.Counts.{HasCause, counted}
 use Rattle.pf_io.specs.Disk.{Name, File, Disk, Image, IsImageAt}
 use Rattle.pf_io.specs.Moments.{Honest, Does, Ran}
 use Rattle.pf_io.specs.Steps.{KeepsOthers, Changes, Writes, overwrite}
@@ -246,5 +246,5 @@ failed_with (Err e) X err holds = holds
 failed_with (Ok x) X err holds = absurd (cc)
 
 pub failed_cause : {T E F : Type 0} (r : Result T E) (e : F) (before mid now : ℕ) → IsErr r → mid ≡ before → HasCause {T = T} mid now (Err e) → HasCause before now r
-failed_cause (Err x) e before mid now err same cause = record { later = omega (arith, same, cause.later); still = tt; rose = subst (λ (n : ℕ). Rose n now) same cause.rose }
+failed_cause (Err x) e before mid now err same cause = record { later = omega (arith, same, cause.later); still = tt; once = subst (λ (n : ℕ). now ≡ counted n) same cause.once }
 failed_cause (Ok x) e before mid now err same cause = absurd (cc)

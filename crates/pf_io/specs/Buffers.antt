@@ -1,6 +1,6 @@
 -- Streams and words in memory.
 use Rattle.std.specs.Prelude.{◌≡◌, ◌⊎◌, ◌↔◌, ℕ, List, Option, Some, Result, OnErr, OnOk, IsErr}
-use Rattle.pf_io.specs.Counts.{counted, CountsFault}
+use Rattle.pf_io.specs.Counts.{counted}
 use Rattle.pf_io.specs.Streams.{SourceState, SinkState}
 use Rattle.pf_io.specs.Words.{WordsState}
 
@@ -19,7 +19,6 @@ source_of state = record { faults = state.faults; taken = state.taken; left = So
 pub record IsRead {T E : Type 0} (result : Result T E) (old new : MemSourceState) : Type 0 where
   pub calls : new.calls ≡ counted old.calls
   pub failing : new.failing ≡ old.failing
-  pub faults : CountsFault old.faults new.faults result
   pub fails : IsErr result ↔ (old.failing ≡ Some old.calls)
 
 -- a sink in memory: the bytes that it has taken, and how many calls found no memory
@@ -37,7 +36,6 @@ sink_of state = record { faults = state.faults; bytes = Some state.bytes }
 pub record IsWrite {T E : Type 0} (result : Result T E) (old new : MemSinkState) : Type 0 where
   pub calls : new.calls ≡ counted old.calls
   pub failing : new.failing ≡ old.failing
-  pub faults : CountsFault old.faults new.faults result
   pub fails : old.failing ≡ Some old.calls → IsErr result × (new.starved ≡ old.starved)
   pub starves : OnErr result ((old.failing ≡ Some old.calls) ⊎ (new.starved ≡ counted old.starved))
   pub no_fault : OnOk result (new.starved ≡ old.starved)

@@ -8,6 +8,7 @@ pub mod Steps
 pub mod Host
 pub mod Answered
 pub mod Unchanged
+pub mod Slices
 pub mod Replay
 pub mod Streams
 pub mod Words

@@ -1,6 +1,6 @@
 -- A host in memory: its events, its counts, and the calls that are to fault.
 use Rattle.std.specs.Prelude.{◌≡◌, ◌⊎◌, ℕ, ◌≤◌, min, List, [], ◌∷◌, ◌++◌, Contains, Option, Some, None, option_map, Result, OnErr, OnOk, IsErr, IsSomeAnd}
-use Rattle.pf_io.specs.Counts.{counted, CountsFault}
+use Rattle.pf_io.specs.Counts.{counted}
 use Rattle.pf_io.specs.Disk.{Name, Disk, IsSettledFile, File, reading, IsCrashOf}
 use Rattle.pf_io.specs.Steps.{KeepsOthers}
 use Rattle.pf_io.specs.Host.{HostState}
@@ -86,7 +86,6 @@ pub record IsCall {T E : Type 0} (result : Result T E) (old new : MemState) : Ty
   pub calls : new.calls ≡ counted old.calls
   pub failing : new.failing ≡ old.failing
   pub stop : new.stop ≡ old.stop
-  pub faults : CountsFault old.faults new.faults result
   pub fails : IsToFail old → IsErr result × (new.starved ≡ old.starved)
   pub starves : OnErr result (IsToFail old ⊎ (new.starved ≡ counted old.starved))
   pub no_fault : OnOk result (new.starved ≡ old.starved)

@@ -1,6 +1,6 @@
 // The system's random device as random words.
 ghost use Rattle.std.specs.Prelude.{◌≡◌, OnOk};
-ghost use Rattle.pf_io.specs.Counts.{HasCause, CountsFault};
+ghost use Rattle.pf_io.specs.Counts.{HasCause};
 ghost use Rattle.pf_io.specs.Words.{TakesWord};
 ghost use Rattle.pf_io.specs.Std.{DeviceState, device_words_of};
 
@@ -84,7 +84,6 @@ impl<R: Files<File = File> + Drop> Words for DeviceWords<R> {
     fn next16(&mut self) -> Result<[u8; 16], WordsFault>
         ensures cause { HasCause self.old.faults self.new.faults result }
         ensures left { TakesWord result (device_words_of self.old).left (device_words_of self.new).left }
-        ensures fault { CountsFault self.old.faults self.new.faults result }
     {
         match self.draw() {
             Ok(word) => Ok(word),

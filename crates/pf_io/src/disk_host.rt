@@ -1,6 +1,6 @@
 // Real files as a host.
 ghost use Rattle.std.specs.Prelude.{◌≡◌, ◌≤◌, length, drop, IfOk, OnOk};
-ghost use Rattle.pf_io.specs.Counts.{HasCause, CountsFault};
+ghost use Rattle.pf_io.specs.Counts.{HasCause};
 ghost use Rattle.pf_io.specs.Host.{KeepsRest, CountsRead, CountsWrite, CountsNeither};
 ghost use Rattle.pf_io.specs.Std.{DiskState, host_of};
 
@@ -63,7 +63,6 @@ impl<R: Files<File = File> + AllocGlobal + Drop> DiskHost<R> {
 // An error is a counted fault.
 fn count_fault<T>(faults: &mut u64, outcome: io::Result<T>) -> Result<T, HostFault>
     ensures cause { HasCause faults.old faults.new result }
-    ensures fault { CountsFault faults.old faults.new result }
     ensures value { IfOk result (λ value. outcome ≡ Ok value) }
 {
     match outcome {
@@ -124,7 +123,7 @@ fn fill(file: &File, at: u64, to: &mut [u8]) -> io::Result<usize>
     ensures { IfOk result (λ n. KeepsRest n to.old to.new) }
 {
     let mut filled = 0;
-    for _ in 0..u64::MAX {
+    while filled < to.len() {
         let n = read_some(file, at.saturating_add(filled as u64), &mut to[filled..])?;
         if n == 0 {
             break;
@@ -159,7 +158,6 @@ impl<R: Files<File = File> + AllocGlobal + Drop> Host for DiskHost<R> {
 
     fn len(&mut self, name: &str) -> Result<Option<u64>, HostFault>
         ensures cause { HasCause self.old.faults self.new.faults result }
-        ensures fault { CountsFault self.old.faults self.new.faults result }
         ensures counts { CountsNeither (host_of self.old) (host_of self.new) }
     {
         let outcome = file_len(&self.system, &mut self.handles, name);
@@ -169,7 +167,6 @@ impl<R: Files<File = File> + AllocGlobal + Drop> Host for DiskHost<R> {
     fn read_at(&mut self, name: &str, at: u64, to: &mut [u8]) -> Result<usize, HostFault>
         ensures rest { IfOk result (λ n. KeepsRest n to.old to.new) }
         ensures cause { HasCause self.old.faults self.new.faults result }
-        ensures fault { CountsFault self.old.faults self.new.faults result }
         ensures counts { CountsRead (length to.old) (host_of self.old) (host_of self.new) }
     {
         raise(&mut self.reads);
@@ -180,7 +177,6 @@ impl<R: Files<File = File> + AllocGlobal + Drop> Host for DiskHost<R> {
 
     fn write_at(&mut self, name: &str, at: u64, from: &[u8]) -> Result<(), HostFault>
         ensures cause { HasCause self.old.faults self.new.faults result }
-        ensures fault { CountsFault self.old.faults self.new.faults result }
         ensures counts { CountsWrite (length from.now) (host_of self.old) (host_of self.new) }
     {
         raise(&mut self.writes);
@@ -191,7 +187,6 @@ impl<R: Files<File = File> + AllocGlobal + Drop> Host for DiskHost<R> {
 
     fn cut(&mut self, name: &str, len: u64) -> Result<(), HostFault>
         ensures cause { HasCause self.old.faults self.new.faults result }
-        ensures fault { CountsFault self.old.faults self.new.faults result }
         ensures counts { CountsNeither (host_of self.old) (host_of self.new) }
     {
         let outcome = cut_file(&self.system, &mut self.handles, name, len);
@@ -200,7 +195,6 @@ impl<R: Files<File = File> + AllocGlobal + Drop> Host for DiskHost<R> {
 
     fn sync(&mut self, name: &str) -> Result<(), HostFault>
         ensures cause { HasCause self.old.faults self.new.faults result }
-        ensures fault { CountsFault self.old.faults self.new.faults result }
         ensures counts { CountsNeither (host_of self.old) (host_of self.new) }
     {
         let outcome = sync_file(&self.system, &mut self.handles, name);
@@ -209,7 +203,6 @@ impl<R: Files<File = File> + AllocGlobal + Drop> Host for DiskHost<R> {
 
     fn make(&mut self, name: &str) -> Result<(), HostFault>
         ensures cause { HasCause self.old.faults self.new.faults result }
-        ensures fault { CountsFault self.old.faults self.new.faults result }
         ensures counts { CountsNeither (host_of self.old) (host_of self.new) }
     {
         let alloc = self.system.alloc();
@@ -219,7 +212,6 @@ impl<R: Files<File = File> + AllocGlobal + Drop> Host for DiskHost<R> {
 
     fn swap_name(&mut self, from: &str, to: &str) -> Result<(), HostFault>
         ensures cause { HasCause self.old.faults self.new.faults result }
-        ensures fault { CountsFault self.old.faults self.new.faults result }
         ensures counts { CountsNeither (host_of self.old) (host_of self.new) }
     {
         let alloc = self.system.alloc();
@@ -229,7 +221,6 @@ impl<R: Files<File = File> + AllocGlobal + Drop> Host for DiskHost<R> {
 
     fn remove(&mut self, name: &str) -> Result<(), HostFault>
         ensures cause { HasCause self.old.faults self.new.faults result }
-        ensures fault { CountsFault self.old.faults self.new.faults result }
         ensures counts { CountsNeither (host_of self.old) (host_of self.new) }
     {
         let outcome = remove_file(&self.system, &mut self.handles, name);

@@ -10,7 +10,7 @@ use crate::HostFault;
 /// Named files. Nothing is promised of what a host answers, except where it is honest: then it tells its disk, the disk
 /// before each call so far, and what a crash at any of these moments may leave.
 ///
-/// A fault comes only where the count of faults rose in the call. At `Ok` the count is as before, so no fault was passed
+/// A fault is counted once, in the call that answers it. At `Ok` the count is as before, so no fault was passed
 /// over.
 ///
 /// A call of an honest host that faults may have done all, a part or nothing of its work. A call on an absent name

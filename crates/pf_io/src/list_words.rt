@@ -1,6 +1,6 @@
 // Words from a list.
 ghost use Rattle.std.specs.Prelude.{◌≡◌, ◌++◌, ◌∷◌, [], ◌↔◌, OnOk, OnErr, IsErr, Some};
-ghost use Rattle.pf_io.specs.Counts.{HasCause, CountsFault};
+ghost use Rattle.pf_io.specs.Counts.{HasCause};
 ghost use Rattle.pf_io.specs.Words.{TakesWord};
 ghost use Rattle.pf_io.specs.Buffers.{ListWordsState, words_of};
 
@@ -57,7 +57,6 @@ impl Words for ListWords {
         ensures cause { HasCause self.old.faults self.new.faults result }
         ensures left { TakesWord result (Some self.old.left) (Some self.new.left) }
         ensures ended { IsErr result ↔ (self.old.left ≡ []) }
-        ensures fault { CountsFault self.old.faults self.new.faults result }
     {
         if self.place < self.words.len() {
             let word = self.words[self.place];

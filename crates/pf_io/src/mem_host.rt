@@ -142,7 +142,6 @@ fn count_starved<T>(
     outcome: Result<T, AllocError>,
 ) -> Result<T, HostFault>
     ensures cause { HasCause faults.old faults.new result }
-    ensures fault { CountsFault faults.old faults.new result }
     ensures starves { CountsFault starved.old starved.new result }
     ensures value { IfOk result (λ value. outcome ≡ Ok value) }
     ensures error { OnErr result (outcome ≡ Err alloc_error) }

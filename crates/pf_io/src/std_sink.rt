@@ -1,7 +1,7 @@
 // A writer of std as a sink.
 ghost use Rattle.std.specs.Prelude.{◌≡◌, OnOk, OnErr, None};
 ghost use Rattle.std.specs.Io.KnownBytes.{Appends};
-ghost use Rattle.pf_io.specs.Counts.{HasCause, CountsFault};
+ghost use Rattle.pf_io.specs.Counts.{HasCause};
 ghost use Rattle.pf_io.specs.Streams.{Takes};
 ghost use Rattle.pf_io.specs.Std.{StdSinkState, sink_of};
 
@@ -51,7 +51,6 @@ impl<W: Write + Drop> Sink for StdSink<W> {
         ensures cause { HasCause self.old.faults self.new.faults result }
         ensures taken { Takes result from.now None None }
         ensures written { OnOk result (Appends self.old.contents self.new.contents from.now) }
-        ensures fault { CountsFault self.old.faults self.new.faults result }
     {
         match write_out(&mut self.writer, from) {
             Ok(()) => Ok(()),

@@ -1,7 +1,7 @@
 // A reader of std as a source.
 ghost use Rattle.std.specs.Prelude.{◌≡◌, ◌<◌, length, take, IfOk, None};
 ghost use Rattle.std.specs.Io.KnownBytes.{Consumes, IsAtEnd};
-ghost use Rattle.pf_io.specs.Counts.{HasCause, CountsFault};
+ghost use Rattle.pf_io.specs.Counts.{HasCause};
 ghost use Rattle.pf_io.specs.Host.{KeepsRest};
 ghost use Rattle.pf_io.specs.Streams.{CountsTaken, Gives};
 ghost use Rattle.pf_io.specs.Std.{StdSourceState, source_of};
@@ -71,7 +71,6 @@ impl<R: Read + Drop> Source for StdSource<R> {
         ensures cause { HasCause self.old.faults self.new.faults result }
         ensures taken { CountsTaken result self.old.taken self.new.taken }
         ensures left { Gives result to.new None None }
-        ensures fault { CountsFault self.old.faults self.new.faults result }
         ensures known { IfOk result (λ n. Consumes self.old.remaining self.new.remaining (take n to.new)) }
         ensures end { IfOk result (λ n. n ≡ 0 → 0 < length to.old → IsAtEnd self.new.remaining) }
     {

@@ -2,7 +2,7 @@
 use Rattle.std.proofs.Common.{◌≡◌, ℕ, List, [], ◌∷◌, length, take, subst, sym, Option, Some, None, IfSome}
 use Rattle.std.proofs.lemmas.List.{append-nil}
 use Rattle.std.proofs.lemmas.Option.{IfSome_then}
-use Rattle.pf_io.specs.Counts.{Rose}
+use Rattle.pf_io.specs.Counts.{counted}
 use Rattle.pf_io.specs.Disk.{Name, Files}
 use Rattle.pf_io.specs.Host.{LengthWas, Gave, Wrote, Synced, Made, Swapped, HostState, Both, IsMore, OnHonest, CountsRead, CountsWrite, CountsNeither, ReadsFrom, KeepsRest, files_of, length_of, contents}
 use Rattle.pf_io.specs.Streams.{SinkState, TakesFront}
@@ -29,8 +29,8 @@ length_passed name answer old new told calm counts honest = record {
   honest = IfSome_then (files_of old) honest (λ f is. (is, tt));
 }
 
-pub length_failed : (name : Name) (answer : Option ℕ) (old new : HostState) → new.given ≡ old.given → Rose old.faults new.faults → CountsNeither old new → HostFailed (LengthWas name answer) old new
-length_failed name answer old new told rose counts = record { told = told; rose = rose; reads = counts.reads; writes = counts.writes }
+pub length_failed : (name : Name) (answer : Option ℕ) (old new : HostState) → new.given ≡ old.given → new.faults ≡ counted old.faults → CountsNeither old new → HostFailed (LengthWas name answer) old new
+length_failed name answer old new told once counts = record { told = told; once = once; reads = counts.reads; writes = counts.writes }
 
 pub read_passed : (name : Name) (at n room : ℕ) (before buffer : List ℕ) (old new : HostState) → KeepsRest n before buffer → length before ≡ room
     → Both old.given new.given (IsMore (Gave name at (length before) (take n buffer) ∷ [])) → new.faults ≡ old.faults → CountsRead (length before) old new
@@ -44,8 +44,8 @@ read_passed name at n room before buffer old new rest long told calm counts hone
   honest = IfSome_then (files_of old) honest (λ f reads. (read_whole at n room before buffer (contents (f name)) rest long reads, tt));
 }
 
-pub read_failed : (name : Name) (at room n : ℕ) (bytes : List ℕ) (old new : HostState) → new.given ≡ old.given → Rose old.faults new.faults → CountsRead n old new → HostFailed (Gave name at room bytes) old new
-read_failed name at room n bytes old new told rose counts = record { told = told; rose = rose; reads = counts.reads; writes = counts.writes }
+pub read_failed : (name : Name) (at room n : ℕ) (bytes : List ℕ) (old new : HostState) → new.given ≡ old.given → new.faults ≡ counted old.faults → CountsRead n old new → HostFailed (Gave name at room bytes) old new
+read_failed name at room n bytes old new told once counts = record { told = told; once = once; reads = counts.reads; writes = counts.writes }
 
 pub write_passed : (name : Name) (at n : ℕ) (bytes : List ℕ) (old new : HostState) → Both old.given new.given (IsMore (Wrote name at bytes ∷ [])) → new.faults ≡ old.faults → CountsWrite n old new
     → HostPassed (Wrote name at bytes ∷ []) old new
@@ -58,8 +58,8 @@ write_passed name at n bytes old new told calm counts = record {
   honest = all_unit _ (files_of old) (λ f. (tt, tt));
 }
 
-pub write_failed : (name : Name) (at n : ℕ) (bytes : List ℕ) (old new : HostState) → new.given ≡ old.given → Rose old.faults new.faults → CountsWrite n old new → HostFailed (Wrote name at bytes) old new
-write_failed name at n bytes old new told rose counts = record { told = told; rose = rose; reads = counts.reads; writes = counts.writes }
+pub write_failed : (name : Name) (at n : ℕ) (bytes : List ℕ) (old new : HostState) → new.given ≡ old.given → new.faults ≡ counted old.faults → CountsWrite n old new → HostFailed (Wrote name at bytes) old new
+write_failed name at n bytes old new told once counts = record { told = told; once = once; reads = counts.reads; writes = counts.writes }
 
 pub sync_passed : (name : Name) (old new : HostState) → Both old.given new.given (IsMore (Synced name ∷ [])) → new.faults ≡ old.faults → CountsNeither old new → HostPassed (Synced name ∷ []) old new
 sync_passed name old new told calm counts = record {
@@ -71,8 +71,8 @@ sync_passed name old new told calm counts = record {
   honest = all_unit _ (files_of old) (λ f. (tt, tt));
 }
 
-pub sync_failed : (name : Name) (old new : HostState) → new.given ≡ old.given → Rose old.faults new.faults → CountsNeither old new → HostFailed (Synced name) old new
-sync_failed name old new told rose counts = record { told = told; rose = rose; reads = counts.reads; writes = counts.writes }
+pub sync_failed : (name : Name) (old new : HostState) → new.given ≡ old.given → new.faults ≡ counted old.faults → CountsNeither old new → HostFailed (Synced name) old new
+sync_failed name old new told once counts = record { told = told; once = once; reads = counts.reads; writes = counts.writes }
 
 pub make_passed : (name : Name) (old new : HostState) → Both old.given new.given (IsMore (Made name ∷ [])) → new.faults ≡ old.faults → CountsNeither old new → HostPassed (Made name ∷ []) old new
 make_passed name old new told calm counts = record {
@@ -84,8 +84,8 @@ make_passed name old new told calm counts = record {
   honest = all_unit _ (files_of old) (λ f. (tt, tt));
 }
 
-pub make_failed : (name : Name) (old new : HostState) → new.given ≡ old.given → Rose old.faults new.faults → CountsNeither old new → HostFailed (Made name) old new
-make_failed name old new told rose counts = record { told = told; rose = rose; reads = counts.reads; writes = counts.writes }
+pub make_failed : (name : Name) (old new : HostState) → new.given ≡ old.given → new.faults ≡ counted old.faults → CountsNeither old new → HostFailed (Made name) old new
+make_failed name old new told once counts = record { told = told; once = once; reads = counts.reads; writes = counts.writes }
 
 pub swap_passed : (from to : Name) (old new : HostState) → Both old.given new.given (IsMore (Swapped from to ∷ [])) → new.faults ≡ old.faults → CountsNeither old new → HostPassed (Swapped from to ∷ []) old new
 swap_passed from to old new told calm counts = record {
@@ -97,15 +97,15 @@ swap_passed from to old new told calm counts = record {
   honest = all_unit _ (files_of old) (λ f. (tt, tt));
 }
 
-pub swap_failed : (from to : Name) (old new : HostState) → new.given ≡ old.given → Rose old.faults new.faults → CountsNeither old new → HostFailed (Swapped from to) old new
-swap_failed from to old new told rose counts = record { told = told; rose = rose; reads = counts.reads; writes = counts.writes }
+pub swap_failed : (from to : Name) (old new : HostState) → new.given ≡ old.given → new.faults ≡ counted old.faults → CountsNeither old new → HostFailed (Swapped from to) old new
+swap_failed from to old new told once counts = record { told = told; once = once; reads = counts.reads; writes = counts.writes }
 
 -- a random word
 pub word_passed : (word : List ℕ) (old new : WordsState) → Both old.left new.left (λ words rest. words ≡ word ∷ rest) → new.faults ≡ old.faults → WordsPassed (word ∷ []) old new
 word_passed word old new told calm = record { told = told; calm = calm; untouched = some_answer word [] (new ≡ old) }
 
-pub word_failed : (old new : WordsState) → new.left ≡ old.left → Rose old.faults new.faults → WordFailed old new
-word_failed old new told rose = record { told = told; rose = rose }
+pub word_failed : (old new : WordsState) → new.left ≡ old.left → new.faults ≡ counted old.faults → WordFailed old new
+word_failed old new told once = record { told = told; once = once }
 
 -- a piece for the output
 pub piece_passed : (bytes : List ℕ) (old new : SinkState) → Both old.bytes new.bytes (IsMore bytes) → new.faults ≡ old.faults → OutPassed (bytes ∷ []) old new
@@ -115,5 +115,5 @@ piece_passed bytes old new told calm = record {
   untouched = some_answer bytes [] (new ≡ old);
 }
 
-pub piece_failed : (bytes : List ℕ) (old new : SinkState) → Both old.bytes new.bytes (TakesFront bytes) → Rose old.faults new.faults → OutFailed bytes old new
-piece_failed bytes old new told rose = record { told = told; rose = rose }
+pub piece_failed : (bytes : List ℕ) (old new : SinkState) → Both old.bytes new.bytes (TakesFront bytes) → new.faults ≡ counted old.faults → OutFailed bytes old new
+piece_failed bytes old new told once = record { told = told; once = once }

@@ -18,7 +18,7 @@ use Rattle.pf_io.specs.Streams.{TakesFront}
 use Rattle.pf_io.proofs.Telling.{both_weaker, both_then}
 use Rattle.pf_tool.specs.World.{World, with_log}
 use Rattle.pf_tool.specs.Events.{Event, Answers, Draws, Puts, answers_in, pieces_in, bytes_in}
-use Rattle.pf_tool.specs.Endings.{Done, Damaged, BadName, NotFound, KeyFile, NotProtected, Unbuilt, Stop, AtEnd, Failed, Starved, tried, ending_line, stop_status}
+use Rattle.pf_tool.specs.Endings.{Done, Damaged, Refused, BadName, NotFound, KeyFile, NotProtected, Unbuilt, Stop, AtEnd, Failed, Starved, tried, ending_line, stop_status}
 use Rattle.pf_tool.specs.Happened.{Passed, Happened}
 use Rattle.pf_tool.specs.Reports.{WroteAll, Reports}
 use Rattle.pf_tool.specs.Requests.{Decrypt}
@@ -111,11 +111,7 @@ empty_or (x ∷ xs) = inr (λ is. absurd (cc))
 damage_of : (stop : Stop) → stop_status stop ≡ 1 → (k : ℕ) × (kind : Kind) × (stop ≡ AtEnd (Damaged k kind))
 damage_of (AtEnd Done) is = absurd (cc)
 damage_of (AtEnd (Damaged k kind)) is = (k, kind, refl)
-damage_of (AtEnd BadName) is = absurd (cc)
-damage_of (AtEnd (NotFound name)) is = absurd (cc)
-damage_of (AtEnd (KeyFile number)) is = absurd (cc)
-damage_of (AtEnd NotProtected) is = absurd (cc)
-damage_of (AtEnd Unbuilt) is = absurd (cc)
+damage_of (AtEnd (Refused why)) is = absurd (cc)
 damage_of (Failed (Answers a)) is = absurd (cc)
 damage_of (Failed (Draws w)) is = absurd (cc)
 damage_of (Failed (Puts b)) is = absurd (cc)

@@ -15,7 +15,7 @@ use Rattle.pf_io.specs.Host.{Answer, LengthWas, Gave, contents}
 use Rattle.pf_io.specs.Answered.{IsAnswerOf}
 use Rattle.pf_io.proofs.Answering.{all_append}
 use Rattle.pf_tool.specs.Events.{Event, Answers, Draws, Puts, answers_in, pieces_in, words_in, bytes_in}
-use Rattle.pf_tool.specs.Endings.{Ending, Done, Damaged, BadName, NotFound, KeyFile, NotProtected, Unbuilt}
+use Rattle.pf_tool.specs.Endings.{Ending, Done, Damaged, Refused, BadName, NotFound, KeyFile, NotProtected, Unbuilt}
 use Rattle.pf_tool.specs.Keys.{IsKeyOf, KeyRefused, key_unnamed, key_absent, key_length, key_short, key_events, KeyOver}
 use Rattle.pf_tool.specs.Decrypting.{end_of, ComesTo, node_refused, pieces_read, node_events, last_events, piece_events, Unseals, input_unnamed, input_absent, input_read, DecryptLeads, decrypt_key_refused, decrypt_key_read, DecryptOver, decrypt_no_key, decrypt_unnamed, decrypt_no_input, decrypt_file}
 use Rattle.pf_tool.specs.Decrypting as decrypting
@@ -39,20 +39,12 @@ range_pieces input file from (suc n) = range_pieces input file (from + 1) n
 last_words : (input : Name) (file : List ℕ) (at : ℕ) (ending : Ending) → words_in (last_events input file at ending) ≡ []
 last_words input file at Done = refl
 last_words input file at (Damaged node kind) = range_words input file (node_count at) ((node + 1) - node_count at)
-last_words input file at BadName = refl
-last_words input file at (NotFound name) = refl
-last_words input file at (KeyFile number) = refl
-last_words input file at NotProtected = refl
-last_words input file at Unbuilt = refl
+last_words input file at (Refused why) = refl
 
 pub last_pieces : (input : Name) (file : List ℕ) (at : ℕ) (ending : Ending) → pieces_in (last_events input file at ending) ≡ []
 last_pieces input file at Done = refl
 last_pieces input file at (Damaged node kind) = range_pieces input file (node_count at) ((node + 1) - node_count at)
-last_pieces input file at BadName = refl
-last_pieces input file at (NotFound name) = refl
-last_pieces input file at (KeyFile number) = refl
-last_pieces input file at NotProtected = refl
-last_pieces input file at Unbuilt = refl
+last_pieces input file at (Refused why) = refl
 
 piece_words : (input : Name) (file : List ℕ) (at : ℕ) (pieces : List (List ℕ)) (ending : Ending) → words_in (piece_events input file at pieces ending) ≡ []
 piece_words input file at [] ending = last_words input file at ending
@@ -71,11 +63,7 @@ pieces_out input file at (piece ∷ pieces) ending =
 own_last : (input : Name) (file : List ℕ) (at : ℕ) (ending : Ending) → AllByRecursion (IsAnswerOf (only_file file)) (answers_in (last_events input file at ending))
 own_last input file at Done = tt
 own_last input file at (Damaged node kind) = own_nodes input (only_file file) (node_count at) (node + 1)
-own_last input file at BadName = tt
-own_last input file at (NotFound name) = tt
-own_last input file at (KeyFile number) = tt
-own_last input file at NotProtected = tt
-own_last input file at Unbuilt = tt
+own_last input file at (Refused why) = tt
 
 own_pieces : (input : Name) (file : List ℕ) (at : ℕ) (pieces : List (List ℕ)) (ending : Ending) → AllByRecursion (IsAnswerOf (only_file file)) (answers_in (piece_events input file at pieces ending))
 own_pieces input file at [] ending = own_last input file at ending
@@ -111,13 +99,13 @@ told_bytes (Gave name place room bytes) = bytes
 told_bytes answer = []
 
 abbrev by_length : Name → Option ℕ → Ending
-by_length name (Some n) = KeyFile n
-by_length name None = NotFound name
+by_length name (Some n) = Refused (KeyFile n)
+by_length name None = Refused (NotFound name)
 
 abbrev key_ending : List Answer → Ending
-key_ending [] = BadName
+key_ending [] = Refused BadName
 key_ending (a ∷ []) = by_length (told_name a) (told_length a)
-key_ending (a ∷ b ∷ these) = KeyFile (length (told_bytes b))
+key_ending (a ∷ b ∷ these) = Refused (KeyFile (length (told_bytes b)))
 
 key_by : (key : Name) (es : List Event) (ending : Ending) → KeyRefused key es ending → ending ≡ key_ending (answers_in es)
 key_by key es ending (key_unnamed u is ends) = ends ∙ ap (λ (l : List Event). key_ending (answers_in l)) (sym is)

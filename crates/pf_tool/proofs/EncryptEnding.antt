@@ -12,7 +12,7 @@ use Rattle.pf_io.specs.Unchanged.{KeepsDisk}
 use Rattle.pf_io.proofs.Runs.{started, goes_on_ran}
 use Rattle.pf_tool.specs.World.{World}
 use Rattle.pf_tool.specs.Events.{Event, Answers}
-use Rattle.pf_tool.specs.Endings.{Ending, Done, BadName, Stop, AtEnd, tried, stop_status}
+use Rattle.pf_tool.specs.Endings.{Ending, Done, Refused, BadName, Stop, AtEnd, tried, stop_status}
 use Rattle.pf_tool.specs.Happened.{Passed}
 use Rattle.pf_tool.specs.Outcomes.{Outcome, Falls, ComesOut}
 use Rattle.pf_tool.specs.SideFiles.{IsMade, IsSwapped, SideLeaves, SideEnds, IsNewFile}
@@ -21,6 +21,7 @@ use Rattle.pf_tool.specs.Encrypting.{IsInput, Seals, output_unnamed, input_unfit
 use Rattle.pf_tool.specs.Making.{IsSealedUnder, LeavesSealed}
 use Rattle.pf_tool.specs.declared.fault.Fault.{Fault}
 use Rattle.pf_tool.specs.declared.fault.Fault.TheVariants as faults
+use Rattle.pf_tool.specs.declared.why.Why.TheVariants as whys
 use Rattle.pf_tool.proofs.Composing.{passed_none}
 use Rattle.pf_tool.proofs.Stopping.{not_done, outcome_then, refused}
 use Rattle.pf_tool.proofs.InputDisk.{kept_leaves}
@@ -33,7 +34,7 @@ knowing_first F P Q None None ran fact = tt
 knowing_first F P Q (Some a) None ran fact = absurd ran
 knowing_first F P Q None (Some b) ran fact = absurd ran
 
-names_unfit : (user : List ℕ) (input output : Name) → ¬ (IsTarget output) ⊎ (IsTarget output × ¬ (IsInput input output)) → Seals user input output [] BadName
+names_unfit : (user : List ℕ) (input output : Name) → ¬ (IsTarget output) ⊎ (IsTarget output × ¬ (IsInput input output)) → Seals user input output [] (Refused BadName)
 names_unfit user input output (inl unnamed) = output_unnamed unnamed refl refl
 names_unfit user input output (inr both) = input_unfit both.0 both.1 refl refl
 
@@ -58,10 +59,10 @@ module _ (key input output : Name) where
   module _ (user : List ℕ) (has : IsKeyOf key user) where
     -- names that cannot be used
     pub names_refused : (old new : World) → ¬ (IsTarget output) ⊎ (IsTarget output × ¬ (IsInput input output)) → Passed (key_events key user) old new → KeepsDisk old.host new.host
-        → Falls (EncryptLeads key input output) (EncryptLeaves key input output) faults.BadName old new
+        → Falls (EncryptLeads key input output) (EncryptLeaves key input output) (faults.Refused whys.BadName) old new
     names_refused old new unfit passed kept =
-        refused Leading Leaving (key_events key user) BadName faults.BadName old new refl refl (encrypt_key_read user [] has refl (names_unfit user input output unfit)) passed
-        (kept_leaves output (IsSealed key input output) (key_events key user) (AtEnd BadName) old.host new.host (λ same. absurd (cc)) kept)
+        refused Leading Leaving (key_events key user) (Refused BadName) (faults.Refused whys.BadName) old new refl refl (encrypt_key_read user [] has refl (names_unfit user input output unfit)) passed
+        (kept_leaves output (IsSealed key input output) (key_events key user) (AtEnd (Refused BadName)) old.host new.host (λ same. absurd (cc)) kept)
 
     module _ (last : List Event) (stop : Stop) where
       abbrev All : List Event

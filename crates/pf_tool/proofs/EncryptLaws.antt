@@ -9,7 +9,7 @@ use Rattle.pf_io.specs.Host.{Answer, LengthWas, Gave}
 use Rattle.pf_io.specs.Answered.{IsAnswerOf}
 use Rattle.pf_io.specs.Names.{IsName, IsTarget}
 use Rattle.pf_tool.specs.Events.{Event, answers_in, pieces_in}
-use Rattle.pf_tool.specs.Endings.{Ending, Done, BadName, NotFound, KeyFile, Unbuilt, ending_status}
+use Rattle.pf_tool.specs.Endings.{Ending, Done, Refused, BadName, NotFound, KeyFile, Unbuilt, ending_status}
 use Rattle.pf_tool.specs.Keys.{KeyRefused, key_unnamed, key_absent, key_length, key_short, key_events, KeyOver}
 use Rattle.pf_tool.specs.Encrypting.{MOST_FIRST, IsInput, Seals, output_unnamed, input_unfit, input_absent, input_large, published, EncryptLeads, encrypt_key_refused, encrypt_key_read, GaveSealed, EncryptOver, over_no_key, over_unfit, over_no_input, over_large, over_done}
 use Rattle.pf_tool.proofs.KeyOver.{there_of, absent_of, whole_of, key_over_one, key_refused_over, key_read_over}
@@ -33,14 +33,14 @@ module _ (key input output : Name) where
   encrypt_unput es ending (encrypt_key_refused refuses) = key_unput key es ending refuses
   encrypt_unput es ending (encrypt_key_read user rest has is seals) = ap (λ (l : List Event). pieces_in l) is ∙ seals_unput user input output rest ending seals
 
-  unnamed_alone : (ending : Ending) → EncryptLeads key input output [] ending → (¬ (IsName key)) × (ending ≡ BadName)
+  unnamed_alone : (ending : Ending) → EncryptLeads key input output [] ending → (¬ (IsName key)) × (ending ≡ Refused BadName)
   unnamed_alone ending (encrypt_key_refused (key_unnamed u is ends)) = (u, ends)
   unnamed_alone ending (encrypt_key_refused (key_absent named is ends)) = absurd (cc)
   unnamed_alone ending (encrypt_key_refused (key_length n named other is ends)) = absurd (cc)
   unnamed_alone ending (encrypt_key_refused (key_short bytes named short is ends)) = absurd (cc)
   unnamed_alone ending (encrypt_key_read user rest has is seals) = absurd (cc)
 
-  alone_unnamed : (es : List Event) (ending : Ending) → ¬ (IsName key) → EncryptLeads key input output es ending → (es ≡ []) × (ending ≡ BadName)
+  alone_unnamed : (es : List Event) (ending : Ending) → ¬ (IsName key) → EncryptLeads key input output es ending → (es ≡ []) × (ending ≡ Refused BadName)
   alone_unnamed es ending never (encrypt_key_refused (key_unnamed u is ends)) = (is, ends)
   alone_unnamed es ending never (encrypt_key_refused (key_absent named is ends)) = absurd (never named)
   alone_unnamed es ending never (encrypt_key_refused (key_length n named other is ends)) = absurd (never named)
@@ -68,20 +68,20 @@ told_bytes (Gave name place room bytes) = bytes
 told_bytes answer = []
 
 abbrev by_length : Name → Option ℕ → Ending
-by_length name (Some n) = KeyFile n
-by_length name None = NotFound name
+by_length name (Some n) = Refused (KeyFile n)
+by_length name None = Refused (NotFound name)
 
 abbrev short_or : Bool → ℕ → Ending
-short_or true n = KeyFile n
-short_or false n = BadName
+short_or true n = Refused (KeyFile n)
+short_or false n = Refused BadName
 
 -- the ending of answers, by how many they are
 abbrev ending_by : List Answer → Ending
-ending_by [] = BadName
+ending_by [] = Refused BadName
 ending_by (a ∷ []) = by_length (told_name a) (told_length a)
 ending_by (a ∷ b ∷ []) = short_or (ltb (length (told_bytes b)) 16) (length (told_bytes b))
-ending_by (a ∷ b ∷ c ∷ []) = NotFound (told_name c)
-ending_by (a ∷ b ∷ c ∷ d ∷ e ∷ f ∷ g ∷ []) = Unbuilt
+ending_by (a ∷ b ∷ c ∷ []) = Refused (NotFound (told_name c))
+ending_by (a ∷ b ∷ c ∷ d ∷ e ∷ f ∷ g ∷ []) = Refused Unbuilt
 ending_by these = Done
 
 key_by : (key : Name) (es : List Event) (ending : Ending) → KeyRefused key es ending → ending ≡ ending_by (answers_in es)
@@ -92,7 +92,7 @@ key_by key es ending (key_short bytes named short is ends) =
     ends ∙ ap (λ (b : Bool). short_or b (length bytes)) (sym (lt-ltb (length bytes) 16 short)) ∙ ap (λ (l : List Event). ending_by (answers_in l)) (sym is)
 
 -- after a key that was read, no ending is by fewer answers
-unfit_by : (user : List ℕ) → length user ≡ 16 → BadName ≡ short_or (ltb (length user) 16) (length user)
+unfit_by : (user : List ℕ) → length user ≡ 16 → Refused BadName ≡ short_or (ltb (length user) 16) (length user)
 unfit_by user long = ap (λ (n : ℕ). short_or (ltb n 16) n) (sym long)
 
 seals_by : (key : Name) (user : List ℕ) (input output : Name) (es rest : List Event) (ending : Ending) → length user ≡ 16 → es ≡ key_events key user ++ rest → Seals user input output rest ending → ending ≡ ending_by (answers_in es)
@@ -108,7 +108,7 @@ seals_by key user input output es rest ending long are (published size first sec
     ends ∙ ap (λ (l : List Event). ending_by (answers_in l)) (sym (are ∙ ap (λ (l : List Event). key_events key user ++ l) is))
 
 abbrev large_or : Bool → Ending
-large_or true = Unbuilt
+large_or true = Refused Unbuilt
 large_or false = Done
 
 -- a content of which more than 3072 bytes came has more
@@ -120,7 +120,7 @@ small_front bytes content is small = omega (arith, small, ap (λ (l : List ℕ).
 
 -- the ending of a content
 abbrev ending_at : Name → Option (List ℕ) → Ending
-ending_at input None = NotFound input
+ending_at input None = Refused (NotFound input)
 ending_at input (Some content) = large_or (ltb MOST_FIRST (length content))
 
 module _ (key input output : Name) where
@@ -140,7 +140,7 @@ module _ (key input output : Name) where
     no_key_one e f none (over_large user content over target fit there large ends) = let same = key_over_one files key (Err e) (Ok user) none over in absurd (cc)
     no_key_one e f none (over_done user content over target fit there small ends) = let same = key_over_one files key (Err e) (Ok user) none over in absurd (cc)
 
-    unfit_one : (user : List ℕ) (f : Ending) → KeyOver files key (Ok user) → ¬ (IsTarget output) ⊎ ¬ (IsInput input output) → EncryptOver key input output files f → BadName ≡ f
+    unfit_one : (user : List ℕ) (f : Ending) → KeyOver files key (Ok user) → ¬ (IsTarget output) ⊎ ¬ (IsInput input output) → EncryptOver key input output files f → Refused BadName ≡ f
     unfit_one user f over unfit (over_no_key none) = let same = key_over_one files key (Ok user) (Err f) over none in absurd (cc)
     unfit_one user f over unfit (over_unfit user2 over2 unfit2 ends) = sym ends
     unfit_one user f over unfit (over_no_input user2 over2 target fit there ends) = absurd (⊎_elim (λ no. no target) (λ no. no fit) unfit)

@@ -12,7 +12,7 @@ use Rattle.pf_io.specs.Unchanged.{KeepsDisk}
 use Rattle.pf_io.specs.Words.{WordsState}
 use Rattle.pf_tool.specs.World.{World, with_host, with_random}
 use Rattle.pf_tool.specs.Events.{Event, Answers, Draws, answers_in}
-use Rattle.pf_tool.specs.Endings.{Ending, Done, NotFound, Unbuilt, Stop, AtEnd, Failed, Starved, tried, ending_line, ending_status, stop_status}
+use Rattle.pf_tool.specs.Endings.{Ending, Done, Refused, NotFound, Unbuilt, Stop, AtEnd, Failed, Starved, tried, ending_line, ending_status, stop_status}
 use Rattle.pf_tool.specs.Faults.{fault_line, fault_status}
 use Rattle.pf_tool.specs.Happened.{HostPassed, HostFailed, Passed}
 use Rattle.pf_tool.specs.Outcomes.{StopsAt, Outcome, Falls, ComesOut}
@@ -21,6 +21,7 @@ use Rattle.pf_tool.specs.Encrypting.{MOST_FIRST, IsInput, node_of, begun_events,
 use Rattle.pf_tool.specs.Making.{SideBegun, Begins, LeavesBegun, Publishes, LeavesPublished, IsSealedUnder, LeavesSealed}
 use Rattle.pf_tool.specs.declared.fault.Fault.{Fault}
 use Rattle.pf_tool.specs.declared.fault.Fault.TheVariants as faults
+use Rattle.pf_tool.specs.declared.why.Why.TheVariants as whys
 use Rattle.pf_tool.proofs.Composing.{answers_then, passed_none, passed_host, passed_then, passed_reading, files_kept, happened_honest, failed_host}
 use Rattle.pf_tool.proofs.Stopping.{not_done, GoesOn, stands_then, stands_on, outcome_of, refused, host_fails, starves}
 use Rattle.pf_tool.proofs.SideDisk.{Begun}
@@ -68,16 +69,16 @@ module _ (user : List ℕ) (input output : Name) (target : IsTarget output) (fit
 
     pub no_length : (fault : Fault) → fault ≡ faults.Host → HostFailed (LengthWas input None) s0 s1 → KeepsDisk s0 s1 → Falls (Seals user input output) (LeavesSealed user input output) fault Start Asked
     no_length fault is failed kept =
-        host_fails Leading Leaving [] [] (NotFound input) fault Start Start Asked (LengthWas input None) is (input_absent target fit refl refl) (passed_none Start)
+        host_fails Leading Leaving [] [] (Refused (NotFound input)) fault Start Start Asked (LengthWas input None) is (input_absent target fit refl refl) (passed_none Start)
         (failed_host (LengthWas input None) (with_random world r0) s0 s1 failed)
         (kept_leaves output (IsSealedUnder user input output) (Answers (LengthWas input None) ∷ []) (Failed (Answers (LengthWas input None))) s0 s1 (λ same. absurd (cc)) kept)
 
-    pub no_input : (fault : Fault) (answer : Option ℕ) → fault_line fault ≡ ending_line (NotFound input) → fault_status fault ≡ 3 → answer ≡ None → HostPassed (LengthWas input answer ∷ []) s0 s1 → KeepsDisk s0 s1
+    pub no_input : (fault : Fault) (answer : Option ℕ) → fault_line fault ≡ ending_line (Refused (NotFound input)) → fault_status fault ≡ 3 → answer ≡ None → HostPassed (LengthWas input answer ∷ []) s0 s1 → KeepsDisk s0 s1
         → Falls (Seals user input output) (LeavesSealed user input output) fault Start Asked
     no_input fault answer says ends is passed kept =
-        refused Leading Leaving (Answers (LengthWas input answer) ∷ []) (NotFound input) fault Start Asked says ends
+        refused Leading Leaving (Answers (LengthWas input answer) ∷ []) (Refused (NotFound input)) fault Start Asked says ends
         (input_absent target fit (ap (λ (o : Option ℕ). Answers (LengthWas input o) ∷ []) is) refl) (passed_host (Answers (LengthWas input answer) ∷ []) (with_random world r0) s0 s1 refl refl passed)
-        (kept_leaves output (IsSealedUnder user input output) (Answers (LengthWas input answer) ∷ []) (AtEnd (NotFound input)) s0 s1 (λ same. absurd (cc)) kept)
+        (kept_leaves output (IsSealedUnder user input output) (Answers (LengthWas input answer) ∷ []) (AtEnd (Refused (NotFound input))) s0 s1 (λ same. absurd (cc)) kept)
 
     module _ (size : ℕ) (passed : HostPassed (LengthWas input (Some size) ∷ []) s0 s1) (files : KeepsFiles s0 s1) (kept : KeepsDisk s0 s1) where
       abbrev First : List Event
@@ -157,11 +158,11 @@ module _ (user : List ℕ) (input output : Name) (target : IsTarget output) (fit
               read_passed : Passed (read_events user input output size o.stands.first o.stands.second bytes) Start Reads
               read_passed = passed_then Started_events (Answers (Gave input 0 3073 bytes) ∷ []) Start Started Reads started_passed (passed_host (Answers (Gave input 0 3073 bytes) ∷ []) (with_random world r1) s2 s3 refl refl reads) knows
 
-              pub too_large : MOST_FIRST < length bytes → Falls (Seals user input output) (LeavesSealed user input output) faults.Unbuilt Start Reads
+              pub too_large : MOST_FIRST < length bytes → Falls (Seals user input output) (LeavesSealed user input output) (faults.Refused whys.Unbuilt) Start Reads
               too_large large =
-                  refused Leading Leaving (read_events user input output size o.stands.first o.stands.second bytes) Unbuilt faults.Unbuilt Start Reads refl refl
+                  refused Leading Leaving (read_events user input output size o.stands.first o.stands.second bytes) (Refused Unbuilt) (faults.Refused whys.Unbuilt) Start Reads refl refl
                   (input_large size o.stands.first o.stands.second bytes target fit large refl refl) read_passed
-                  (early_made user input output (Started_events ++ Answers (Gave input 0 3073 bytes) ∷ []) (started_disk (Answers (Gave input 0 3073 bytes) ∷ [])).0 (AtEnd Unbuilt) s0.honest s3.honest (λ same. absurd (cc))
+                  (early_made user input output (Started_events ++ Answers (Gave input 0 3073 bytes) ∷ []) (started_disk (Answers (Gave input 0 3073 bytes) ∷ [])).0 (AtEnd (Refused Unbuilt)) s0.honest s3.honest (λ same. absurd (cc))
                   (read_disk (Answers (Gave input 0 3073 bytes) ∷ [])))
 
               module _ (s4 : HostState) (r2 : WordsState) (small : length bytes ≤ MOST_FIRST)

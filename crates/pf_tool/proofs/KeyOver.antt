@@ -6,7 +6,7 @@ use Rattle.pf_io.specs.Disk.{Name, Files}
 use Rattle.pf_io.specs.Host.{Answer, LengthWas, Gave, length_of, contents}
 use Rattle.pf_io.specs.Answered.{IsAnswerOf}
 use Rattle.pf_tool.specs.Events.{Event, answers_in}
-use Rattle.pf_tool.specs.Endings.{Ending, KeyFile}
+use Rattle.pf_tool.specs.Endings.{Ending, Refused, KeyFile}
 use Rattle.pf_tool.specs.Keys.{IsKeyOf, KeyRefused, key_unnamed, key_absent, key_length, key_short, KeyOver, over_unnamed, over_absent, over_length, over_key}
 
 -- a length that was answered is that of bytes that are there
@@ -36,7 +36,7 @@ key_over_one files key r s (over_length bytes named there other is) (over_unname
 key_over_one files key r s (over_length bytes named there other is) (over_absent named2 there2 is2) = absurd (cc)
 key_over_one files key r s (over_length bytes named there other is) (over_length bytes2 named2 there2 other2 is2) =
     let same : bytes ≡ bytes2 = cc in
-    is ∙ ap (λ (b : List ℕ). Err (KeyFile (length b))) same ∙ sym is2
+    is ∙ ap (λ (b : List ℕ). Err (Refused (KeyFile (length b)))) same ∙ sym is2
 key_over_one files key r s (over_length bytes named there other is) (over_key user named2 there2 long is2) =
     let same : bytes ≡ user = cc in
     absurd (other (ap (λ (b : List ℕ). length b) same ∙ long))
@@ -58,7 +58,7 @@ key_refused_over files key es ending (key_absent named is ends) all =
 key_refused_over files key es ending (key_length n named other is ends) all =
     let answers : AllByRecursion (IsAnswerOf files) (LengthWas key (Some n) ∷ []) = subst (λ (l : List Event). AllByRecursion (IsAnswerOf files) (answers_in l)) is all in
     let there = there_of (files key) n answers.0 in
-    over_length there.0 named there.1 (λ long. other (sym there.2 ∙ long)) (ap (λ (e : Ending). Err e) (ends ∙ ap KeyFile (sym there.2)))
+    over_length there.0 named there.1 (λ long. other (sym there.2 ∙ long)) (ap (λ (e : Ending). Err e) (ends ∙ ap (λ (n : ℕ). Refused (KeyFile n)) (sym there.2)))
 key_refused_over files key es ending (key_short bytes named short is ends) all =
     let answers : AllByRecursion (IsAnswerOf files) (LengthWas key (Some 16) ∷ Gave key 0 16 bytes ∷ []) = subst (λ (l : List Event). AllByRecursion (IsAnswerOf files) (answers_in l)) is all in
     let there = there_of (files key) 16 answers.0 in

@@ -13,7 +13,7 @@ use Rattle.pf_io.specs.Unchanged.{KeepsDisk}
 use Rattle.pf_io.proofs.Unchanged.{kept_none}
 use Rattle.pf_tool.specs.World.{World, with_host}
 use Rattle.pf_tool.specs.Events.{Event, Answers}
-use Rattle.pf_tool.specs.Endings.{Ending, Done, BadName, NotFound, NotProtected, Unbuilt, Stop, AtEnd, ending_line}
+use Rattle.pf_tool.specs.Endings.{Ending, Done, Refused, BadName, NotFound, NotProtected, Unbuilt, Stop, AtEnd, ending_line}
 use Rattle.pf_tool.specs.Faults.{fault_line, fault_status}
 use Rattle.pf_tool.specs.Happened.{HostPassed, HostFailed, Passed}
 use Rattle.pf_tool.specs.Outcomes.{Falls, ComesOut}
@@ -22,6 +22,7 @@ use Rattle.pf_tool.specs.Decrypting.{IsOpenable, NodeRefused, not_protected, nod
 use Rattle.pf_tool.specs.Unsealing.{Refuses, ReadsNode, opening_events}
 use Rattle.pf_tool.specs.declared.fault.Fault.{Fault}
 use Rattle.pf_tool.specs.declared.fault.Fault.TheVariants as faults
+use Rattle.pf_tool.specs.declared.why.Why.TheVariants as whys
 use Rattle.pf_tool.proofs.Composing.{passed_none, passed_host, passed_reading, failed_host}
 use Rattle.pf_tool.proofs.Stopping.{refused, host_fails, falls_as, outcome_then}
 use Rattle.pf_tool.proofs.KeyReading.{asked_twice}
@@ -37,9 +38,9 @@ front_given k n buffer front long is =
     sym (take-take k n buffer reaches) ∙ is
 
 -- a whole node of another form
-pub other_form : (user bytes node : List ℕ) → bytes ≡ node → length node ≡ 4096 → take 8 node ≡ magic → (flag_at node ≢ 0) ⊎ ¬ (IsPlain node) → Refuses (NodeRefused user bytes) faults.Unbuilt
+pub other_form : (user bytes node : List ℕ) → bytes ≡ node → length node ≡ 4096 → take 8 node ≡ magic → (flag_at node ≢ 0) ⊎ ¬ (IsPlain node) → Refuses (NodeRefused user bytes) (faults.Refused whys.Unbuilt)
 other_form user bytes node all long there other =
-    subst (λ (b : List ℕ). Refuses (NodeRefused user b) faults.Unbuilt) (sym all) (record { ending = Unbuilt; is_fault = record { says = refl; ends = refl }; holds = node_unbuilt there long other refl })
+    subst (λ (b : List ℕ). Refuses (NodeRefused user b) (faults.Refused whys.Unbuilt)) (sym all) (record { ending = Refused Unbuilt; is_fault = record { says = refl; ends = refl }; holds = node_unbuilt there long other refl })
 
 -- the bytes given of node 0 are a file that has no more
 block_0 : (bytes : List ℕ) → length bytes ≤ 4096 → block_of bytes 0 ≡ bytes
@@ -54,26 +55,26 @@ unseals_refused user input size bytes ending target short refused =
     ∙ ap (λ (b : List ℕ). Answers (LengthWas input (Some size)) ∷ Answers (Gave input 0 4096 b) ∷ piece_events input bytes 0 [] ending) (sym here))
 
 module _ (user : List ℕ) (input : Name) (world : World) (s0 : HostState) where
-  pub no_target : ¬ (IsTarget input) → Falls (Unseals user input) (λ _ _. KeepsDisk) faults.BadName (with_host world s0) (with_host world s0)
-  no_target unnamed = refused (Unseals user input) Kept [] BadName faults.BadName (with_host world s0) (with_host world s0) refl refl (input_unnamed unnamed refl refl) (passed_none (with_host world s0)) (kept_none s0)
+  pub no_target : ¬ (IsTarget input) → Falls (Unseals user input) (λ _ _. KeepsDisk) (faults.Refused whys.BadName) (with_host world s0) (with_host world s0)
+  no_target unnamed = refused (Unseals user input) Kept [] (Refused BadName) (faults.Refused whys.BadName) (with_host world s0) (with_host world s0) refl refl (input_unnamed unnamed refl refl) (passed_none (with_host world s0)) (kept_none s0)
 
   pub no_length : (fault : Fault) (s1 : HostState) → IsTarget input → fault ≡ faults.Host → HostFailed (LengthWas input None) s0 s1 → KeepsDisk s0 s1 → Falls (Unseals user input) (λ _ _. KeepsDisk) fault (with_host world s0) (with_host world s1)
   no_length fault s1 target is failed kept =
-      host_fails (Unseals user input) Kept [] [] (NotFound input) fault (with_host world s0) (with_host world s0) (with_host world s1) (LengthWas input None) is (input_absent target refl refl)
+      host_fails (Unseals user input) Kept [] [] (Refused (NotFound input)) fault (with_host world s0) (with_host world s0) (with_host world s1) (LengthWas input None) is (input_absent target refl refl)
       (passed_none (with_host world s0)) (failed_host (LengthWas input None) world s0 s1 failed) kept
 
-  pub no_file : (fault : Fault) (answer : Option ℕ) (s1 : HostState) → IsTarget input → fault_line fault ≡ ending_line (NotFound input) → fault_status fault ≡ 3 → answer ≡ None → HostPassed (LengthWas input answer ∷ []) s0 s1 → KeepsDisk s0 s1
+  pub no_file : (fault : Fault) (answer : Option ℕ) (s1 : HostState) → IsTarget input → fault_line fault ≡ ending_line (Refused (NotFound input)) → fault_status fault ≡ 3 → answer ≡ None → HostPassed (LengthWas input answer ∷ []) s0 s1 → KeepsDisk s0 s1
       → Falls (Unseals user input) (λ _ _. KeepsDisk) fault (with_host world s0) (with_host world s1)
   no_file fault answer s1 target says ends is passed kept =
-      refused (Unseals user input) Kept (Answers (LengthWas input answer) ∷ []) (NotFound input) fault (with_host world s0) (with_host world s1) says ends
+      refused (Unseals user input) Kept (Answers (LengthWas input answer) ∷ []) (Refused (NotFound input)) fault (with_host world s0) (with_host world s1) says ends
       (input_absent target (ap (λ (o : Option ℕ). Answers (LengthWas input o) ∷ []) is) refl) (passed_host (Answers (LengthWas input answer) ∷ []) world s0 s1 refl refl passed) kept
 
   pub no_node : (fault : Fault) (size : ℕ) (answer : Option ℕ) (s1 s2 : HostState) → IsTarget input → fault ≡ faults.Host → answer ≡ Some size → HostPassed (LengthWas input answer ∷ []) s0 s1 → HostFailed (Gave input 0 4096 []) s1 s2 → KeepsDisk s0 s2
       → Falls (Unseals user input) (λ _ _. KeepsDisk) fault (with_host world s0) (with_host world s2)
   no_node fault size answer s1 s2 target is there passed failed kept =
       let no_magic : take 8 [] ≢ magic = λ same. absurd (omega (arith, ap (λ (l : List ℕ). length l) same)) in
-      host_fails (Unseals user input) Kept (Answers (LengthWas input answer) ∷ []) [] NotProtected fault (with_host world s0) (with_host world s1) (with_host world s2) (Gave input 0 4096 []) is
-      (subst (λ (o : Option ℕ). Unseals user input (Answers (LengthWas input o) ∷ Answers (Gave input 0 4096 []) ∷ []) NotProtected) (sym there) (unseals_refused user input size [] NotProtected target (omega arith) (not_protected no_magic refl)))
+      host_fails (Unseals user input) Kept (Answers (LengthWas input answer) ∷ []) [] (Refused NotProtected) fault (with_host world s0) (with_host world s1) (with_host world s2) (Gave input 0 4096 []) is
+      (subst (λ (o : Option ℕ). Unseals user input (Answers (LengthWas input o) ∷ Answers (Gave input 0 4096 []) ∷ []) (Refused NotProtected)) (sym there) (unseals_refused user input size [] (Refused NotProtected) target (omega arith) (not_protected no_magic refl)))
       (passed_host (Answers (LengthWas input answer) ∷ []) world s0 s1 refl refl passed) (failed_host (Gave input 0 4096 []) world s1 s2 failed) kept
 
   pub bad_node : (fault : Fault) (size : ℕ) (answer : Option ℕ) (bytes : List ℕ) (s1 s2 : HostState) → IsTarget input → length bytes ≤ 4096 → answer ≡ Some size → Refuses (NodeRefused user bytes) fault → HostPassed (LengthWas input answer ∷ []) s0 s1 → KeepsFiles s0 s1

@@ -13,7 +13,7 @@ use Rattle.node_tree.specs.Reading.{Reads}
 use Rattle.node_tree.specs.declared.fault.TreeFault.{TreeFault}
 use Rattle.node_tree.specs.declared.fault.TreeFault.TheVariants as trees
 use Rattle.node_tree.proofs.Fresh.{fresh, fresh_of_file}
-use Rattle.pf_io.specs.Counts.{Rose, HasCause, counted}
+use Rattle.pf_io.specs.Counts.{HasCause, counted}
 use Rattle.pf_io.specs.Host.{Name, Answer, Gave, HostState, KeepsFiles, Both, IsMore}
 use Rattle.pf_io.specs.Answered.{Answered}
 use Rattle.pf_io.specs.Streams.{SinkState}
@@ -91,7 +91,7 @@ module _ (name : Name) (ks : List ℕ) (these : List Answer) (asks : AsksInTurn 
   }
 
   -- they came, and then a call failed
-  pub nodes_failed : (place : ℕ) (block : List ℕ) → Rose old.faults new.faults → CountsCalls (suc (length these)) old new
+  pub nodes_failed : (place : ℕ) (block : List ℕ) → new.faults ≡ counted old.faults → CountsCalls (suc (length these)) old new
       → (mid : HostState) × HostPassed these old mid × HostFailed (Gave name place 4096 block) mid new
   nodes_failed place block rose counts = by_cases these refl where
     by_cases : (l : List Answer) → these ≡ l → (mid : HostState) × HostPassed these old mid × HostFailed (Gave name place 4096 block) mid new
@@ -224,7 +224,7 @@ module _ (input : Name) (node : List ℕ) (secret : MetaSecret) (at : ℕ) (tree
           starves (PiecesLead input node secret) Kept (so_far.events ++ map (λ a. Answers a) reads.these) next.1 next.0 next.2 fault (facing world old before) (facing world new out) is next.3
           (nodes_then reads.these new (nodes_passed input reads.asked.done reads.these reads.asked.asks now new reads.answered calm reads.counted) world) kept
 
-      pub read_failed : (fault : Fault) → fault ≡ faults.Host → (reads : Reads (Err trees.Host) input at buffer tree tree' now new) → Rose now.faults new.faults → (world : World)
+      pub read_failed : (fault : Fault) → fault ≡ faults.Host → (reads : Reads (Err trees.Host) input at buffer tree tree' now new) → new.faults ≡ counted now.faults → (world : World)
           → Falls (PiecesLead input node secret) (λ _ _. KeepsDisk) fault (facing world old before) (facing world new out)
       read_failed fault is reads rose world =
           let begun = piece_failed input secret at so_far.file tree lt long_here holding_here buffer room tree' now new reads in
@@ -292,6 +292,6 @@ pub read_ended : (tree_failed : TreeFault) (fault : Fault) (input : Name) (node 
 read_ended (trees.Damaged damage) fault input node secret at tree tree' old now new before out buffer is so_far files lt room reads cause kept world =
     read_damaged input node secret at tree old now before out so_far files lt buffer room tree' new kept damage fault is reads cause.still world
 read_ended trees.Host fault input node secret at tree tree' old now new before out buffer is so_far files lt room reads cause kept world =
-    read_failed input node secret at tree old now before out so_far files lt buffer room tree' new kept fault is reads cause.rose world
+    read_failed input node secret at tree old now before out so_far files lt buffer room tree' new kept fault is reads cause.once world
 read_ended trees.Memory fault input node secret at tree tree' old now new before out buffer is so_far files lt room reads cause kept world =
     read_starved input node secret at tree old now before out so_far files lt buffer room tree' new kept fault is reads cause.still world

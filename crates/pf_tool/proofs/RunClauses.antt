@@ -17,8 +17,8 @@ use Rattle.pf_tool.specs.Faults.{fault_status}
 use Rattle.pf_tool.specs.Outcomes.{StopsAt, ComesOut, Concludes}
 use Rattle.pf_tool.specs.Reports.{Reported, Reports}
 use Rattle.pf_tool.specs.Requests.{Request, Decrypt, Encrypt}
-use Rattle.pf_tool.specs.Runs.{Leads, LeavesHost, Runs, Usage, Causes, ByWords, Content, Decided, NoneRose, Honestly, as_files_give, starved, Honest, Stays}
-use Rattle.pf_tool.proofs.RunStops.{not_two, reports_of, stop_low, reported_said, said, status_of, host_rose, random_rose, out_rose, all_passed, none_failed, input_kept, undrawn, unput, done_at_zero}
+use Rattle.pf_tool.specs.Runs.{Leads, LeavesHost, Runs, Usage, Causes, ByWords, Content, Decided, NoneCounted, Honestly, as_files_give, starved, Honest, Stays}
+use Rattle.pf_tool.proofs.RunStops.{not_two, reports_of, stop_low, reported_said, said, status_of, host_counted, random_counted, out_counted, all_passed, none_failed, input_kept, undrawn, unput, done_at_zero}
 use Rattle.pf_tool.proofs.RunLaws.{silent, decided, none_left, over, over_front}
 use Rattle.pf_tool.proofs.DecryptLaws.{decrypt_undrawn}
 use Rattle.pf_tool.proofs.EncryptLaws.{encrypt_unput, encrypt_given}
@@ -92,9 +92,9 @@ module _ (request : Request) (old new : World) (status : ℕ) (run : Runs reques
       let es = run.outcome.events in
       let happened = run.outcome.happened in
       record {
-        host_fault = λ is. host_rose es old Now run.stop happened (sym (status_of run.stop old.log new.log status what (λ seven. omega (arith, seven, is))) ∙ is);
-        random_fault = λ is. random_rose es old Now run.stop happened (sym (status_of run.stop old.log new.log status what (λ seven. omega (arith, seven, is))) ∙ is);
-        stream_fault = λ is. ⊎_elim (λ both. inl (out_rose es old Now run.stop happened (sym both.0 ∙ is))) (λ both. inr both.1) what;
+        host_fault = λ is. host_counted es old Now run.stop happened (sym (status_of run.stop old.log new.log status what (λ seven. omega (arith, seven, is))) ∙ is);
+        random_fault = λ is. random_counted es old Now run.stop happened (sym (status_of run.stop old.log new.log status what (λ seven. omega (arith, seven, is))) ∙ is);
+        stream_fault = λ is. ⊎_elim (λ both. inl (out_counted es old Now run.stop happened (sym both.0 ∙ is))) (λ both. inr both.1) what;
         calm = λ low.
             let same = status_of run.stop old.log new.log status what (λ seven. ⊎_elim (λ le. omega (arith, le, seven)) (λ e. omega (arith, e, seven)) low) in
             let passed = all_passed es old Now run.stop happened (⊎_elim (λ le. inl (omega (arith, le, same))) (λ e. inr (sym same ∙ e)) low) in
@@ -132,7 +132,7 @@ module _ (request : Request) (old new : World) (status : ℕ) (run : Runs reques
   pub run_decided : Decided request old new status
   run_decided events ending leads told low = decided_at run.stop run.outcome.events events ending leads told low run.outcome.stands run.outcome.happened run.reports
 
-  honest_at : (stop : Stop) (es : List Event) (files : Files) → files_of old.host ≡ Some files → NoneRose old new → StopsAt (Leads request) es stop → Happened es stop old Now → Reports stop old.log new.log status → Honestly request files old new status
+  honest_at : (stop : Stop) (es : List Event) (files : Files) → files_of old.host ≡ Some files → NoneCounted old new → StopsAt (Leads request) es stop → Happened es stop old Now → Reports stop old.log new.log status → Honestly request files old new status
   honest_at (AtEnd ending) es files is none stands happened reports =
       ⊎_elim (λ both. as_files_give (pieces_in es) ending (over request files es ending stands (all_of files (files_of old.host) (answers_in es) is happened.host.honest)) both.0 (record { told = happened.out.told; calm = happened.out.calm }) both.1)
       (λ both. absurd (none.log both.1)) (said (AtEnd ending) old.log new.log status reports)

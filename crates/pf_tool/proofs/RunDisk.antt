@@ -18,7 +18,7 @@ use Rattle.pf_tool.specs.SideFiles.{IsSwapped, SideLeaves, SideEnds, IsNewFile}
 use Rattle.pf_tool.specs.Keys.{KeyRefused, key_unnamed, key_absent, key_length, key_short, key_events}
 use Rattle.pf_tool.specs.Encrypting.{Seals, output_unnamed, input_unfit, input_absent, input_large, published, EncryptLeads, encrypt_key_refused, encrypt_key_read, IsSealed, IsVersion, nonce_in}
 use Rattle.pf_tool.specs.Runs.{Runs, MayBeNew, OutputLeft, OutputEnds, OnDisks}
-use Rattle.pf_tool.proofs.RunStops.{host_rose, reports_done, done_at_zero}
+use Rattle.pf_tool.proofs.RunStops.{host_counted, reports_done, done_at_zero}
 
 -- a side file takes a name
 abbrev IsSwap : Event → Type 0
@@ -98,7 +98,7 @@ module _ (key input output : Name) where
     may_be_new : (es : List Event) (stop : Stop) → StopsAt (EncryptLeads key input output) es stop → Happened es stop old (with_log new old.log) → Reports stop old.log new.log status → IsSwapped (tried es stop) output → MayBeNew old new status
     may_be_new es (AtEnd ending) stands happened reports swapped =
         inl (⊎_elim (λ none. absurd (none_has es none (has_swap es (side_of output) output swapped))) (λ both. reports_done ending old.log new.log status both.0 reports) (leads_swaps es ending stands))
-    may_be_new es (Failed (Answers answer)) stands happened reports swapped = inr (host_rose es old (with_log new old.log) (Failed (Answers answer)) happened refl)
+    may_be_new es (Failed (Answers answer)) stands happened reports swapped = inr (host_counted es old (with_log new old.log) (Failed (Answers answer)) happened refl)
     may_be_new es (Failed (Draws word)) stands happened reports swapped =
         absurd (⊎_elim (λ front. not_in_front es (Draws word) stands.0 stands.1 stands.2 front) (λ last. none_has (Draws word ∷ []) (λ no. no, tt) (has_swap (Draws word ∷ []) (side_of output) output last))
         (Contains-append_cases es (Draws word ∷ []) (Answers (Swapped (side_of output) output)) swapped))

@@ -1,27 +1,23 @@
 -- The clauses of a run, from where it stopped and what it said.
-use Rattle.std.proofs.Common.{◌≡◌, ◌⊎◌, inl, inr, ⊎_elim, ℕ, ◌≤◌, List, [], ◌∷◌, ◌++◌, refl, subst, ap, ◌∙◌, sym, arith}
+use Rattle.std.proofs.Common.{◌≡◌, ◌≢◌, ◌⊎◌, inl, inr, ⊎_elim, ℕ, ◌≤◌, List, [], ◌∷◌, ◌++◌, refl, subst, ap, ◌∙◌, sym, arith}
 use Rattle.std.proofs.lemmas.List.{append-nil}
-use Rattle.pf_io.specs.Counts.{Rose}
+use Rattle.pf_io.specs.Counts.{counted}
 use Rattle.pf_io.specs.Host.{IsMore}
 use Rattle.pf_io.specs.Streams.{SinkState}
 use Rattle.pf_io.proofs.Telling.{both_same}
 use Rattle.pf_tool.specs.World.{World}
 use Rattle.pf_tool.specs.Events.{Event, Answers, Draws, Puts, words_in, pieces_in}
-use Rattle.pf_tool.specs.Endings.{Ending, Done, Damaged, BadName, NotFound, KeyFile, NotProtected, Unbuilt, Stop, AtEnd, Failed, Starved, ending_status, stop_line, stop_status}
+use Rattle.pf_tool.specs.Endings.{Ending, Done, Damaged, Refused, Stop, AtEnd, Failed, Starved, ending_status, stop_line, stop_status}
 use Rattle.pf_tool.specs.Happened.{Passed, CallFailed, Happened}
 use Rattle.pf_tool.specs.Outcomes.{StopsAt}
 use Rattle.pf_tool.specs.Reports.{WroteAll, Reported, line_written, log_failed, Reports}
-use Rattle.pf_tool.proofs.Writing.{rose_after}
+use Rattle.pf_tool.proofs.Writing.{once_after}
 use Rattle.pf_tool.proofs.Composing.{words_then, pieces_then}
 
 ending_low : (ending : Ending) → ending_status ending ≤ 3
 ending_low Done = omega arith
 ending_low (Damaged node kind) = omega arith
-ending_low BadName = omega arith
-ending_low (NotFound name) = omega arith
-ending_low (KeyFile number) = omega arith
-ending_low NotProtected = omega arith
-ending_low Unbuilt = omega arith
+ending_low (Refused why) = omega arith
 
 pub stop_low : (stop : Stop) → stop_status stop ≤ 7
 stop_low (AtEnd ending) = omega (arith, ending_low ending)
@@ -32,23 +28,19 @@ stop_low Starved = omega arith
 
 -- what was said: the line, or the log failed
 abbrev pub Said : Stop → SinkState → SinkState → ℕ → Type 0
-Said stop old new status = ((status ≡ stop_status stop) × WroteAll (stop_line stop) old new) ⊎ ((status ≡ 7) × Rose old.faults new.faults)
+Said stop old new status = ((status ≡ stop_status stop) × WroteAll (stop_line stop) old new) ⊎ ((status ≡ 7) × (new.faults ≡ counted old.faults))
 
 pub wrote_nothing : (old new : SinkState) → new ≡ old → WroteAll [] old new
 wrote_nothing old new same = record { told = both_same (IsMore []) old.bytes new.bytes (ap (λ (s : SinkState). s.bytes) same) (λ bytes. sym (append-nil bytes)); calm = ap (λ (s : SinkState). s.faults) same }
 
-pub reported_said : (text : List ℕ) (n : ℕ) (old new : SinkState) (status : ℕ) → Reported text n old new status → ((status ≡ n) × WroteAll text old new) ⊎ ((status ≡ 7) × Rose old.faults new.faults)
+pub reported_said : (text : List ℕ) (n : ℕ) (old new : SinkState) (status : ℕ) → Reported text n old new status → ((status ≡ n) × WroteAll text old new) ⊎ ((status ≡ 7) × (new.faults ≡ counted old.faults))
 reported_said text n old new status (line_written is wrote) = inl (is, wrote)
-reported_said text n old new status (log_failed is failed) = inr (is, failed.rose)
+reported_said text n old new status (log_failed is failed) = inr (is, failed.once)
 
 pub said : (stop : Stop) (old new : SinkState) (status : ℕ) → Reports stop old new status → Said stop old new status
 said (AtEnd Done) old new status reports = inl (reports.0, wrote_nothing old new reports.1)
 said (AtEnd (Damaged node kind)) old new status reports = reported_said _ _ old new status reports
-said (AtEnd BadName) old new status reports = reported_said _ _ old new status reports
-said (AtEnd (NotFound name)) old new status reports = reported_said _ _ old new status reports
-said (AtEnd (KeyFile number)) old new status reports = reported_said _ _ old new status reports
-said (AtEnd NotProtected) old new status reports = reported_said _ _ old new status reports
-said (AtEnd Unbuilt) old new status reports = reported_said _ _ old new status reports
+said (AtEnd (Refused why)) old new status reports = reported_said _ _ old new status reports
 said (Failed event) old new status reports = reported_said _ _ old new status reports
 said Starved old new status reports = reported_said _ _ old new status reports
 
@@ -56,22 +48,14 @@ said Starved old new status reports = reported_said _ _ old new status reports
 pub reports_of : (stop : Stop) (old new : SinkState) (status : ℕ) → (stop ≡ AtEnd Done → ⊥) → Reported (stop_line stop) (stop_status stop) old new status → Reports stop old new status
 reports_of (AtEnd Done) old new status never reported = absurd (never refl)
 reports_of (AtEnd (Damaged node kind)) old new status never reported = reported
-reports_of (AtEnd BadName) old new status never reported = reported
-reports_of (AtEnd (NotFound name)) old new status never reported = reported
-reports_of (AtEnd (KeyFile number)) old new status never reported = reported
-reports_of (AtEnd NotProtected) old new status never reported = reported
-reports_of (AtEnd Unbuilt) old new status never reported = reported
+reports_of (AtEnd (Refused why)) old new status never reported = reported
 reports_of (Failed event) old new status never reported = reported
 reports_of Starved old new status never reported = reported
 
 not_two_at : (ending : Ending) → ending_status ending ≡ 2 → ⊥
 not_two_at Done is = absurd (cc)
 not_two_at (Damaged node kind) is = absurd (cc)
-not_two_at BadName is = absurd (cc)
-not_two_at (NotFound name) is = absurd (cc)
-not_two_at (KeyFile number) is = absurd (cc)
-not_two_at NotProtected is = absurd (cc)
-not_two_at Unbuilt is = absurd (cc)
+not_two_at (Refused why) is = absurd (cc)
 
 -- no command ends with status 2
 pub not_two : (stop : Stop) → stop_status stop ≡ 2 → ⊥
@@ -87,26 +71,26 @@ status_of stop old new status (inl both) other = both.0
 status_of stop old new status (inr both) other = absurd (other both.0)
 
 module _ (es : List Event) (old new : World) where
-  pub host_rose : (stop : Stop) → Happened es stop old new → stop_status stop ≡ 4 → Rose old.host.faults new.host.faults
-  host_rose (AtEnd ending) happened is = absurd (omega (arith, is, ending_low ending))
-  host_rose (Failed (Answers answer)) happened is = rose_after old.host.faults happened.0.host.faults new.host.faults happened.1.host.calm happened.2.0.rose
-  host_rose (Failed (Draws word)) happened is = absurd (cc)
-  host_rose (Failed (Puts bytes)) happened is = absurd (cc)
-  host_rose Starved happened is = absurd (cc)
+  pub host_counted : (stop : Stop) → Happened es stop old new → stop_status stop ≡ 4 → new.host.faults ≡ counted old.host.faults
+  host_counted (AtEnd ending) happened is = absurd (omega (arith, is, ending_low ending))
+  host_counted (Failed (Answers answer)) happened is = once_after old.host.faults happened.0.host.faults new.host.faults happened.1.host.calm happened.2.0.once
+  host_counted (Failed (Draws word)) happened is = absurd (cc)
+  host_counted (Failed (Puts bytes)) happened is = absurd (cc)
+  host_counted Starved happened is = absurd (cc)
 
-  pub random_rose : (stop : Stop) → Happened es stop old new → stop_status stop ≡ 6 → Rose old.random.faults new.random.faults
-  random_rose (AtEnd ending) happened is = absurd (omega (arith, is, ending_low ending))
-  random_rose (Failed (Answers answer)) happened is = absurd (cc)
-  random_rose (Failed (Draws word)) happened is = rose_after old.random.faults happened.0.random.faults new.random.faults happened.1.random.calm happened.2.0.rose
-  random_rose (Failed (Puts bytes)) happened is = absurd (cc)
-  random_rose Starved happened is = absurd (cc)
+  pub random_counted : (stop : Stop) → Happened es stop old new → stop_status stop ≡ 6 → new.random.faults ≡ counted old.random.faults
+  random_counted (AtEnd ending) happened is = absurd (omega (arith, is, ending_low ending))
+  random_counted (Failed (Answers answer)) happened is = absurd (cc)
+  random_counted (Failed (Draws word)) happened is = once_after old.random.faults happened.0.random.faults new.random.faults happened.1.random.calm happened.2.0.once
+  random_counted (Failed (Puts bytes)) happened is = absurd (cc)
+  random_counted Starved happened is = absurd (cc)
 
-  pub out_rose : (stop : Stop) → Happened es stop old new → stop_status stop ≡ 7 → Rose old.out.faults new.out.faults
-  out_rose (AtEnd ending) happened is = absurd (omega (arith, is, ending_low ending))
-  out_rose (Failed (Answers answer)) happened is = absurd (cc)
-  out_rose (Failed (Draws word)) happened is = absurd (cc)
-  out_rose (Failed (Puts bytes)) happened is = rose_after old.out.faults happened.0.out.faults new.out.faults happened.1.out.calm happened.2.0.rose
-  out_rose Starved happened is = absurd (cc)
+  pub out_counted : (stop : Stop) → Happened es stop old new → stop_status stop ≡ 7 → new.out.faults ≡ counted old.out.faults
+  out_counted (AtEnd ending) happened is = absurd (omega (arith, is, ending_low ending))
+  out_counted (Failed (Answers answer)) happened is = absurd (cc)
+  out_counted (Failed (Draws word)) happened is = absurd (cc)
+  out_counted (Failed (Puts bytes)) happened is = once_after old.out.faults happened.0.out.faults new.out.faults happened.1.out.calm happened.2.0.once
+  out_counted Starved happened is = absurd (cc)
 
   -- a stop at which nothing failed
   pub all_passed : (stop : Stop) → Happened es stop old new → (stop_status stop ≤ 3) ⊎ (stop_status stop ≡ 5) → Passed es old new
@@ -117,10 +101,10 @@ module _ (es : List Event) (old new : World) where
   all_passed Starved happened calm = happened
 
   -- what failed is counted
-  pub none_failed : (event : Event) → Happened es (Failed event) old new → ¬ (Rose old.host.faults new.host.faults) → ¬ (Rose old.random.faults new.random.faults) → ¬ (Rose old.out.faults new.out.faults) → ⊥
-  none_failed (Answers answer) happened host random out = host (host_rose (Failed (Answers answer)) happened refl)
-  none_failed (Draws word) happened host random out = random (random_rose (Failed (Draws word)) happened refl)
-  none_failed (Puts bytes) happened host random out = out (out_rose (Failed (Puts bytes)) happened refl)
+  pub none_failed : (event : Event) → Happened es (Failed event) old new → new.host.faults ≢ counted old.host.faults → new.random.faults ≢ counted old.random.faults → new.out.faults ≢ counted old.out.faults → ⊥
+  none_failed (Answers answer) happened host random out = host (host_counted (Failed (Answers answer)) happened refl)
+  none_failed (Draws word) happened host random out = random (random_counted (Failed (Draws word)) happened refl)
+  none_failed (Puts bytes) happened host random out = out (out_counted (Failed (Puts bytes)) happened refl)
 
   -- the input is never touched
   pub input_kept : (stop : Stop) → Happened es stop old new → new.input ≡ old.input
@@ -172,11 +156,7 @@ reports_done ending old new status is reports = (subst (λ (e : Ending). Reports
 zero_end : (ending : Ending) → ending_status ending ≡ 0 → ending ≡ Done
 zero_end Done is = refl
 zero_end (Damaged node kind) is = absurd (cc)
-zero_end BadName is = absurd (cc)
-zero_end (NotFound name) is = absurd (cc)
-zero_end (KeyFile number) is = absurd (cc)
-zero_end NotProtected is = absurd (cc)
-zero_end Unbuilt is = absurd (cc)
+zero_end (Refused why) is = absurd (cc)
 
 zero_stop : (stop : Stop) → stop_status stop ≡ 0 → stop ≡ AtEnd Done
 zero_stop (AtEnd ending) is = ap AtEnd (zero_end ending is)

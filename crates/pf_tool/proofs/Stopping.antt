@@ -16,12 +16,8 @@ use Rattle.pf_tool.proofs.Composing.{files_kept, happened_honest, happened_then,
 -- no fault says that the work is done
 pub not_done : (fault : Fault) → fault_status fault ≡ 0 → ⊥
 not_done faults.NoCommand is = absurd (cc)
-not_done faults.BadName is = absurd (cc)
-not_done (faults.NotFound name) is = absurd (cc)
-not_done (faults.KeyFile number) is = absurd (cc)
-not_done faults.NotProtected is = absurd (cc)
+not_done (faults.Refused why) is = absurd (cc)
 not_done (faults.Damaged damage) is = absurd (cc)
-not_done faults.Unbuilt is = absurd (cc)
 not_done faults.Host is = absurd (cc)
 not_done faults.Stream is = absurd (cc)
 not_done faults.Memory is = absurd (cc)

@@ -2,7 +2,7 @@
 use Rattle.std.proofs.Common.{◌≡◌, ℕ, ◌+◌, ◌≤◌, min, List, [], ◌∷◌, ◌++◌, length, take, Option, Result, Ok, Err, ap, ◌∙◌, sym, subst, arith, append_assoc}
 use Rattle.std.proofs.lemmas.List.{take_min, take-append-le}
 use Rattle.std.proofs.Math.Seq.{take-append-add}
-use Rattle.pf_io.specs.Counts.{Rose, HasCause}
+use Rattle.pf_io.specs.Counts.{HasCause, counted}
 use Rattle.pf_io.specs.Host.{Both, IsMore}
 use Rattle.pf_io.specs.Streams.{SinkState, Takes, TakesFront}
 use Rattle.pf_io.proofs.Telling.{both_then, both_weaker}
@@ -38,9 +38,9 @@ told_front x y o p q first second = both_then (IsMore x) (TakesFront y) (TakesFr
 pub front_then : (x y : List ℕ) (o p : Option (List ℕ)) → Both o p (TakesFront x) → Both o p (TakesFront (x ++ y))
 front_then x y o p front = both_weaker (TakesFront x) (TakesFront (x ++ y)) o p front (front_of_both x y)
 
--- a count that rose after it had stayed
-pub rose_after : (before mid now : ℕ) → mid ≡ before → Rose mid now → Rose before now
-rose_after before mid now calm rose = subst (λ (n : ℕ). Rose n now) calm rose
+-- a fault that is counted after the count had stayed
+pub once_after : (before mid now : ℕ) → mid ≡ before → now ≡ counted mid → now ≡ counted before
+once_after before mid now calm once = once ∙ ap counted calm
 
 pub wrote_both : (x y : List ℕ) (old mid new : SinkState) → WroteAll x old mid → WroteAll y mid new → WroteAll (x ++ y) old new
 wrote_both x y old mid new first second = record {
@@ -52,17 +52,17 @@ wrote_both x y old mid new first second = record {
 pub failed_second : (x y : List ℕ) (old mid new : SinkState) → WroteAll x old mid → SinkFailed y mid new → SinkFailed (x ++ y) old new
 failed_second x y old mid new first second = record {
   told = told_front x y old.bytes mid.bytes new.bytes first.told second.told;
-  rose = rose_after old.faults mid.faults new.faults first.calm second.rose;
+  once = once_after old.faults mid.faults new.faults first.calm second.once;
 }
 
 -- the first did
 pub failed_first : (x y : List ℕ) (old new : SinkState) → SinkFailed x old new → SinkFailed (x ++ y) old new
-failed_first x y old new failed = record { told = front_then x y old.bytes new.bytes failed.told; rose = failed.rose }
+failed_first x y old new failed = record { told = front_then x y old.bytes new.bytes failed.told; once = failed.once }
 
 -- one write
 pub written_by : {T E : Type 0} (r : Result T E) (bytes : List ℕ) (old new : SinkState) → HasCause old.faults new.faults r → Takes r bytes old.bytes new.bytes → Written r bytes old new
 written_by (Ok v) bytes old new cause takes = record { told = takes; calm = cause.still }
-written_by (Err e) bytes old new cause takes = record { told = takes; rose = cause.rose }
+written_by (Err e) bytes old new cause takes = record { told = takes; once = cause.once }
 
 pub written_second : {T E : Type 0} (r : Result T E) (x y : List ℕ) (old mid new : SinkState) → WroteAll x old mid → Written r y mid new → Written r (x ++ y) old new
 written_second (Ok v) x y old mid new first second = wrote_both x y old mid new first second

@@ -14,7 +14,7 @@ use Rattle.pf_io.specs.Disk.{Name, Files}
 use Rattle.pf_io.specs.Host.{LengthWas, Gave}
 use Rattle.pf_io.specs.Names.{IsTarget}
 use Rattle.pf_tool.specs.Events.{Event, Answers, Puts}
-use Rattle.pf_tool.specs.Endings.{Ending, Done, Damaged, BadName, NotFound, KeyFile, NotProtected, Unbuilt}
+use Rattle.pf_tool.specs.Endings.{Ending, Done, Damaged, Refused, BadName, NotFound, KeyFile, NotProtected, Unbuilt}
 use Rattle.pf_tool.specs.Keys.{IsKeyOf, KeyRefused, KeyOver, key_events}
 
 -- node 0 is whole, of version 1.0, and has no update pending
@@ -25,9 +25,9 @@ pub record IsOpenable (node : List ℕ) : Type 0 where
 
 -- why nothing is put out of a file whose node 0 is this; fewer than 8 bytes are no magic
 pub data NodeRefused (user node : List ℕ) (ending : Ending) : Type 0 where
-  not_protected : take 8 node ≢ magic → ending ≡ NotProtected → NodeRefused user node ending
+  not_protected : take 8 node ≢ magic → ending ≡ Refused NotProtected → NodeRefused user node ending
   node_short : take 8 node ≡ magic → length node < 4096 → ending ≡ Damaged 0 Short → NodeRefused user node ending
-  node_unbuilt : take 8 node ≡ magic → length node ≡ 4096 → (flag_at node ≢ 0) ⊎ ¬ (IsPlain node) → ending ≡ Unbuilt → NodeRefused user node ending
+  node_unbuilt : take 8 node ≡ magic → length node ≡ 4096 → (flag_at node ≢ 0) ⊎ ¬ (IsPlain node) → ending ≡ Refused Unbuilt → NodeRefused user node ending
   node_damaged : (kind : Kind) → IsOpenable node → IsOpenFault user node kind → ending ≡ Damaged 0 kind → NodeRefused user node ending
 
 -- all pieces are there, or one has a damaged node
@@ -48,11 +48,7 @@ node_events input file from to = map (λ k. Answers (Gave input (4096 * k) 4096 
 abbrev pub last_events : Name → List ℕ → ℕ → Ending → List Event
 last_events input file at Done = []
 last_events input file at (Damaged node kind) = node_events input file (node_count at) (node + 1)
-last_events input file at BadName = []
-last_events input file at (NotFound name) = []
-last_events input file at (KeyFile number) = []
-last_events input file at NotProtected = []
-last_events input file at Unbuilt = []
+last_events input file at (Refused why) = []
 
 -- The pieces from a place on: for each, the nodes that the content up to its end has more than that before it, in rising
 -- number, and then the piece; at a damage those up to the damaged node.
@@ -72,8 +68,8 @@ pub record PiecesLead (input : Name) (node : List ℕ) (secret : MetaSecret) (ev
 
 -- what follows the reading of the key: whether the file is there, its node 0, and the pieces
 pub data Unseals (user : List ℕ) (input : Name) (events : List Event) (ending : Ending) : Type 0 where
-  input_unnamed : ¬ (IsTarget input) → events ≡ [] → ending ≡ BadName → Unseals user input events ending
-  input_absent : IsTarget input → events ≡ Answers (LengthWas input None) ∷ [] → ending ≡ NotFound input → Unseals user input events ending
+  input_unnamed : ¬ (IsTarget input) → events ≡ [] → ending ≡ Refused BadName → Unseals user input events ending
+  input_absent : IsTarget input → events ≡ Answers (LengthWas input None) ∷ [] → ending ≡ Refused (NotFound input) → Unseals user input events ending
   input_read : (size : ℕ) (file : List ℕ) (pieces : List (List ℕ)) → IsTarget input → ComesTo user file pieces ending
       → events ≡ Answers (LengthWas input (Some size)) ∷ Answers (Gave input 0 4096 (block_of file 0)) ∷ piece_events input file 0 pieces ending → Unseals user input events ending
 
@@ -85,6 +81,6 @@ pub data DecryptLeads (key input : Name) (events : List Event) (ending : Ending)
 -- the pieces and the ending that files give
 pub data DecryptOver (key input : Name) (files : Files) (pieces : List (List ℕ)) (ending : Ending) : Type 0 where
   decrypt_no_key : KeyOver files key (Err ending) → pieces ≡ [] → DecryptOver key input files pieces ending
-  decrypt_unnamed : (user : List ℕ) → KeyOver files key (Ok user) → ¬ (IsTarget input) → pieces ≡ [] → ending ≡ BadName → DecryptOver key input files pieces ending
-  decrypt_no_input : (user : List ℕ) → KeyOver files key (Ok user) → IsTarget input → files input ≡ None → pieces ≡ [] → ending ≡ NotFound input → DecryptOver key input files pieces ending
+  decrypt_unnamed : (user : List ℕ) → KeyOver files key (Ok user) → ¬ (IsTarget input) → pieces ≡ [] → ending ≡ Refused BadName → DecryptOver key input files pieces ending
+  decrypt_no_input : (user : List ℕ) → KeyOver files key (Ok user) → IsTarget input → files input ≡ None → pieces ≡ [] → ending ≡ Refused (NotFound input) → DecryptOver key input files pieces ending
   decrypt_file : (user file : List ℕ) → KeyOver files key (Ok user) → IsTarget input → files input ≡ Some file → ComesTo user file pieces ending → DecryptOver key input files pieces ending

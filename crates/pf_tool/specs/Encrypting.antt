@@ -8,7 +8,7 @@ use Rattle.pf_io.specs.Disk.{Name, Disk, Files, reading}
 use Rattle.pf_io.specs.Host.{HostState, Answer, LengthWas, Gave, Wrote, Synced, Made, Swapped, contents}
 use Rattle.pf_io.specs.Names.{IsName, IsTarget, side_of, side_recovery_of}
 use Rattle.pf_tool.specs.Events.{Event, Answers, Draws, words_in}
-use Rattle.pf_tool.specs.Endings.{Ending, Done, BadName, NotFound, Unbuilt, Stop}
+use Rattle.pf_tool.specs.Endings.{Ending, Done, Refused, BadName, NotFound, Unbuilt, Stop}
 use Rattle.pf_tool.specs.Keys.{IsKeyOf, KeyRefused, KeyOver, key_events}
 use Rattle.pf_tool.specs.SideFiles.{LeavesBySide}
 
@@ -43,11 +43,11 @@ read_events user input output size first second bytes =
 
 -- what follows the reading of the key
 pub data Seals (user : List ℕ) (input output : Name) (events : List Event) (ending : Ending) : Type 0 where
-  output_unnamed : ¬ (IsTarget output) → events ≡ [] → ending ≡ BadName → Seals user input output events ending
-  input_unfit : IsTarget output → ¬ (IsInput input output) → events ≡ [] → ending ≡ BadName → Seals user input output events ending
-  input_absent : IsTarget output → IsInput input output → events ≡ Answers (LengthWas input None) ∷ [] → ending ≡ NotFound input → Seals user input output events ending
+  output_unnamed : ¬ (IsTarget output) → events ≡ [] → ending ≡ Refused BadName → Seals user input output events ending
+  input_unfit : IsTarget output → ¬ (IsInput input output) → events ≡ [] → ending ≡ Refused BadName → Seals user input output events ending
+  input_absent : IsTarget output → IsInput input output → events ≡ Answers (LengthWas input None) ∷ [] → ending ≡ Refused (NotFound input) → Seals user input output events ending
   input_large : (size : ℕ) (first second bytes : List ℕ) → IsTarget output → IsInput input output → MOST_FIRST < length bytes
-      → events ≡ read_events user input output size first second bytes → ending ≡ Unbuilt → Seals user input output events ending
+      → events ≡ read_events user input output size first second bytes → ending ≡ Refused Unbuilt → Seals user input output events ending
   published : (size : ℕ) (first second third fourth content : List ℕ) → IsTarget output → IsInput input output → length content ≤ MOST_FIRST
       → events ≡ read_events user input output size first second content ++ published_events user output third fourth content → ending ≡ Done → Seals user input output events ending
 
@@ -99,9 +99,9 @@ pub record GaveSealed (key input output : Name) (these : List Answer) : Type 0 w
 -- The ending that files give. Where the work is done, what stands at the output is said by `EncryptLeaves`.
 pub data EncryptOver (key input output : Name) (files : Files) (ending : Ending) : Type 0 where
   over_no_key : KeyOver files key (Err ending) → EncryptOver key input output files ending
-  over_unfit : (user : List ℕ) → KeyOver files key (Ok user) → ¬ (IsTarget output) ⊎ ¬ (IsInput input output) → ending ≡ BadName → EncryptOver key input output files ending
-  over_no_input : (user : List ℕ) → KeyOver files key (Ok user) → IsTarget output → IsInput input output → files input ≡ None → ending ≡ NotFound input → EncryptOver key input output files ending
-  over_large : (user content : List ℕ) → KeyOver files key (Ok user) → IsTarget output → IsInput input output → files input ≡ Some content → MOST_FIRST < length content → ending ≡ Unbuilt
+  over_unfit : (user : List ℕ) → KeyOver files key (Ok user) → ¬ (IsTarget output) ⊎ ¬ (IsInput input output) → ending ≡ Refused BadName → EncryptOver key input output files ending
+  over_no_input : (user : List ℕ) → KeyOver files key (Ok user) → IsTarget output → IsInput input output → files input ≡ None → ending ≡ Refused (NotFound input) → EncryptOver key input output files ending
+  over_large : (user content : List ℕ) → KeyOver files key (Ok user) → IsTarget output → IsInput input output → files input ≡ Some content → MOST_FIRST < length content → ending ≡ Refused Unbuilt
       → EncryptOver key input output files ending
   over_done : (user content : List ℕ) → KeyOver files key (Ok user) → IsTarget output → IsInput input output → files input ≡ Some content → length content ≤ MOST_FIRST → ending ≡ Done
       → EncryptOver key input output files ending

@@ -6,15 +6,19 @@ use Rattle.node_layout.specs.declared.damage.Kind.TheVariants as kinds
 use Rattle.pf_io.specs.Disk.{Name}
 use Rattle.pf_tool.specs.Events.{Event, Answers, Draws, Puts}
 
+-- why a command is refused
+pub data Refusal : Type 0 where
+  BadName : Refusal
+  NotFound : (name : Name) → Refusal
+  KeyFile : (number : ℕ) → Refusal
+  NotProtected : Refusal
+  Unbuilt : Refusal
+
 -- what the events of a command lead to: its work is done, or a damage or a refusal by name
 pub data Ending : Type 0 where
   Done : Ending
   Damaged : (node : ℕ) → (kind : Kind) → Ending
-  BadName : Ending
-  NotFound : (name : Name) → Ending
-  KeyFile : (number : ℕ) → Ending
-  NotProtected : Ending
-  Unbuilt : Ending
+  Refused : (why : Refusal) → Ending
 
 -- Where a run stops: at an ending, in a call that failed and was to give this event, or for want of memory.
 pub data Stop : Type 0 where
@@ -38,24 +42,24 @@ kind_word kinds.Tag = codes "tag"
 kind_word kinds.Text = codes "text"
 kind_word kinds.Log = codes "log"
 
+-- the text of each refusal
+abbrev pub refusal_text : Refusal → List ℕ
+refusal_text BadName = codes "refused bad name"
+refusal_text (NotFound name) = codes "refused not found " ++ name
+refusal_text (KeyFile number) = codes "refused key file " ++ decimal number
+refusal_text NotProtected = codes "refused not protected"
+refusal_text Unbuilt = codes "refused unbuilt"
+
 -- what an ending writes to the log
 abbrev pub ending_line : Ending → List ℕ
 ending_line Done = []
 ending_line (Damaged node kind) = line (codes "damaged node " ++ decimal node ++ codes " " ++ kind_word kind)
-ending_line BadName = line (codes "refused bad name")
-ending_line (NotFound name) = line (codes "refused not found " ++ name)
-ending_line (KeyFile number) = line (codes "refused key file " ++ decimal number)
-ending_line NotProtected = line (codes "refused not protected")
-ending_line Unbuilt = line (codes "refused unbuilt")
+ending_line (Refused why) = line (refusal_text why)
 
 abbrev pub ending_status : Ending → ℕ
 ending_status Done = 0
 ending_status (Damaged node kind) = 1
-ending_status BadName = 3
-ending_status (NotFound name) = 3
-ending_status (KeyFile number) = 3
-ending_status NotProtected = 3
-ending_status Unbuilt = 3
+ending_status (Refused why) = 3
 
 abbrev pub no_command_line : List ℕ
 no_command_line = line (codes "usage: unbuilt words")

@@ -1,7 +1,7 @@
 -- What happened in a run or in a part of it: these events came, in order, and nothing else.
 use Rattle.std.specs.Prelude.{◌≡◌, ℕ, List, [], ◌∷◌, ◌++◌}
 use Rattle.std.specs.List.{AllByRecursion, concat}
-use Rattle.pf_io.specs.Counts.{Rose}
+use Rattle.pf_io.specs.Counts.{counted}
 use Rattle.pf_io.specs.Host.{Answer, HostState, Both, IsMore, OnHonest}
 use Rattle.pf_io.specs.Answered.{IsAnswerOf}
 use Rattle.pf_io.specs.Streams.{SinkState, TakesFront}
@@ -23,7 +23,7 @@ pub record HostPassed (these : List Answer) (old new : HostState) : Type 0 where
 -- a call of the host failed that was to give this answer
 pub record HostFailed (answer : Answer) (old new : HostState) : Type 0 where
   pub told : new.given ≡ old.given
-  pub rose : Rose old.faults new.faults
+  pub once : new.faults ≡ counted old.faults
   pub reads : new.reads ≡ reads_after (answer ∷ []) old.reads
   pub writes : new.writes ≡ writes_after (answer ∷ []) old.writes
 
@@ -38,7 +38,7 @@ pub record WordsPassed (words : List (List ℕ)) (old new : WordsState) : Type 0
 
 pub record WordFailed (old new : WordsState) : Type 0 where
   pub told : new.left ≡ old.left
-  pub rose : Rose old.faults new.faults
+  pub once : new.faults ≡ counted old.faults
 
 -- the output took these pieces
 pub record OutPassed (pieces : List (List ℕ)) (old new : SinkState) : Type 0 where
@@ -49,7 +49,7 @@ pub record OutPassed (pieces : List (List ℕ)) (old new : SinkState) : Type 0 w
 -- it failed in a piece, and took a front of it
 pub record OutFailed (piece : List ℕ) (old new : SinkState) : Type 0 where
   pub told : Both old.bytes new.bytes (TakesFront piece)
-  pub rose : Rose old.faults new.faults
+  pub once : new.faults ≡ counted old.faults
 
 -- these events came, and nothing failed
 pub record Passed (events : List Event) (old new : World) : Type 0 where

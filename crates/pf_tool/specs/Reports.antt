@@ -1,7 +1,7 @@
 -- What is said on the log, and the status.
 use Rattle.std.specs.Prelude.{◌≡◌, ℕ, List, Result, Ok, Err}
 use Rattle.pf_io.specs.Host.{Both, IsMore}
-use Rattle.pf_io.specs.Counts.{Rose}
+use Rattle.pf_io.specs.Counts.{counted}
 use Rattle.pf_io.specs.Streams.{SinkState, TakesFront}
 use Rattle.pf_tool.specs.Endings.{Done, Stop, AtEnd, stop_line, stop_status}
 
@@ -13,7 +13,7 @@ pub record WroteAll (bytes : List ℕ) (old new : SinkState) : Type 0 where
 -- it failed, and took a front of them
 pub record SinkFailed (bytes : List ℕ) (old new : SinkState) : Type 0 where
   pub told : Both old.bytes new.bytes (TakesFront bytes)
-  pub rose : Rose old.faults new.faults
+  pub once : new.faults ≡ counted old.faults
 
 -- bytes were written, or the sink failed in them
 abbrev pub Written : {T E : Type 0} → Result T E → List ℕ → SinkState → SinkState → Type 0

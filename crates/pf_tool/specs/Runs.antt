@@ -1,7 +1,7 @@
 -- What a run of the program comes to, by what its words ask for.
 use Rattle.std.specs.Prelude.{◌≡◌, ◌≢◌, ◌⊎◌, ℕ, ◌≤◌, List, [], Some}
 use Rattle.std.specs.List.{concat}
-use Rattle.pf_io.specs.Counts.{Rose}
+use Rattle.pf_io.specs.Counts.{counted}
 use Rattle.pf_io.specs.Disk.{Name, Files, Disk, Image, IsImageAt}
 use Rattle.pf_io.specs.Host.{Answer, HostState, Both, OnDisk, files_of}
 use Rattle.pf_io.specs.Moments.{Ran}
@@ -53,11 +53,11 @@ pub record Calm (old new : World) : Type 0 where
   pub log : new.log.faults ≡ old.log.faults
   pub random : new.random.faults ≡ old.random.faults
 
--- which count rose
+-- which count rose, and by one
 pub record Causes (old new : World) (status : ℕ) : Type 0 where
-  pub host_fault : status ≡ 4 → Rose old.host.faults new.host.faults
-  pub random_fault : status ≡ 6 → Rose old.random.faults new.random.faults
-  pub stream_fault : status ≡ 7 → Rose old.out.faults new.out.faults ⊎ Rose old.log.faults new.log.faults
+  pub host_fault : status ≡ 4 → new.host.faults ≡ counted old.host.faults
+  pub random_fault : status ≡ 6 → new.random.faults ≡ counted old.random.faults
+  pub stream_fault : status ≡ 7 → (new.out.faults ≡ counted old.out.faults) ⊎ (new.log.faults ≡ counted old.log.faults)
   pub calm : (status ≤ 3) ⊎ (status ≡ 5) → Calm old new
   pub most : status ≤ 7
 
@@ -77,12 +77,12 @@ abbrev pub Decided : Request → World → World → ℕ → Type 0
 Decided request old new status = (events : List Event) (ending : Ending) → Leads request events ending → WereTold (answers_in events) old.host new.host → (status ≤ 3) ⊎ (ending ≢ Done)
     → Reports (AtEnd ending) old.log new.log status
 
--- no count of faults rose, and none stands at its last value
-pub record NoneRose (old new : World) : Type 0 where
-  pub host : ¬ (Rose old.host.faults new.host.faults)
-  pub out : ¬ (Rose old.out.faults new.out.faults)
-  pub log : ¬ (Rose old.log.faults new.log.faults)
-  pub random : ¬ (Rose old.random.faults new.random.faults)
+-- no fault was counted, and no count stands at its last value
+pub record NoneCounted (old new : World) : Type 0 where
+  pub host : new.host.faults ≢ counted old.host.faults
+  pub out : new.out.faults ≢ counted old.out.faults
+  pub log : new.log.faults ≢ counted old.log.faults
+  pub random : new.random.faults ≢ counted old.random.faults
 
 -- What files give is written and said. Or there was no memory, and whatever they give, the output took a front of it.
 pub data Honestly (request : Request) (files : Files) (old new : World) (status : ℕ) : Type 0 where
@@ -92,7 +92,7 @@ pub data Honestly (request : Request) (files : Files) (old new : World) (status 
       → Honestly request files old new status
 
 abbrev pub Honest : Request → World → World → ℕ → Type 0
-Honest request old new status = (files : Files) → files_of old.host ≡ Some files → NoneRose old new → Honestly request files old new status
+Honest request old new status = (files : Files) → files_of old.host ≡ Some files → NoneCounted old new → Honestly request files old new status
 
 -- files give one output and one ending
 abbrev pub OneOver : Type 0
@@ -100,7 +100,7 @@ OneOver = (request : Request) (files : Files) (pieces others : List (List ℕ)) 
 
 -- the output may hold a new file: the work is done, or the host failed
 abbrev pub MayBeNew : World → World → ℕ → Type 0
-MayBeNew old new status = (status ≡ 0) ⊎ Rose old.host.faults new.host.faults
+MayBeNew old new status = (status ≡ 0) ⊎ (new.host.faults ≡ counted old.host.faults)
 
 -- Every name but the output's and its side file's is as before. The output is as before, or where it may be new it stands for
 -- the input under the key, under some nonce.

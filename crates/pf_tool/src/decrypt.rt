@@ -12,6 +12,7 @@ ghost use Rattle.pf_tool.specs.Unsealing.{Refuses, ReadsNode};
 use crate::fault::Fault;
 use crate::key::read_key;
 use crate::pieces::write_pieces;
+use crate::why::Why;
 use crate::words::Decrypt;
 use node_layout::{Damage, Kind, MetaPlain, MetaSecret, PlainFault, open_meta};
 use pf_io::{Host, Sink, is_target};
@@ -41,17 +42,17 @@ fn check_node(node: &[u8; 4096], given: usize) -> Result<(), Fault<'static>>
     ensures refused { IfErr result (λ fault. (user : List ℕ) → Refuses (NodeRefused user (take given node.now)) fault) }
 {
     if given < 8 || !has_magic(node) {
-        return Err(Fault::NotProtected);
+        return Err(Fault::Refused(Why::NotProtected));
     }
     if given < 4096 {
         return Err(damaged(Kind::Short));
     }
     if node[58] != 0 {
-        return Err(Fault::Unbuilt);
+        return Err(Fault::Refused(Why::Unbuilt));
     }
     match MetaPlain::read(node) {
         Ok(_) => Ok(()),
-        Err(_) => Err(Fault::Unbuilt),
+        Err(_) => Err(Fault::Refused(Why::Unbuilt)),
     }
 }
 
@@ -63,10 +64,10 @@ fn read_node<'a, H: Host>(host: &mut H, name: &'a str) -> Result<[u8; 4096], Fau
     ensures refused { IfErr result (λ fault. (user : List ℕ) (world : World) → Falls (Unseals user name.now) (λ _ _. KeepsDisk) fault (with_host world (H.state host.old)) (with_host world (H.state host.new))) }
 {
     if !is_target(name) {
-        return Err(Fault::BadName);
+        return Err(Fault::Refused(Why::BadName));
     }
     let Some(_) = host.len(name)? else {
-        return Err(Fault::NotFound(name));
+        return Err(Fault::Refused(Why::NotFound(name)));
     };
     let mut node = [0; 4096];
     let given = host.read_at(name, 0, &mut node)?;

@@ -9,6 +9,7 @@ ghost use Rattle.pf_tool.specs.Making.{LeavesSealed};
 use crate::fault::Fault;
 use crate::key::read_key;
 use crate::side_file::{begin, publish};
+use crate::why::Why;
 use crate::words::Encrypt;
 use pf_io::{Host, Text, Words, is_name, is_target};
 use std::alloc::Global;
@@ -46,14 +47,14 @@ fn seal_input<'a, H: Host, R: Words>(
         (with_random (with_host world (H.state host.old)) (R.state random.old)) (with_random (with_host world (H.state host.new)) (R.state random.new)) }
 {
     let Some(_) = host.len(command.input)? else {
-        return Err(Fault::NotFound(command.input));
+        return Err(Fault::Refused(Why::NotFound(command.input)));
     };
     let side = Text::joined(alloc, command.output, ".new")?;
     begin(host, random, user, command.output, side.as_str())?;
     let mut bytes = [0; 3073];
     let given = host.read_at(command.input, 0, &mut bytes)?;
     if given > 3072 {
-        return Err(Fault::Unbuilt);
+        return Err(Fault::Refused(Why::Unbuilt));
     }
     publish(
         host,
@@ -77,7 +78,7 @@ pub(crate) fn encrypt<'a, H: Host, R: Words>(
 {
     let user = read_key(host, command.key)?;
     if !is_target(command.output) || !is_input(command.input, command.output) {
-        return Err(Fault::BadName);
+        return Err(Fault::Refused(Why::BadName));
     }
     seal_input(alloc, host, random, &user, command)
 }

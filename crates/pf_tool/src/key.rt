@@ -8,6 +8,7 @@ ghost use Rattle.pf_tool.specs.Outcomes.{Falls};
 ghost use Rattle.pf_tool.specs.Keys.{IsKeyOf, KeyRefused, key_events};
 
 use crate::fault::Fault;
+use crate::why::Why;
 use pf_io::{Host, is_name};
 
 /// Reads the 16 bytes of a key file.
@@ -19,18 +20,18 @@ pub(crate) fn read_key<'a, H: Host>(host: &mut H, name: &'a str) -> Result<[u8; 
     ensures refused { IfErr result (λ fault. (world : World) → Falls (KeyRefused name.now) (λ _ _. KeepsDisk) fault (with_host world (H.state host.old)) (with_host world (H.state host.new))) }
 {
     if !is_name(name) {
-        return Err(Fault::BadName);
+        return Err(Fault::Refused(Why::BadName));
     }
     let Some(length) = host.len(name)? else {
-        return Err(Fault::NotFound(name));
+        return Err(Fault::Refused(Why::NotFound(name)));
     };
     if length != 16 {
-        return Err(Fault::KeyFile(length));
+        return Err(Fault::Refused(Why::KeyFile(length)));
     }
     let mut user = [0; 16];
     let given = host.read_at(name, 0, &mut user)?;
     if given < 16 {
-        return Err(Fault::KeyFile(given as u64));
+        return Err(Fault::Refused(Why::KeyFile(given as u64)));
     }
     Ok(user)
 }

@@ -9,11 +9,13 @@ mod encrypt;
 mod encrypt_tests;
 mod fault;
 mod key;
+mod lines;
 mod pieces;
 mod run;
 mod side_file;
 #[cfg(test)]
 mod tests;
+mod why;
 mod words;
 
 use pf_io::{Bytes, DeviceWords, DiskHost, MemSource, StdSink};

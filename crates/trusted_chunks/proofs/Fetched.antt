@@ -15,7 +15,7 @@ use Rattle.trusted_chunks.specs.Reading.{host_part, NextIs, NoMemory, FetchEnds,
 use Rattle.trusted_chunks.specs.Fetching.{ChunkEnds}
 use Rattle.trusted_chunks.specs.declared.fault.ChunkFault.{ChunkFault}
 use Rattle.trusted_chunks.specs.declared.fault.ChunkFault.TheVariants as faults
-use Rattle.trusted_chunks.proofs.Asked.{counts_none, counts_then, cause_on}
+use Rattle.pf_io.proofs.Slices.{counts_none, counts_then, cause_on}
 
 pub kept_with_append : (xs ys : List (ℕ × List ℕ)) (kept : Kept) → kept_with (xs ++ ys) kept ≡ kept_with ys (kept_with xs kept)
 kept_with_append [] ys kept = refl

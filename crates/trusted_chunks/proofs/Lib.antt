@@ -2,7 +2,6 @@ mod Lists
 mod Copied
 mod Promoting
 mod Summing
-mod Asked
 mod TakenUp
 mod Fetched
 mod Fronts

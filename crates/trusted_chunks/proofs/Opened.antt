@@ -11,41 +11,17 @@ use Rattle.pf_io.specs.Answered.{Answered, IsAnswerOf}
 use Rattle.pf_io.proofs.Answering.{answered_length, answered_then}
 use Rattle.lru.proofs.Splits.{Contains-nil}
 use Rattle.trusted_chunks.specs.Chunks.{CHUNK, chunk, chunk_count}
-use Rattle.trusted_chunks.specs.State.{Kept, MOST_BYTES, FileState, IsSound}
-use Rattle.trusted_chunks.specs.Slices.{given_in_turn, AreWhole, IsTaken, CountsSlices}
+use Rattle.pf_io.specs.Slices.{MOST_BYTES, given_in_turn, AreWhole, IsTaken, CountsSlices}
+use Rattle.trusted_chunks.specs.State.{Kept, FileState, IsSound}
 use Rattle.trusted_chunks.specs.Taking.{Takes}
 use Rattle.trusted_chunks.specs.Opening.{IsStopped, IsStarved, OpenEnds, Opens, OpensFile, HonestOpen}
 use Rattle.trusted_chunks.specs.declared.fault.TrustFault.{TrustFault}
 use Rattle.trusted_chunks.specs.declared.fault.TrustFault.TheVariants as faults
 use Rattle.trusted_chunks.specs.declared.slices.Taken.{Taken}
-use Rattle.trusted_chunks.proofs.Asked.{counts_then}
-
--- the file was said to be there
-pub record LengthCame (name : Name) (old new : HostState) : Type 0 where
-  pub size : ℕ
-  pub answered : Answered (LengthWas name (Some size) ∷ []) old new
-  pub counts : CountsSlices 0 old new
-
-some_of : (o : Option ℕ) → is_some o ≡ true → (size : ℕ) × (o ≡ Some size)
-some_of (Some size) is = (size, refl)
-some_of None is = absurd (cc)
-
-pub length_came : (name : Name) (o : Option ℕ) (old new : HostState) → is_some o ≡ true → Both old.given new.given (IsMore (LengthWas name o ∷ [])) → KeepsFiles old new → OnHonest old (λ files. o ≡ length_of (files name)) → CountsNeither old new
-    → LengthCame name old new
-length_came name o old new is told files honest counts =
-    let some = some_of o is in
-    record {
-      size = some.0;
-      answered = subst (λ (x : Option ℕ). Answered (LengthWas name x ∷ []) old new) some.1 (answered_length name o old new told files honest);
-      counts = record { reads = let e = counts.reads in omega (arith, e); writes = counts.writes; widest = let e = counts.widest in omega (arith, e) };
-    }
+use Rattle.pf_io.proofs.Slices.{LengthCame, counts_then, length_in_turn, few_in_turn, there, not_there, taken_all}
 
 abbrev these_of : Name → ℕ → List (List ℕ) → List Answer
 these_of name size slices = LengthWas name (Some size) ∷ given_in_turn name 0 slices
-
-length_in_turn : (name : Name) (at : ℕ) (slices : List (List ℕ)) → length (given_in_turn name at slices) ≡ length slices
-length_in_turn name at [] = refl
-length_in_turn name at (slice ∷ slices) = let on = length_in_turn name (at + length slice) slices in omega (arith, on)
 
 -- want of memory before the first slice
 pub opens_starved : (name : Name) (sum : List ℕ) (old new : HostState) → LengthCame name old new → Opens (Err faults.Memory) name sum old new
@@ -150,41 +126,6 @@ sound_opened taken name file mid new takes size_is hashes_are none =
       one_each = long ∙ ap (λ (n : ℕ). chunk_count n) (sym (size_is ∙ summed.len_is));
       few = let no_one : length file.kept ≡ 0 = ap (λ (l : Kept). length l) none in omega (arith, no_one);
     }
-
--- slices that an honest host gave are its file's
-few_in_turn : (files : Files) (name : Name) (at : ℕ) (slices : List (List ℕ)) → AllByRecursion (IsAnswerOf files) (given_in_turn name at slices) → at ≤ length (contents (files name)) → at + length (concat slices) ≤ length (contents (files name))
-few_in_turn files name at [] all le = omega (arith, le)
-few_in_turn files name at (slice ∷ slices) all le =
-    let bytes = contents (files name) in
-    let short : length slice ≤ length bytes - at = omega (arith, ap (λ (l : List ℕ). length l) all.0, length-take CHUNK (drop at bytes), length-drop at bytes) in
-    let on = few_in_turn files name (at + length slice) slices all.1 (omega (arith, le, short)) in
-    omega (arith, on, length-append slice (concat slices))
-
-ended_at : (last bytes : List ℕ) → last ≡ take CHUNK bytes → length last < CHUNK → last ++ [] ≡ bytes
-ended_at last bytes is short = append-nil last ∙ is ∙ take_all CHUNK bytes (omega (arith, short, ap (λ (l : List ℕ). length l) is, length-take CHUNK bytes))
-
-all_in_turn : (files : Files) (name : Name) (at : ℕ) (whole : List (List ℕ)) (last : List ℕ) → AreWhole whole → length last < CHUNK → AllByRecursion (IsAnswerOf files) (given_in_turn name at (whole ++ last ∷ []))
-    → concat (whole ++ last ∷ []) ≡ drop at (contents (files name))
-all_in_turn files name at [] last are short all = ended_at last (drop at (contents (files name))) all.0 short
-all_in_turn files name at (slice ∷ whole) last are short all =
-    let bytes = contents (files name) in
-    let place : drop (at + length slice) bytes ≡ drop CHUNK (drop at bytes) = ap (λ (k : ℕ). drop (at + k) bytes) are.0 ∙ ap (λ (k : ℕ). drop k bytes) (omega arith) ∙ sym (drop-drop CHUNK at bytes) in
-    ap (λ (l : List ℕ). slice ++ l) (all_in_turn files name (at + length slice) whole last are.1 short all.1 ∙ place) ∙ ap (λ (l : List ℕ). l ++ drop CHUNK (drop at bytes)) all.0 ∙ take-append-drop CHUNK (drop at bytes)
-
--- a file that was said to be there is
-there : (o : Option (List ℕ)) (size : ℕ) → Some size ≡ length_of o → o ≡ Some (contents o)
-there (Some bytes) size is = refl
-there None size is = absurd (cc)
-
-not_there : (o : Option (List ℕ)) → None ≡ length_of o → o ≡ None
-not_there (Some bytes) is = absurd (cc)
-not_there None is = refl
-
--- over an honest host the bytes taken are those of its file
-taken_all : (files : Files) (name : Name) (these : List Answer) (bytes : List ℕ) → IsTaken name these bytes → AllByRecursion (IsAnswerOf files) these → (files name ≡ Some bytes)
-taken_all files name these bytes taken all =
-    let given = subst (λ (l : List Answer). AllByRecursion (IsAnswerOf files) l) taken.asked all in
-    there (files name) taken.size given.0 ∙ ap (λ (b : List ℕ). Some b) (sym (taken.bytes_are ∙ all_in_turn files name 0 taken.whole taken.last taken.are_whole taken.ended given.1))
 
 opens_file : (r : Result FileState TrustFault) (name : Name) (sum : List ℕ) (these : List Answer) (files : Files) → OpenEnds r name sum these → AllByRecursion (IsAnswerOf files) these → OpensFile r sum (files name)
 opens_file (Ok file) name sum these files opened all = rw (taken_all files name these opened.bytes opened.taken all) (opened.holds, opened.sum_is, opened.not_large)

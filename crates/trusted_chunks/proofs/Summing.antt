@@ -5,9 +5,7 @@ use Rattle.std.proofs.lemmas.List.{take_all, take-append-le, map-append, append-
 use Rattle.std.proofs.lemmas.List.Folds.{concat-append}
 use Rattle.std.specs.List.{range_with_len, concat}
 use Rattle.sha2.specs.Sha256.{sha256}
-use Rattle.pf_io.specs.Host.{Name, Answer, Gave}
 use Rattle.trusted_chunks.specs.Chunks.{CHUNK, chunk, chunk_count, sums_of}
-use Rattle.trusted_chunks.specs.Slices.{given_in_turn, AreWhole}
 use Rattle.trusted_chunks.proofs.Lists.{drop_join}
 
 -- numbers up to one, and then from there on
@@ -55,17 +53,3 @@ pub sums_one : (bytes : List ℕ) → 0 < length bytes → length bytes ≤ CHUN
 sums_one bytes some short =
     let count : chunk_count (length bytes) ≡ 1 = omega (arith, some, short) in
     ap (λ (n : ℕ). map (λ c. sha256 (chunk bytes c)) (range_with_len 0 n)) count ∙ ap (λ (l : List ℕ). sha256 l ∷ []) (take_all CHUNK bytes short)
-
-pub whole_length : (slices : List (List ℕ)) → AreWhole slices → length (concat slices) ≡ CHUNK * length slices
-whole_length [] whole = refl
-whole_length (slice ∷ slices) whole = let on = whole_length slices whole.1 in let first = whole.0 in omega (arith, on, first, length-append slice (concat slices))
-
--- slices that came behind others
-pub in_turn_append : (name : Name) (at : ℕ) (xs ys : List (List ℕ)) → given_in_turn name at (xs ++ ys) ≡ given_in_turn name at xs ++ given_in_turn name (at + length (concat xs)) ys
-in_turn_append name at [] ys = ap (λ (k : ℕ). given_in_turn name k ys) (omega arith)
-in_turn_append name at (x ∷ xs) ys =
-    let place : at + length x + length (concat xs) ≡ at + length (x ++ concat xs) = omega (arith, length-append x (concat xs)) in
-    ap (λ (l : List Answer). Gave name at CHUNK x ∷ l) (in_turn_append name (at + length x) xs ys ∙ ap (λ (k : ℕ). given_in_turn name (at + length x) xs ++ given_in_turn name k ys) place)
-
-pub concat_last : (whole : List (List ℕ)) (last : List ℕ) → concat (whole ++ last ∷ []) ≡ concat whole ++ last
-concat_last whole last = concat-append whole (last ∷ []) ∙ ap (λ (l : List ℕ). concat whole ++ l) (append-nil last)

@@ -13,15 +13,14 @@ use Rattle.pf_io.proofs.Unchanged.{kept_none, kept_then}
 use Rattle.std.proofs.lemmas.List.{append-nil}
 use Rattle.lru.proofs.Splits.{all_both}
 use Rattle.trusted_chunks.specs.Chunks.{CHUNK, sums_of}
-use Rattle.trusted_chunks.specs.State.{MOST_BYTES}
-use Rattle.trusted_chunks.specs.Slices.{given_in_turn, AreWhole, CountsSlices, SliceCame}
+use Rattle.pf_io.specs.Slices.{MOST_BYTES, given_in_turn, AreWhole, CountsSlices, SliceCame}
 use Rattle.trusted_chunks.specs.Opening.{host_part}
 use Rattle.trusted_chunks.specs.Taking.{SliceTaken, SliceEnds, Takes}
 use Rattle.trusted_chunks.specs.declared.fault.TrustFault.{TrustFault}
 use Rattle.trusted_chunks.specs.declared.fault.TrustFault.TheVariants as faults
 use Rattle.trusted_chunks.specs.declared.slices.Taken.{Taken}
-use Rattle.trusted_chunks.proofs.Asked.{counts_none, counts_then, cause_on}
-use Rattle.trusted_chunks.proofs.Summing.{sums_append, whole_length, in_turn_append, concat_last}
+use Rattle.pf_io.proofs.Slices.{counts_none, counts_then, cause_on, whole_length, in_turn_append, concat_last}
+use Rattle.trusted_chunks.proofs.Summing.{sums_append}
 
 -- after some whole slices
 pub record TakenTo (name : Name) (len : ℕ) (hashes : List (List ℕ)) (hasher : Sha256) (old new : HostState) : Type 0 where

@@ -3,7 +3,7 @@ use Rattle.std.specs.Prelude.{◌≡◌, ◌≢◌, ◌*◌, ℕ, List, [], slic
 use Rattle.sha2.specs.Sha256.{sha256}
 use Rattle.pf_io.specs.Host.{Name, HostState}
 use Rattle.trusted_chunks.specs.Chunks.{CHUNK}
-use Rattle.trusted_chunks.specs.Slices.{SliceCame, NoSliceCame}
+use Rattle.pf_io.specs.Slices.{SliceCame, NoSliceCame}
 use Rattle.trusted_chunks.specs.declared.fault.ChunkFault.{ChunkFault}
 use Rattle.trusted_chunks.specs.declared.fault.ChunkFault.TheVariants as faults
 

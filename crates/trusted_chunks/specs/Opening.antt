@@ -4,8 +4,8 @@ use Rattle.std.specs.List.{concat}
 use Rattle.sha2.specs.Sha256.{sha256}
 use Rattle.pf_io.specs.Host.{Name, Answer, LengthWas, HostState, OnHonest}
 use Rattle.pf_io.specs.Answered.{Answered}
-use Rattle.trusted_chunks.specs.State.{FileState, Holds, MOST_BYTES}
-use Rattle.trusted_chunks.specs.Slices.{IsTaken, CameInTurn, CountsSlices}
+use Rattle.pf_io.specs.Slices.{MOST_BYTES, IsTaken, CameInTurn, CountsSlices}
+use Rattle.trusted_chunks.specs.State.{FileState, Holds}
 use Rattle.trusted_chunks.specs.declared.fault.TrustFault.{TrustFault}
 use Rattle.trusted_chunks.specs.declared.fault.TrustFault.TheVariants as faults
 

@@ -7,7 +7,8 @@ use Rattle.pf_io.specs.Answered.{Answered, Came}
 use Rattle.trusted_chunks.specs.Chunks.{CHUNK, NoAccident}
 use Rattle.trusted_chunks.specs.State.{Kept, FileState, Holds, hash_at}
 use Rattle.trusted_chunks.specs.Kept.{touched, kept_at, missing_of, used, kept_with, joined, numbers_of}
-use Rattle.trusted_chunks.specs.Slices.{chunks_given, chunk_answer, CountsSlices}
+use Rattle.pf_io.specs.Slices.{CountsSlices}
+use Rattle.trusted_chunks.specs.Slices.{chunks_given, chunk_answer}
 use Rattle.trusted_chunks.specs.declared.fault.ChunkFault.{ChunkFault}
 use Rattle.trusted_chunks.specs.declared.fault.ChunkFault.TheVariants as faults
 

@@ -1,7 +1,8 @@
 -- What contracts see of a trusted file.
-use Rattle.std.specs.Prelude.{◌≡◌, ℕ, ◌≤◌, ◌^◌, List, length, slice_index_or, [], Contains, refl}
+use Rattle.std.specs.Prelude.{◌≡◌, ℕ, ◌≤◌, List, length, slice_index_or, [], Contains, refl}
 use Rattle.std.specs.Coded.{Coded, code_by, coded×, coded_ℕ, coded_list}
 use Rattle.pf_io.specs.Host.{Name}
+use Rattle.pf_io.specs.Slices.{MOST_BYTES}
 use Rattle.trusted_chunks.specs.Chunks.{chunk, chunk_count, sums_of}
 
 -- chunks with their numbers, the most recently used first
@@ -27,10 +28,7 @@ state_code =
     (λ p. record { name = p.0; size = p.1.0; hashes = p.1.1.0; kept = p.1.1.1 })
     (λ _. refl)
 
--- the most bytes of a file, and the most chunks that are kept
-abbrev pub MOST_BYTES : ℕ
-MOST_BYTES = 2 ^ 32
-
+-- the most chunks that are kept
 abbrev pub MOST_KEPT : ℕ
 MOST_KEPT = 4
 

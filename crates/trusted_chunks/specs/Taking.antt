@@ -7,8 +7,7 @@ use Rattle.sha2.specs.declared.Sha256.{Sha256}
 use Rattle.pf_io.specs.Host.{Name, HostState}
 use Rattle.pf_io.specs.Answered.{Answered}
 use Rattle.trusted_chunks.specs.Chunks.{CHUNK, sums_of}
-use Rattle.trusted_chunks.specs.State.{MOST_BYTES}
-use Rattle.trusted_chunks.specs.Slices.{given_in_turn, AreWhole, CountsSlices, SliceCame, NoSliceCame}
+use Rattle.pf_io.specs.Slices.{MOST_BYTES, given_in_turn, AreWhole, CountsSlices, SliceCame, NoSliceCame}
 use Rattle.trusted_chunks.specs.declared.fault.TrustFault.{TrustFault}
 use Rattle.trusted_chunks.specs.declared.fault.TrustFault.TheVariants as faults
 use Rattle.trusted_chunks.specs.declared.slices.Taken.{Taken}

@@ -62,7 +62,7 @@ loop-piece-preserved g c =
     }
 
 pub returns-clause-cause : goal.returns-clause-cause
-returns-clause-cause g c = let same = c.loop-piece.invariant.added.faults in record { later = omega (arith, same); still = same; rose = tt }
+returns-clause-cause g c = let same = c.loop-piece.invariant.added.faults in record { later = omega (arith, same); still = same; once = tt }
 
 pub returns-clause-disk : goal.returns-clause-disk
 returns-clause-disk g c = c.loop-piece.invariant.added.disk

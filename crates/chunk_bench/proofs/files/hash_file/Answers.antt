@@ -1,6 +1,6 @@
 use Rattle.std.proofs.Common.{rules, ◌≡◌, ◌+◌, ◌*◌, ◌≤◌, ℕ, Option, length, refl, subst, ◌∙◌, arith}
 use Rattle.std.proofs.lemmas.Result.{err_from_is_err_and}
-use Rattle.pf_io.specs.Counts.{Rose}
+use Rattle.pf_io.specs.Counts.{counted}
 use Rattle.pf_io.specs.Host.{OnHonest, length_of}
 use Rattle.pf_io.proofs.Unchanged.{kept_once, kept_then}
 use Rattle.trusted_chunks.specs.Chunks.{CHUNK}
@@ -28,7 +28,7 @@ returns-in_err-n-clause-cause g c =
     let cause = c.in_err-n.ensures.cause in
     let same = c.loop-slice.invariant.hashed.faults in
     let new = g.H.Host.state c.read_at.new.self in
-    rw p.1 (record { later = subst (λ (a : ℕ). a ≤ new.faults) same cause.later; still = tt; rose = subst (λ (a : ℕ). Rose a new.faults) same cause.rose })
+    rw p.1 (record { later = subst (λ (a : ℕ). a ≤ new.faults) same cause.later; still = tt; once = subst (λ (a : ℕ). new.faults ≡ counted a) same cause.once })
 
 pub returns-in_err-n-clause-disk : goal.returns-in_err-n-clause-disk
 returns-in_err-n-clause-disk g c =
@@ -60,7 +60,7 @@ loop-slice-preserved g c =
     }
 
 pub returns-clause-cause : goal.returns-clause-cause
-returns-clause-cause g c = let same = c.loop-slice.invariant.hashed.faults in record { later = omega (arith, same); still = same; rose = tt }
+returns-clause-cause g c = let same = c.loop-slice.invariant.hashed.faults in record { later = omega (arith, same); still = same; once = tt }
 
 pub returns-clause-disk : goal.returns-clause-disk
 returns-clause-disk g c = c.loop-slice.invariant.hashed.disk

@@ -43,7 +43,7 @@ returns-in_err-add_file-clause-reads g c =
     (read_no_file c.in_err-add_file.field-0.0 c.in_ok-file.file c.args.name.now c.args.sum.now old (g.H.Host.state c.open.new.host) c.in_ok-file.ensures.honest opens.ends.name_is opens.answered.files c.in_err-add_file.ensures.adds))
 
 pub returns-clause-cause : goal.returns-clause-cause
-returns-clause-cause g c = let same = c.in_ok-add_file.ensures.cause.still ∙ c.in_ok-file.ensures.cause.still in record { later = omega (arith, same); still = same; rose = tt }
+returns-clause-cause g c = let same = c.in_ok-add_file.ensures.cause.still ∙ c.in_ok-file.ensures.cause.still in record { later = omega (arith, same); still = same; once = tt }
 
 pub returns-clause-disk : goal.returns-clause-disk
 returns-clause-disk g c = kept_then (g.H.Host.state c.args.host.now) (g.H.Host.state c.open.new.host) (g.H.Host.state c.add_file.new.host) c.in_ok-file.ensures.disk c.in_ok-add_file.ensures.disk

@@ -10,7 +10,7 @@ pub returns-in_err-len-clause-asking : goal.returns-in_err-len-clause-asking
 returns-in_err-len-clause-asking g c =
     let p = err_from_is_err_and c.from_residual.result c.from_residual.ensures.1 in
     let e = c.in_err-len.ensures in
-    rw (p.1, p.2) (asking_failed (g.H.Host.state c.args.host.now) (g.H.Host.state c.len.new.self) e.cause.later e.cause.rose e.disk)
+    rw (p.1, p.2) (asking_failed (g.H.Host.state c.args.host.now) (g.H.Host.state c.len.new.self) e.cause.later e.cause.once e.disk)
 
 pub returns-in_default-clause-asking : goal.returns-in_default-clause-asking
 returns-in_default-clause-asking g c =
@@ -22,7 +22,7 @@ returns-in_err-read_at-clause-asking g c =
     let p = err_from_is_err_and c.from_residual-in_err-read_at.result c.from_residual-in_err-read_at.ensures.1 in
     let e = c.in_ok-len.ensures in
     let f = c.in_err-read_at.ensures in
-    rw (p.1, p.2) (asking_failed_next (g.H.Host.state c.args.host.now) (g.H.Host.state c.len.new.self) (g.H.Host.state c.read_at.new.self) e.cause.still e.disk f.cause.later f.cause.rose f.disk)
+    rw (p.1, p.2) (asking_failed_next (g.H.Host.state c.args.host.now) (g.H.Host.state c.len.new.self) (g.H.Host.state c.read_at.new.self) e.cause.still e.disk f.cause.later f.cause.once f.disk)
 
 pub returns-clause-asking : goal.returns-clause-asking
 returns-clause-asking g c =

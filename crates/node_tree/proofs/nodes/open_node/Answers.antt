@@ -25,7 +25,7 @@ returns-in_err-given-clause-asking g c =
     let e = c.in_err-given.ensures in
     let old = g.H.Host.state c.args.host.now in
     let new = g.H.Host.state c.read_at.new.self in
-    rw p.1 (subst (λ (x : TreeFault). Asking {T = Unit {0}} (Err x) 1 old new) (sym p.2) (asking_failed old new e.cause.later e.cause.rose (subst (λ (n : ℕ). CountsRead n old new) c.told-block e.counts) e.disk))
+    rw p.1 (subst (λ (x : TreeFault). Asking {T = Unit {0}} (Err x) 1 old new) (sym p.2) (asking_failed old new e.cause.later e.cause.once (subst (λ (n : ℕ). CountsRead n old new) c.told-block e.counts) e.disk))
 
 pub returns-then-given-lt4096-clause-asking : goal.returns-then-given-lt4096-clause-asking
 returns-then-given-lt4096-clause-asking g c =

@@ -30,7 +30,7 @@ loop-count-preserved g c =
     c.in_ok-write_at.ensures.cause.still c.in_ok-write_at.ensures.told c.in_ok-write_at.ensures.counts c.in_ok-write_at.ensures.disk
 
 pub returns-clause-cause : goal.returns-clause-cause
-returns-clause-cause g c = record { later = omega (arith, c.loop-count.invariant.faults); still = c.loop-count.invariant.faults; rose = tt }
+returns-clause-cause g c = record { later = omega (arith, c.loop-count.invariant.faults); still = c.loop-count.invariant.faults; once = tt }
 
 pub returns-clause-done : goal.returns-clause-done
 returns-clause-done g c =

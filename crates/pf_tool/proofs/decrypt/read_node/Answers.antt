@@ -24,7 +24,7 @@ returns-in_err-len-clause-refused g c =
     let target : IsTarget c.args.name.now = search rules in
     let s0 = g.H.Host.state c.args.host.now in
     let s1 = g.H.Host.state c.len.new.self in
-    rw p.1 (λ user world. no_length user c.args.name.now world s0 p.0 s1 target p.2 (length_failed c.args.name.now None s0 s1 c.in_err-len.ensures.told c.in_err-len.ensures.cause.rose c.len.ensures.counts) (kept_once s0 s1 c.len.ensures.disk))
+    rw p.1 (λ user world. no_length user c.args.name.now world s0 p.0 s1 target p.2 (length_failed c.args.name.now None s0 s1 c.in_err-len.ensures.told c.in_err-len.ensures.cause.once c.len.ensures.counts) (kept_once s0 s1 c.len.ensures.disk))
 
 pub returns-in_default-clause-disk : goal.returns-in_default-clause-disk
 returns-in_default-clause-disk g c = kept_once (g.H.Host.state c.args.host.now) (g.H.Host.state c.len.new.self) c.len.ensures.disk
@@ -53,7 +53,7 @@ returns-in_err-given-clause-refused g c =
     let s2 = g.H.Host.state c.read_at.new.self in
     rw p.1 (λ user world. no_node user c.args.name.now world s0 p.0 c.in-Some.field-0 c.in_ok-len.field-0 s1 s2 target p.2 c.in-Some.is
     (length_passed c.args.name.now c.in_ok-len.field-0 s0 s1 c.in_ok-len.ensures.told c.in_ok-len.ensures.cause.still c.len.ensures.counts c.in_ok-len.ensures.honest)
-    (read_failed c.args.name.now 0 4096 _ _ s1 s2 c.in_err-given.ensures.told c.in_err-given.ensures.cause.rose c.read_at.ensures.counts)
+    (read_failed c.args.name.now 0 4096 _ _ s1 s2 c.in_err-given.ensures.told c.in_err-given.ensures.cause.once c.read_at.ensures.counts)
     (kept_then s0 s1 s2 (kept_once s0 s1 c.len.ensures.disk) (kept_once s1 s2 c.read_at.ensures.disk)))
 
 pub returns-in_err-check_node-clause-disk : goal.returns-in_err-check_node-clause-disk

@@ -20,7 +20,7 @@ returns-in_err-len g c =
     let r0 = g.R.Words.state c.args.random.now in
     let input = c.args.command.now.input.now in
     λ world. rw p.1 (no_length c.args.user.now input c.args.command.now.output.now c.requires.target c.requires.input world s0 s1 r0 p.0 p.2
-    (length_failed input None s0 s1 c.in_err-len.ensures.told c.in_err-len.ensures.cause.rose c.len.ensures.counts) (kept_once s0 s1 c.len.ensures.disk))
+    (length_failed input None s0 s1 c.in_err-len.ensures.told c.in_err-len.ensures.cause.once c.len.ensures.counts) (kept_once s0 s1 c.len.ensures.disk))
 
 pub returns-in_default : goal.returns-in_default
 returns-in_default g c world =
@@ -69,7 +69,7 @@ returns-in_err-given g c =
     let asked : HostPassed (LengthWas input (Some c.in-Some.field-0) ∷ []) s0 s1 = subst (λ (o : Option ℕ). HostPassed (LengthWas input o ∷ []) s0 s1) c.in-Some.is
     (length_passed input c.in_ok-len.field-0 s0 s1 c.in_ok-len.ensures.told c.in_ok-len.ensures.cause.still c.len.ensures.counts c.in_ok-len.ensures.honest) in
     λ world. rw p.1 (no_bytes c.args.user.now input c.args.command.now.output.now c.requires.target c.requires.input world s0 s1 r0 c.in-Some.field-0 asked c.len.ensures.files (kept_once s0 s1 c.len.ensures.disk) s2 r1
-    (c.in_ok-begin.ensures world) s3 c.read_at.ensures.disk p.0 p.2 (read_failed input 0 3073 _ [] s2 s3 c.in_err-given.ensures.told c.in_err-given.ensures.cause.rose c.read_at.ensures.counts))
+    (c.in_ok-begin.ensures world) s3 c.read_at.ensures.disk p.0 p.2 (read_failed input 0 3073 _ [] s2 s3 c.in_err-given.ensures.told c.in_err-given.ensures.cause.once c.read_at.ensures.counts))
 
 pub returns-then-given-gt3072 : goal.returns-then-given-gt3072
 returns-then-given-gt3072 g c world =

@@ -21,7 +21,7 @@ returns-in_err-length-clause-refused g c =
     let named : IsName c.args.name.now = search rules in
     let s0 = g.H.Host.state c.args.host.now in
     let s1 = g.H.Host.state c.len.new.self in
-    rw p.1 (λ world. no_length c.args.name.now world s0 p.0 s1 named p.2 (length_failed c.args.name.now None s0 s1 c.in_err-length.ensures.told c.in_err-length.ensures.cause.rose c.len.ensures.counts) (kept_once s0 s1 c.len.ensures.disk))
+    rw p.1 (λ world. no_length c.args.name.now world s0 p.0 s1 named p.2 (length_failed c.args.name.now None s0 s1 c.in_err-length.ensures.told c.in_err-length.ensures.cause.once c.len.ensures.counts) (kept_once s0 s1 c.len.ensures.disk))
 
 pub returns-in_default-clause-disk : goal.returns-in_default-clause-disk
 returns-in_default-clause-disk g c = kept_once (g.H.Host.state c.args.host.now) (g.H.Host.state c.len.new.self) c.len.ensures.disk
@@ -62,7 +62,7 @@ returns-in_err-given-clause-refused g c =
     let sixteen : c.in_ok-length.field-0 ≡ Some 16 = c.in-Some.is ∙ ap (λ (n : ℕ). Some n) c.if-length-ne16.false in
     rw p.1 (λ world. no_bytes c.args.name.now world s0 p.0 c.in_ok-length.field-0 s1 s2 named p.2 sixteen
     (length_passed c.args.name.now c.in_ok-length.field-0 s0 s1 c.in_ok-length.ensures.told c.in_ok-length.ensures.cause.still c.len.ensures.counts c.in_ok-length.ensures.honest)
-    (read_failed c.args.name.now 0 16 _ _ s1 s2 c.in_err-given.ensures.told c.in_err-given.ensures.cause.rose c.read_at.ensures.counts)
+    (read_failed c.args.name.now 0 16 _ _ s1 s2 c.in_err-given.ensures.told c.in_err-given.ensures.cause.once c.read_at.ensures.counts)
     (kept_then s0 s1 s2 (kept_once s0 s1 c.len.ensures.disk) (kept_once s1 s2 c.read_at.ensures.disk)))
 
 pub returns-then-given-lt16-clause-refused : goal.returns-then-given-lt16-clause-refused

@@ -52,7 +52,7 @@ returns-in_err-write-clause-ends g c node world whole =
     let after = g.K.Sink.state c.write.new.self in
     rw p.1 (write_failed c.args.name.now node c.args.secret.now c.loop-at.at c.loop-at.tree old now (g.K.Sink.state c.args.out.now) out (c.loop-at.invariant.3 node whole) c.loop-at.invariant.0 c.loop-at-test.true
     c.read.new.to (c.read.auto.to ∙ c.loop-at.invariant.2) c.read.new.self new (returns-in_err-write-clause-disk g c) c.in_ok-count.count c.in_ok-count.ensures.reads c.in_ok-count.ensures.cause.still p.0 after p.2
-    (piece_failed (take c.in_ok-count.count c.read.new.to) out after c.in_err-write.ensures.taken c.in_err-write.ensures.cause.rose) world)
+    (piece_failed (take c.in_ok-count.count c.read.new.to) out after c.in_err-write.ensures.taken c.in_err-write.ensures.cause.once) world)
 
 pub loop-at-preserved : goal.loop-at-preserved
 loop-at-preserved g c =

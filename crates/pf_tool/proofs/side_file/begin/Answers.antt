@@ -36,7 +36,7 @@ returns-in_err-make g c =
     let is = c.requires.side in
     let d = c.in_ok-nonce.ensures.drawn in
     let make : Answer = Made (side_of output) in
-    let failed : HostFailed make s0 s1 = subst (λ (n : List ℕ). HostFailed (Made n) s0 s1) is (make_failed side s0 s1 c.in_err-make.ensures.told c.in_err-make.ensures.cause.rose c.make.ensures.counts) in
+    let failed : HostFailed make s0 s1 = subst (λ (n : List ℕ). HostFailed (Made n) s0 s1) is (make_failed side s0 s1 c.in_err-make.ensures.told c.in_err-make.ensures.cause.once c.make.ensures.counts) in
     let ran = first_change side (KeepsOthers side) _ _ _ c.in_err-make.ensures.disk (λ d f made. let r : Result (Unit {0}) (Unit {0}) = Err tt in let keeps = made_others r side d f made in (keeps, keeps)) in
     let tried = Draws d.first ∷ Draws d.second ∷ Answers make ∷ [] in
     λ world. rw p.1 (begins_no_make world s0 r0 r1 user output c.in_ok-nonce.nonce d p.0 s1 p.2 failed
@@ -61,7 +61,7 @@ returns-in_err-write_at g c =
     let write : Answer = Wrote (side_of output) 0 (node_of user (d.first ++ d.second) output []) in
     let write_is : Wrote side 0 node ≡ write = ap (λ (n : List ℕ). Wrote n 0 node) is ∙ ap (λ (n : List ℕ). Wrote (side_of output) 0 n) same in
     let makes : HostPassed (make ∷ []) s0 s1 = subst (λ (n : List ℕ). HostPassed (Made n ∷ []) s0 s1) is (make_passed side s0 s1 c.in_ok-make.ensures.told c.in_ok-make.ensures.cause.still c.make.ensures.counts) in
-    let failed : HostFailed write s1 s2 = subst (λ (a : Answer). HostFailed a s1 s2) write_is (write_failed side 0 _ node s1 s2 c.in_err-write_at.ensures.told c.in_err-write_at.ensures.cause.rose c.write_at.ensures.counts) in
+    let failed : HostFailed write s1 s2 = subst (λ (a : Answer). HostFailed a s1 s2) write_is (write_failed side 0 _ node s1 s2 c.in_err-write_at.ensures.told c.in_err-write_at.ensures.cause.once c.write_at.ensures.counts) in
     let first = first_change side (Begun 0 side) _ s0.honest _ c.in_ok-make.ensures.disk (λ d f made. (made.others, record { others = made.others; begun = made_short side d f made })) in
     let ran = next_change side (Begun 0 side) (KeepsOthers side) _ _ _ _ first c.in_err-write_at.ensures.disk (λ d e begun. begun.others) (λ e f change. change.others) (λ d e f begun change keeps. keeps) in
     let tried = Draws d.first ∷ Draws d.second ∷ Answers make ∷ Answers write ∷ [] in
@@ -90,7 +90,7 @@ returns-in_err-sync g c =
     let write_is : Wrote side 0 node ≡ write = ap (λ (n : List ℕ). Wrote n 0 node) is ∙ ap (λ (n : List ℕ). Wrote (side_of output) 0 n) same in
     let makes : HostPassed (make ∷ []) s0 s1 = subst (λ (n : List ℕ). HostPassed (Made n ∷ []) s0 s1) is (make_passed side s0 s1 c.in_ok-make.ensures.told c.in_ok-make.ensures.cause.still c.make.ensures.counts) in
     let writes : HostPassed (write ∷ []) s1 s2 = subst (λ (a : Answer). HostPassed (a ∷ []) s1 s2) write_is (write_passed side 0 _ node s1 s2 c.in_ok-write_at.ensures.told c.in_ok-write_at.ensures.cause.still c.write_at.ensures.counts) in
-    let failed : HostFailed sync s2 s3 = subst (λ (n : List ℕ). HostFailed (Synced n) s2 s3) is (sync_failed side s2 s3 c.in_err-sync.ensures.told c.in_err-sync.ensures.cause.rose c.sync.ensures.counts) in
+    let failed : HostFailed sync s2 s3 = subst (λ (n : List ℕ). HostFailed (Synced n) s2 s3) is (sync_failed side s2 s3 c.in_err-sync.ensures.told c.in_err-sync.ensures.cause.once c.sync.ensures.counts) in
     let long : length node ≡ 4096 = search rules in
     let first = first_change side (Begun 0 side) _ s0.honest _ c.in_ok-make.ensures.disk (λ d f made. (made.others, record { others = made.others; begun = made_short side d f made })) in
     let wrote = next_change side (Begun 0 side) (Begun 4096 side) _ _ _ _ first c.in_ok-write_at.ensures.disk (λ d e begun. begun.others) (λ e f change. change.others)

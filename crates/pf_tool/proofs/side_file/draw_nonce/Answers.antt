@@ -13,7 +13,7 @@ returns-in_err-second-clause-failed g c =
     let r1 = g.R.Words.state c.next16.new.self in
     let r2 = g.R.Words.state c.next16-2.new.self in
     rw p.1 (no_second c.in_ok-first.first r1 (word_passed c.in_ok-first.first r0 r1 c.in_ok-first.ensures.left c.in_ok-first.ensures.cause.still)
-    (word_failed r1 r2 c.in_err-second.ensures.left c.in_err-second.ensures.cause.rose))
+    (word_failed r1 r2 c.in_err-second.ensures.left c.in_err-second.ensures.cause.once))
 
 pub returns-clause-drawn : goal.returns-clause-drawn
 returns-clause-drawn g c =

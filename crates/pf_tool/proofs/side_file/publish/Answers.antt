@@ -42,7 +42,7 @@ returns-in_err-write_at g c =
     let sync : Answer = Synced (side_of output) in
     let swap : Answer = Swapped (side_of output) output in
     let write_is : Wrote side 0 node ≡ write = ap (λ (n : List ℕ). Wrote n 0 node) is ∙ ap (λ (n : List ℕ). Wrote (side_of output) 0 n) same in
-    let failed : HostFailed write s0 s1 = subst (λ (a : Answer). HostFailed a s0 s1) write_is (write_failed side 0 _ node s0 s1 c.in_err-write_at.ensures.told c.in_err-write_at.ensures.cause.rose c.write_at.ensures.counts) in
+    let failed : HostFailed write s0 s1 = subst (λ (a : Answer). HostFailed a s0 s1) write_is (write_failed side 0 _ node s0 s1 c.in_err-write_at.ensures.told c.in_err-write_at.ensures.cause.once c.write_at.ensures.counts) in
     λ world. rw p.1 (publishes_no_write world s0 r0 r1 user output content c.in_ok-nonce.nonce d p.0 s1 p.2 failed
     (write_not user output content (Draws d.first ∷ Draws d.second ∷ Answers write ∷ []) (Failed (Answers write)) _ node side s0.honest s1.honest (not_done (Answers write)) is c.in_err-write_at.ensures.disk))
 
@@ -68,7 +68,7 @@ returns-in_err-sync g c =
     let write_is : Wrote side 0 node ≡ write = ap (λ (n : List ℕ). Wrote n 0 node) is ∙ ap (λ (n : List ℕ). Wrote (side_of output) 0 n) same in
     let writes : HostPassed (write ∷ []) s0 s1 = subst (λ (a : Answer). HostPassed (a ∷ []) s0 s1) write_is (write_passed side 0 _ node s0 s1 c.in_ok-write_at.ensures.told c.in_ok-write_at.ensures.cause.still c.write_at.ensures.counts) in
     let long : length node ≡ 4096 = search rules in
-    let failed : HostFailed sync s1 s2 = subst (λ (n : List ℕ). HostFailed (Synced n) s1 s2) is (sync_failed side s1 s2 c.in_err-sync.ensures.told c.in_err-sync.ensures.cause.rose c.sync.ensures.counts) in
+    let failed : HostFailed sync s1 s2 = subst (λ (n : List ℕ). HostFailed (Synced n) s1 s2) is (sync_failed side s1 s2 c.in_err-sync.ensures.told c.in_err-sync.ensures.cause.once c.sync.ensures.counts) in
     λ world. rw p.1 (publishes_no_sync world s0 r0 r1 user output content c.in_ok-nonce.nonce d p.0 s1 s2 p.2 writes failed
     (sync_not user output content (Draws d.first ∷ Draws d.second ∷ Answers write ∷ Answers sync ∷ []) (Failed (Answers sync)) _ _ node side s0.honest s1.honest s2.honest (not_done (Answers sync)) is refl long c.in_ok-write_at.ensures.disk c.in_err-sync.ensures.disk))
 
@@ -99,7 +99,7 @@ returns-in_err-swap_name g c =
     let tried = published_events user output d.first d.second content in
     let there : IsSwapped tried output = fifth (Draws d.first) (Draws d.second) (Answers write) (Answers sync) (Answers swap) [] in
     let nonce_is : c.in_ok-nonce.nonce ≡ concat (take 2 (words_in tried)) = d.is ∙ two_words d.first d.second in
-    let failed : HostFailed swap s2 s3 = subst (λ (n : List ℕ). HostFailed (Swapped n output) s2 s3) is (swap_failed side output s2 s3 c.in_err-swap_name.ensures.told c.in_err-swap_name.ensures.cause.rose c.swap_name.ensures.counts) in
+    let failed : HostFailed swap s2 s3 = subst (λ (n : List ℕ). HostFailed (Swapped n output) s2 s3) is (swap_failed side output s2 s3 c.in_err-swap_name.ensures.told c.in_err-swap_name.ensures.cause.once c.swap_name.ensures.counts) in
     λ world. rw p.1 (publishes_no_swap world s0 r0 r1 user output content c.in_ok-nonce.nonce d p.0 s1 s2 s3 p.2 writes syncs failed
     (swap_not user output content tried (Failed (Answers swap)) c.in_ok-nonce.nonce node side is nonce_is c.requires.path d.long c.requires.small c.make_node-node.ensures there _ _ s0.honest s1.honest s2.honest s3.honest (not_done (Answers swap)) refl refl long
     c.in_ok-write_at.ensures.disk c.in_ok-sync.ensures.disk c.in_err-swap_name.ensures.disk))

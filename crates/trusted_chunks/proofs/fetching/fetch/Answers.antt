@@ -3,8 +3,8 @@ use Rattle.std.proofs.lemmas.List.{take-take, take-append-le}
 use Rattle.sha2.specs.Sha256.{sha256}
 use Rattle.pf_io.proofs.Unchanged.{kept_once}
 use Rattle.trusted_chunks.specs.Chunks.{CHUNK}
-use Rattle.trusted_chunks.specs.Slices.{SliceCame}
-use Rattle.trusted_chunks.proofs.Asked.{slice_came}
+use Rattle.pf_io.specs.Slices.{SliceCame}
+use Rattle.pf_io.proofs.Slices.{slice_came}
 use Rattle.trusted_chunks.proofs.fetching.fetch.Goals as goal
 
 -- the front of a loan of the whole

@@ -64,7 +64,7 @@ loop-chunk-preserved g c =
     }
 
 pub returns-clause-cause : goal.returns-clause-cause
-returns-clause-cause g c = record { later = let a = c.loop-chunk.invariant.faults in omega (arith, a); still = c.loop-chunk.invariant.faults; rose = tt }
+returns-clause-cause g c = record { later = let a = c.loop-chunk.invariant.faults in omega (arith, a); still = c.loop-chunk.invariant.faults; once = tt }
 
 pub returns-clause-disk : goal.returns-clause-disk
 returns-clause-disk g c = c.loop-chunk.invariant.disk

@@ -4,7 +4,7 @@ use Rattle.std.proofs.lemmas.Result.{err_from_is_err_and}
 use Rattle.pf_io.proofs.Unchanged.{kept_once}
 use Rattle.trusted_chunks.specs.Taking.{SliceEnds}
 use Rattle.trusted_chunks.specs.declared.fault.TrustFault.{TrustFault}
-use Rattle.trusted_chunks.proofs.Asked.{slice_came}
+use Rattle.pf_io.proofs.Slices.{slice_came}
 use Rattle.trusted_chunks.proofs.slices.take_slice.Goals as goal
 
 pub returns-in_err-n-clause-disk : goal.returns-in_err-n-clause-disk

@@ -4,7 +4,7 @@ use Rattle.pf_io.proofs.Unchanged.{kept_then}
 use Rattle.trusted_chunks.specs.Taking.{SliceEnds}
 use Rattle.trusted_chunks.specs.declared.fault.TrustFault.{TrustFault}
 use Rattle.trusted_chunks.specs.declared.slices.Taken.{Taken}
-use Rattle.trusted_chunks.proofs.Asked.{cause_on}
+use Rattle.pf_io.proofs.Slices.{cause_on}
 use Rattle.trusted_chunks.proofs.TakenUp.{none_taken, taken_more, taken_last, taken_failed, failed_cause}
 use Rattle.trusted_chunks.proofs.slices.take_slices.Goals as goal
 

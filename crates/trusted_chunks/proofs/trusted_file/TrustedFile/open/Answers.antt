@@ -5,7 +5,8 @@ use Rattle.pf_io.proofs.Unchanged.{kept_once, kept_then}
 use Rattle.trusted_chunks.specs.Taking.{Takes}
 use Rattle.trusted_chunks.specs.Opening.{Opens}
 use Rattle.trusted_chunks.specs.declared.fault.TrustFault.{TrustFault}
-use Rattle.trusted_chunks.proofs.Opened.{length_came, opens_starved, opens_failed, opens_wrong, opens_ok, sound_opened, honest_open}
+use Rattle.pf_io.proofs.Slices.{length_came}
+use Rattle.trusted_chunks.proofs.Opened.{opens_starved, opens_failed, opens_wrong, opens_ok, sound_opened, honest_open}
 use Rattle.trusted_chunks.proofs.trusted_file.TrustedFile.open.Goals as goal
 
 pub returns-in_err-len-clause-disk : goal.returns-in_err-len-clause-disk

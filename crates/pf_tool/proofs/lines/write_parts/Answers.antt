@@ -1,7 +1,7 @@
 use Rattle.std.proofs.lemmas.Result.{err_from_is_err_and}
 use Rattle.pf_tool.specs.Reports.{WroteAll}
 use Rattle.pf_tool.proofs.Writing.{written_by, line_fails_first, line_fails_second, line_fails_third, line_ends}
-use Rattle.pf_tool.proofs.fault.write_parts.Goals as goal
+use Rattle.pf_tool.proofs.lines.write_parts.Goals as goal
 
 pub returns-in_err-write : goal.returns-in_err-write
 returns-in_err-write g c =
@@ -9,7 +9,7 @@ returns-in_err-write g c =
     let s0 = g.L.Sink.state c.args.log.now in
     let s1 = g.L.Sink.state c.write.new.self in
     rw p.1 (line_fails_first c.args.first.now c.args.second.now c.args.third.now s0 s1
-    (record { rose = c.in_err-write.ensures.cause.rose; told = rw c.as_bytes.ensures.value at c.in_err-write.ensures.taken }))
+    (record { once = c.in_err-write.ensures.cause.once; told = rw c.as_bytes.ensures.value at c.in_err-write.ensures.taken }))
 
 pub returns-in_err-write-2 : goal.returns-in_err-write-2
 returns-in_err-write-2 g c =
@@ -19,7 +19,7 @@ returns-in_err-write-2 g c =
     let s2 = g.L.Sink.state c.write-2.new.self in
     let first : WroteAll c.args.first.now s0 s1 = record { calm = c.in_ok-write.ensures.cause.still; told = rw c.as_bytes.ensures.value at c.in_ok-write.ensures.taken } in
     rw p.1 (line_fails_second c.args.first.now c.args.second.now c.args.third.now s0 s1 s2 first
-    (record { rose = c.in_err-write-2.ensures.cause.rose; told = rw c.as_bytes-2.ensures.value at c.in_err-write-2.ensures.taken }))
+    (record { once = c.in_err-write-2.ensures.cause.once; told = rw c.as_bytes-2.ensures.value at c.in_err-write-2.ensures.taken }))
 
 pub returns-in_err-write-3 : goal.returns-in_err-write-3
 returns-in_err-write-3 g c =
@@ -31,7 +31,7 @@ returns-in_err-write-3 g c =
     let first : WroteAll c.args.first.now s0 s1 = record { calm = c.in_ok-write.ensures.cause.still; told = rw c.as_bytes.ensures.value at c.in_ok-write.ensures.taken } in
     let second : WroteAll c.args.second.now s1 s2 = record { calm = c.in_ok-write-2.ensures.cause.still; told = rw c.as_bytes-2.ensures.value at c.in_ok-write-2.ensures.taken } in
     rw p.1 (line_fails_third c.args.first.now c.args.second.now c.args.third.now s0 s1 s2 s3 first second
-    (record { rose = c.in_err-write-3.ensures.cause.rose; told = rw c.as_bytes-3.ensures.value at c.in_err-write-3.ensures.taken }))
+    (record { once = c.in_err-write-3.ensures.cause.once; told = rw c.as_bytes-3.ensures.value at c.in_err-write-3.ensures.taken }))
 
 pub returns : goal.returns
 returns g c =

@@ -1,0 +1,37 @@
+// Why a command is refused, and what it then says.
+ghost use Rattle.pf_tool.specs.Endings.{line, refusal_text};
+ghost use Rattle.pf_tool.specs.Faults.{refusal_of};
+ghost use Rattle.pf_tool.specs.Reports.{Written};
+
+use crate::lines::{write_name, write_number, write_text};
+use pf_io::{Sink, StreamFault};
+
+/// Why a command is refused.
+#[derive(Drop)]
+pub(crate) enum Why<'a> {
+    /// A name of the command line is none that it may be.
+    BadName,
+    /// No file has this name.
+    NotFound(&'a str),
+    /// The key file has another number of bytes than 16.
+    KeyFile(u64),
+    /// The file is no protected file.
+    NotProtected,
+    /// The case is not built yet.
+    Unbuilt,
+}
+
+impl Why<'_> {
+    /// Writes the line that names it. No memory is taken for it.
+    pub(crate) fn say<L: Sink>(&self, log: &mut L) -> Result<(), StreamFault>
+        ensures { Written result (line (refusal_text (refusal_of self.now))) (L.state log.old) (L.state log.new) }
+    {
+        match self {
+            Why::BadName => write_text(log, "refused bad name"),
+            Why::NotFound(name) => write_name(log, "refused not found ", name),
+            Why::KeyFile(number) => write_number(log, "refused key file ", *number, ""),
+            Why::NotProtected => write_text(log, "refused not protected"),
+            Why::Unbuilt => write_text(log, "refused unbuilt"),
+        }
+    }
+}
