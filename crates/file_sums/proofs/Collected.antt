@@ -1,24 +1,24 @@
 -- The sums of entries, one after the other.
-use Rattle.std.proofs.Common.{◌≡◌, ℕ, ◌+◌, ◌-◌, ◌≤◌, cond, List, [], ◌∷◌, ◌++◌, length, Option, Some, None, IfSome, refl, sym, ap, subst, ◌∙◌, arith, append_assoc, Result, Ok, Err, OnOk}
-use Rattle.std.specs.List.{concat, sum_by, count_by, AllByRecursion}
-use Rattle.std.proofs.lemmas.List.{append-nil}
+use Rattle.std.proofs.Common.{◌≡◌, ℕ, ◌+◌, ◌-◌, ◌≤◌, cond, List, [], ◌∷◌, ◌++◌, length, take, drop, Option, Some, None, IfSome, refl, sym, ap, subst, ◌∙◌, arith, append_assoc, Result, Ok, Err, OnOk}
+use Rattle.std.specs.List.{slice_get, sum_by, count_by, AllByRecursion}
+use Rattle.std.proofs.lemmas.List.{append-nil, take-append-drop, take_more, drop_more}
 use Rattle.std.proofs.lemmas.List.Sums.{sum_by-append}
-use Rattle.std.proofs.lemmas.Option.{IfSome_then}
+use Rattle.std.proofs.lemmas.Option.{IfSome_then, slice_get_within, get_or_from_slice_get}
 use Rattle.pf_io.specs.Host.{Name, Files, Answer, LengthWas, Gave, HostState, files_of}
 use Rattle.pf_io.specs.Answered.{Answered, IsAnswerOf}
 use Rattle.pf_io.specs.Unchanged.{KeepsDisk}
-use Rattle.pf_io.proofs.Answering.{answered_none, answered_then}
+use Rattle.pf_io.proofs.Answering.{all_split, answered_none, answered_then}
 use Rattle.pf_io.proofs.Unchanged.{kept_none, kept_then}
 use Rattle.manifest_model.specs.declared.entries.Trusted.{Trusted}
 use Rattle.manifest_model.specs.Summed.{FitSums}
-use Rattle.file_sums.specs.Slices.{CHUNK, given_in_turn, IsTaken, IsStopped, CountsSlices}
-use Rattle.file_sums.specs.Summing.{IsSumOf, SumEnds, slices_asked, host_part, IsSummed, SumsFile}
+use Rattle.pf_io.specs.Slices.{SLICE, given_in_turn, IsTaken, IsStopped, CountsSlices}
+use Rattle.file_sums.specs.Summing.{SumEnds, slices_asked}
 use Rattle.file_sums.specs.Collecting.{GivesSum, Gives, AllEnd, is_slice, not_given, all_host_part, AreSummed, IsSumIn, AreSumsIn, SumsFiles, AreOfFiles, EntryEnds}
 use Rattle.file_sums.specs.declared.fault.SumFault.{SumFault}
 use Rattle.file_sums.specs.declared.fault.SumFault.TheVariants as sum_faults
 use Rattle.file_sums.specs.declared.fault.AllFault.{AllFault}
 use Rattle.file_sums.specs.declared.fault.AllFault.TheVariants as faults
-use Rattle.file_sums.proofs.Slicing.{counts_none, counts_then, length_in_turn}
+use Rattle.pf_io.proofs.Slices.{counts_none, counts_then, length_in_turn}
 use Rattle.file_sums.proofs.Summed.{sums_file}
 
 -- after some entries
@@ -57,7 +57,7 @@ counts_in_turn : (name : Name) (at : ℕ) (slices : List (List ℕ)) → count_b
 counts_in_turn name at [] = refl
 counts_in_turn name at (slice ∷ slices) =
     let rest = given_in_turn name (at + length slice) slices in
-    let split : count_by is_slice (given_in_turn name at (slice ∷ slices)) ≡ 1 + count_by is_slice rest = sum_by-append one_of (Gave name at CHUNK slice ∷ []) rest in
+    let split : count_by is_slice (given_in_turn name at (slice ∷ slices)) ≡ 1 + count_by is_slice rest = sum_by-append one_of (Gave name at SLICE slice ∷ []) rest in
     let on = counts_in_turn name (at + length slice) slices in
     omega (arith, split, on)
 
@@ -109,7 +109,7 @@ count_both : (xs ys : List Answer) → count_by is_slice (xs ++ ys) ≡ count_by
 count_both xs ys = sum_by-append one_of xs ys
 
 -- one entry more
-pub summed_more : (entries : List Trusted) (entry : Trusted) (sums : List (List ℕ)) (sum : List ℕ) (old mid new : HostState) → SummedTo entries sums old mid → EntryEnds (Ok sum) entry mid new → new.faults ≡ mid.faults → KeepsDisk mid new
+summed_more : (entries : List Trusted) (entry : Trusted) (sums : List (List ℕ)) (sum : List ℕ) (old mid new : HostState) → SummedTo entries sums old mid → EntryEnds (Ok sum) entry mid new → new.faults ≡ mid.faults → KeepsDisk mid new
     → SummedTo (entries ++ entry ∷ []) (sums ++ sum ∷ []) old new
 summed_more entries entry sums sum old mid new so_far ends faults disk =
     let this = entry_gave sum entry mid new ends in
@@ -122,6 +122,19 @@ summed_more entries entry sums sum old mid new so_far ends faults disk =
       disk = kept_then old mid new so_far.disk disk;
       gives = gives_push entries entry so_far.these this.these sums sum so_far.gives this.gives;
     }
+
+-- the entries around the k-th
+pub around : (entries : List Trusted) (k : ℕ) (entry : Trusted) → slice_get entries k ≡ Some entry → entries ≡ take k entries ++ entry ∷ drop (k + 1) entries
+around entries k entry at =
+    sym (take-append-drop k entries) ∙ ap (λ (es : List Trusted). take k entries ++ es) (drop_more entries k entry (slice_get_within entries k entry at))
+    ∙ ap (λ (e : Trusted). take k entries ++ e ∷ drop (k + 1) entries) (get_or_from_slice_get entries k entry entry at)
+
+-- the k-th came
+pub summed_next : (entries : List Trusted) (k : ℕ) (entry : Trusted) (sums : List (List ℕ)) (sum : List ℕ) (old mid new : HostState) → slice_get entries k ≡ Some entry → SummedTo (take k entries) sums old mid → EntryEnds (Ok sum) entry mid new
+    → new.faults ≡ mid.faults → KeepsDisk mid new → SummedTo (take (k + 1) entries) (sums ++ sum ∷ []) old new
+summed_next entries k entry sums sum old mid new at so_far ends faults disk =
+    let more : take k entries ++ entry ∷ [] ≡ take (k + 1) entries = sym (take_more entries k entry (slice_get_within entries k entry at) ∙ ap (λ (e : Trusted). take k entries ++ e ∷ []) (get_or_from_slice_get entries k entry entry at)) in
+    subst (λ (es : List Trusted). SummedTo es (sums ++ sum ∷ []) old new) more (summed_more (take k entries) entry sums sum old mid new so_far ends faults disk)
 
 -- all came
 pub all_summed : (entries : List Trusted) (sums : List (List ℕ)) (old new : HostState) → SummedTo entries sums old new → AreSummed (Ok sums) entries old new
@@ -174,7 +187,7 @@ all_refused entries front entry others sums why old mid new whole so_far (EntryE
     }
 
 -- the sums are one for each entry, and the listed ones
-pub gives_fit : (entries : List Trusted) (these : List Answer) (sums : List (List ℕ)) → Gives entries these sums → FitSums entries sums
+gives_fit : (entries : List Trusted) (these : List Answer) (sums : List (List ℕ)) → Gives entries these sums → FitSums entries sums
 gives_fit [] these sums gives = subst (λ (l : List (List ℕ)). FitSums [] l) (sym gives.1) tt
 gives_fit (entry ∷ entries) these sums gives =
     subst (λ (l : List (List ℕ)). FitSums (entry ∷ entries) l) (sym gives.7) (listed entry.sum gives.4, gives_fit entries gives.1 gives.3 gives.5)
@@ -183,9 +196,13 @@ gives_fit (entry ∷ entries) these sums gives =
     listed (Some l) given = sym given.1
     listed None given = tt
 
-all_split : (P : Answer → Type 0) (xs ys : List Answer) → AllByRecursion P (xs ++ ys) → AllByRecursion P xs × AllByRecursion P ys
-all_split P [] ys all = (tt, all)
-all_split P (x ∷ xs) ys all = let rest = all_split P xs ys all.1 in ((all.0, rest.0), rest.1)
+pub sums_fit : (entries : List Trusted) (sums : List (List ℕ)) (old new : HostState) → AreSummed (Ok sums) entries old new → FitSums entries sums
+sums_fit entries sums old new summed = by_end summed.ends
+  where
+    by_end : AllEnd entries summed.these (Ok sums) → FitSums entries sums
+    by_end (AllEnd.Whole came gives is) = let same : came ≡ sums = cc in subst (λ (l : List (List ℕ)). FitSums entries l) same (gives_fit entries summed.these came gives)
+    by_end (AllEnd.Refused front entry others asked last some why whole gives unlisted ends told is) = absurd (cc)
+    by_end (AllEnd.Starved front others some whole gives is) = absurd (cc)
 
 -- what the answers of an honest host give is of its files
 gives_in : (files : Files) (entries : List Trusted) (these : List Answer) (sums : List (List ℕ)) → Gives entries these sums → AllByRecursion (IsAnswerOf files) these → AreSumsIn files entries sums
@@ -217,9 +234,3 @@ all_in files entries these r (AllEnd.Starved front others sums whole gives is) a
 
 pub honest_sums : (r : Result (List (List ℕ)) AllFault) (entries : List Trusted) (old new : HostState) → AreSummed r entries old new → AreOfFiles r entries old
 honest_sums r entries old new summed = IfSome_then (files_of old) summed.answered.honest (λ files all. all_in files entries summed.these r summed.ends all)
-
--- a fault is one of the host or not
-pub all_cause : (why : SumFault) (name : Name) → all_host_part {T = List (List ℕ)} (Err (faults.At name why)) ≡ host_part {T = List ℕ} (Err why)
-all_cause sum_faults.NotFound name = refl
-all_cause sum_faults.TooLarge name = refl
-all_cause sum_faults.Host name = refl

@@ -1,4 +1,3 @@
-mod Slicing
 mod Taken
 mod Summed
 mod Collected

@@ -3,15 +3,15 @@ use Rattle.std.proofs.Common.{◌≡◌, ℕ, ◌+◌, ◌<◌, ◌≤◌, List,
 use Rattle.std.specs.List.{concat, AllByRecursion}
 use Rattle.std.proofs.lemmas.Option.{IfSome_then}
 use Rattle.sha2.specs.Sha256.{sha256}
-use Rattle.pf_io.specs.Host.{Name, Files, Answer, LengthWas, HostState, files_of}
+use Rattle.pf_io.specs.Host.{Name, Files, Answer, LengthWas, HostState, CountsNeither, files_of}
 use Rattle.pf_io.specs.Answered.{Answered, IsAnswerOf}
 use Rattle.pf_io.proofs.Answering.{answered_then}
-use Rattle.file_sums.specs.Slices.{MOST_BYTES, given_in_turn, IsTaken, IsStopped, CountsSlices}
+use Rattle.pf_io.specs.Slices.{MOST_BYTES, given_in_turn, IsTaken, IsStopped, CountsSlices}
 use Rattle.file_sums.specs.Summing.{IsSumOf, SumEnds, slices_asked, IsSummed, SumsFile, IsOfFile}
 use Rattle.file_sums.specs.Taking.{Takes, not_come}
 use Rattle.file_sums.specs.declared.fault.SumFault.{SumFault}
 use Rattle.file_sums.specs.declared.fault.SumFault.TheVariants as faults
-use Rattle.file_sums.proofs.Slicing.{counts_then, length_in_turn, few_in_turn, there, not_there, taken_all}
+use Rattle.pf_io.proofs.Slices.{counts_then, length_in_turn, few_in_turn, there, not_there, taken_all}
 
 abbrev these_of : Name → ℕ → List (List ℕ) → List Answer
 these_of name size slices = LengthWas name (Some size) ∷ given_in_turn name 0 slices
@@ -56,9 +56,10 @@ few_asked (Err faults.TooLarge) name size slices = omega (arith, length_in_turn 
 few_asked (Err faults.Host) name size slices = omega (arith, length_in_turn name 0 slices)
 
 -- the file was said to be there, and its slices were taken
-pub summed_taken : (r : Result (List ℕ) SumFault) (name : Name) (size : ℕ) (old mid new : HostState) → Answered (LengthWas name (Some size) ∷ []) old mid → CountsSlices 0 old mid → Takes r name mid new → IsSummed r name old new
-summed_taken r name size old mid new asked counts takes =
+pub summed_taken : (r : Result (List ℕ) SumFault) (name : Name) (size : ℕ) (old mid new : HostState) → Answered (LengthWas name (Some size) ∷ []) old mid → CountsNeither old mid → Takes r name mid new → IsSummed r name old new
+summed_taken r name size old mid new asked neither takes =
     let slices = takes.whole ++ takes.more in
+    let counts : CountsSlices 0 old mid = record { reads = let e = neither.reads in omega (arith, e); writes = neither.writes; widest = let e = neither.widest in omega (arith, e) } in
     record {
       these = these_of name size slices;
       answered = answered_then (LengthWas name (Some size) ∷ []) (given_in_turn name 0 slices) old mid new asked takes.answered;

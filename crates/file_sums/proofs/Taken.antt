@@ -11,12 +11,16 @@ use Rattle.pf_io.specs.Answered.{Answered}
 use Rattle.pf_io.specs.Unchanged.{KeepsDisk}
 use Rattle.pf_io.proofs.Answering.{answered_none, answered_then}
 use Rattle.pf_io.proofs.Unchanged.{kept_none, kept_then}
-use Rattle.file_sums.specs.Slices.{CHUNK, MOST_BYTES, given_in_turn, AreWhole, CountsSlices}
+use Rattle.pf_io.specs.Slices.{SLICE, MOST_BYTES, given_in_turn, AreWhole, CountsSlices}
 use Rattle.file_sums.specs.Summing.{host_part}
 use Rattle.file_sums.specs.Taking.{SliceTaken, SliceEnds, Takes}
 use Rattle.file_sums.specs.declared.fault.SumFault.{SumFault}
 use Rattle.file_sums.specs.declared.fault.SumFault.TheVariants as faults
-use Rattle.file_sums.proofs.Slicing.{counts_none, counts_then, cause_on, concat_last, long_last, whole_more, more_answered, more_counts}
+use Rattle.pf_io.proofs.Slices.{counts_none, counts_then, cause_on, concat_last, long_last, more_answered, more_counts}
+
+whole_more : (whole : List (List ℕ)) (slice : List ℕ) → AreWhole whole → length slice ≡ SLICE → AreWhole (whole ++ slice ∷ [])
+whole_more [] slice are is = (is, tt)
+whole_more (first ∷ whole) slice are is = (are.0, whole_more whole slice are.1 is)
 
 -- after some whole slices
 pub record TakenTo (name : Name) (len : ℕ) (hasher : Sha256) (old new : HostState) : Type 0 where
@@ -45,7 +49,7 @@ none_taken name hasher state holds = record {
 
 -- a whole one
 pub taken_more : (name : Name) (len n : ℕ) (hasher hasher' : Sha256) (old mid new : HostState) → TakenTo name len hasher old mid → SliceTaken name len n hasher hasher' mid new
-    → n ≡ CHUNK → new.faults ≡ mid.faults → KeepsDisk mid new → TakenTo name (len + n) hasher' old new
+    → n ≡ SLICE → new.faults ≡ mid.faults → KeepsDisk mid new → TakenTo name (len + n) hasher' old new
 taken_more name len n hasher hasher' old mid new was taken is_whole faults disk =
     let slice = taken.slice in
     let long = long_last was.whole slice in
@@ -63,7 +67,7 @@ taken_more name len n hasher hasher' old mid new was taken is_whole faults disk 
 
 -- the last one
 pub taken_last : (name : Name) (len n : ℕ) (hasher hasher' : Sha256) (old mid new : HostState) (sum : List ℕ) → TakenTo name len hasher old mid
-    → SliceTaken name len n hasher hasher' mid new → n < CHUNK → ((m : List ℕ) → Holds256 hasher' m → sum ≡ sha256 m) → Takes (Ok sum) name old new
+    → SliceTaken name len n hasher hasher' mid new → n < SLICE → ((m : List ℕ) → Holds256 hasher' m → sum ≡ sha256 m) → Takes (Ok sum) name old new
 taken_last name len n hasher hasher' old mid new sum was last short sum_is =
     let slice = last.slice in
     let long = long_last was.whole slice in

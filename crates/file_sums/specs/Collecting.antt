@@ -4,7 +4,7 @@ use Rattle.std.specs.List.{count_by}
 use Rattle.pf_io.specs.Host.{Name, Files, Answer, LengthWas, Gave, Wrote, WasCut, Synced, Made, Swapped, Removed, HostState, OnHonest}
 use Rattle.pf_io.specs.Answered.{Answered}
 use Rattle.manifest_model.specs.declared.entries.Trusted.{Trusted}
-use Rattle.file_sums.specs.Slices.{CountsSlices}
+use Rattle.pf_io.specs.Slices.{CountsSlices}
 use Rattle.file_sums.specs.Summing.{IsSumOf, SumEnds, IsSummed, SumsFile}
 use Rattle.file_sums.specs.declared.fault.SumFault.{SumFault}
 use Rattle.file_sums.specs.declared.fault.SumFault.TheVariants as sum_faults

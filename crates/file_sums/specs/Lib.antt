@@ -1,4 +1,3 @@
-pub mod Slices
 pub mod Summing
 pub mod Taking
 pub mod Collecting

@@ -3,7 +3,7 @@ use Rattle.std.specs.Prelude.{◌≡◌, ℕ, ◌-◌, ◌<◌, ◌≤◌, List,
 use Rattle.sha2.specs.Sha256.{sha256}
 use Rattle.pf_io.specs.Host.{Name, Answer, LengthWas, HostState, OnHonest}
 use Rattle.pf_io.specs.Answered.{Answered}
-use Rattle.file_sums.specs.Slices.{MOST_BYTES, IsTaken, IsTooLarge, IsStopped, CountsSlices}
+use Rattle.pf_io.specs.Slices.{MOST_BYTES, IsTaken, IsTooLarge, IsStopped, CountsSlices}
 use Rattle.file_sums.specs.declared.fault.SumFault.{SumFault}
 use Rattle.file_sums.specs.declared.fault.SumFault.TheVariants as faults
 

@@ -6,7 +6,7 @@ use Rattle.sha2.specs.Hashers.{Holds256}
 use Rattle.sha2.specs.declared.Sha256.{Sha256}
 use Rattle.pf_io.specs.Host.{Name, HostState}
 use Rattle.pf_io.specs.Answered.{Answered}
-use Rattle.file_sums.specs.Slices.{CHUNK, MOST_BYTES, given_in_turn, AreWhole, CountsSlices, SliceCame, NoSliceCame}
+use Rattle.pf_io.specs.Slices.{SLICE, MOST_BYTES, given_in_turn, AreWhole, CountsSlices, SliceCame, NoSliceCame}
 use Rattle.file_sums.specs.declared.fault.SumFault.{SumFault}
 use Rattle.file_sums.specs.declared.fault.SumFault.TheVariants as faults
 
@@ -15,7 +15,7 @@ NotLarge slices = length (concat slices) ≤ MOST_BYTES
 
 -- how it ends, by the whole slices that came and the last one, where there is one
 abbrev pub TakeEnds : Result (List ℕ) SumFault → List (List ℕ) → List (List ℕ) → Type 0
-TakeEnds (Ok sum) whole more = (last : List ℕ) × (more ≡ last ∷ []) × (length last < CHUNK) × NotLarge (whole ++ more) × (sum ≡ sha256 (concat (whole ++ more)))
+TakeEnds (Ok sum) whole more = (last : List ℕ) × (more ≡ last ∷ []) × (length last < SLICE) × NotLarge (whole ++ more) × (sum ≡ sha256 (concat (whole ++ more)))
 TakeEnds (Err faults.NotFound) whole more = ⊥
 TakeEnds (Err faults.TooLarge) whole more = (last : List ℕ) × (more ≡ last ∷ []) × NotLarge whole × (MOST_BYTES < length (concat (whole ++ more)))
 TakeEnds (Err faults.Host) whole more = (more ≡ []) × NotLarge whole

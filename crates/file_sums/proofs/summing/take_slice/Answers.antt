@@ -1,7 +1,7 @@
 use Rattle.std.proofs.Common.{◌≡◌, length, take, sym, arith}
 use Rattle.std.proofs.lemmas.List.{length-take-le}
 use Rattle.pf_io.proofs.Unchanged.{kept_once}
-use Rattle.file_sums.proofs.Slicing.{slice_came}
+use Rattle.pf_io.proofs.Slices.{slice_came}
 use Rattle.file_sums.proofs.summing.take_slice.Goals as goal
 
 pub returns-in_err-n-clause-disk : goal.returns-in_err-n-clause-disk
