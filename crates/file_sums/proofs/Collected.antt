@@ -234,3 +234,7 @@ all_in files entries these r (AllEnd.Starved front others sums whole gives is) a
 
 pub honest_sums : (r : Result (List (List ℕ)) AllFault) (entries : List Trusted) (old new : HostState) → AreSummed r entries old new → AreOfFiles r entries old
 honest_sums r entries old new summed = IfSome_then (files_of old) summed.answered.honest (λ files all. all_in files entries summed.these r summed.ends all)
+
+-- a name that was copied into an empty text
+pub name_copied : (made now was copy name : List ℕ) → made ≡ now → now ≡ was ++ copy → was ≡ [] → copy ≡ name → made ≡ name
+name_copied made now was copy name is more none same = is ∙ more ∙ ap (λ (l : List ℕ). l ++ copy) none ∙ same

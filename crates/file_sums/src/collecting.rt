@@ -54,11 +54,7 @@ fn sum_entry<H: Host>(host: &mut H, entry: &Trusted) -> Result<[u8; 32], SumFaul
 ///
 /// `At` names the first file without a listed sum that `sum` refuses, and why; nothing is asked after it. `Memory` is
 /// want of memory, which comes between two files and not after a call that failed.
-pub fn sum_all<H: Host>(
-    alloc: Global,
-    host: &mut H,
-    manifest: &Manifest,
-) -> Result<Sums, AllFault>
+pub fn sum_all<H: Host>(alloc: Global, host: &mut H, manifest: &Manifest) -> Result<Sums, AllFault>
     ensures summed { AreSummed result manifest.now.lists.trusted (H.state host.old) (H.state host.new) }
     ensures fit { IfOk result (λ sums. FitSums manifest.now.lists.trusted sums) }
     ensures honest { AreOfFiles result manifest.now.lists.trusted (H.state host.old) }

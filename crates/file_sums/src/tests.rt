@@ -41,7 +41,10 @@ fn sums_are_those_of_the_standard(rt: HostRuntime) -> Result<(), Fail> {
     host.put("a", b"")?;
     let empty = summed(alloc, &mut host)?;
     assert_eq!(rt; empty.as_str(), EMPTY);
-    host.put("a", b"abcdbcdecdefdefgefghfghighijhijkijkljklmklmnlmnomnopnopq")?;
+    host.put(
+        "a",
+        b"abcdbcdecdefdefgefghfghighijhijkijkljklmklmnlmnomnopnopq",
+    )?;
     let two_blocks = summed(alloc, &mut host)?;
     assert_eq!(rt;
         two_blocks.as_str(),
@@ -124,11 +127,7 @@ fn manifest(rt: &impl Abort, alloc: Global, text: &[u8]) -> Manifest {
 }
 
 // The lines of the sums, or the name that is refused.
-fn lines(
-    alloc: Global,
-    manifest: &Manifest,
-    sums: Result<Sums, AllFault>,
-) -> Result<String, Fail> {
+fn lines(alloc: Global, manifest: &Manifest, sums: Result<Sums, AllFault>) -> Result<String, Fail> {
     let mut lines = String::new(alloc);
     match sums {
         Ok(sums) => {

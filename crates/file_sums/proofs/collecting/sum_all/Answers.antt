@@ -5,7 +5,7 @@ use Rattle.pf_io.proofs.Unchanged.{kept_then}
 use Rattle.manifest_model.specs.declared.entries.Trusted.{Trusted}
 use Rattle.file_sums.specs.Collecting.{AreSummed}
 use Rattle.file_sums.specs.declared.fault.AllFault.TheVariants.{At}
-use Rattle.file_sums.proofs.Collected.{SummedTo, around, summed_next, all_summed, all_starved, all_refused, sums_fit, honest_sums}
+use Rattle.file_sums.proofs.Collected.{SummedTo, around, summed_next, all_summed, all_starved, all_refused, sums_fit, honest_sums, name_copied}
 use Rattle.file_sums.proofs.collecting.sum_all.Goals as goal
 
 pub returns-in_err-push_str-clause-summed : goal.returns-in_err-push_str-clause-summed
@@ -38,7 +38,7 @@ returns-in-Err-clause-summed g c =
     let old = g.H.Host.state c.args.host.now in
     let mid = g.H.Host.state c.loop-k.host in
     let new = g.H.Host.state c.sum_entry.new.host in
-    let copied : c.from-name.result ≡ entry.name = c.from-name.ensures ∙ c.in_ok-push_str.ensures.bytes ∙ ap (λ (l : List ℕ). l ++ c.as_str.result.now) c.clear.ensures.bytes ∙ c.as_str.ensures in
+    let copied : c.from-name.result ≡ entry.name = name_copied c.from-name.result _ _ c.as_str.result.now entry.name c.from-name.ensures c.in_ok-push_str.ensures.bytes c.clear.ensures.bytes c.as_str.ensures in
     subst (λ (name : List ℕ). AreSummed (Err (At name c.in-Err.why)) entries old new) (sym copied)
     (all_refused entries (take k entries) entry (drop (k + 1) entries) c.loop-k.sums.items c.in-Err.why old mid new (around entries k entry c.trusted-entry.ensures) c.loop-k.invariant c.in-Err.ensures.ends)
 
