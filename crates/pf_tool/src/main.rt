@@ -11,6 +11,7 @@ mod fault;
 mod key;
 mod lines;
 mod pieces;
+mod plain_file;
 mod run;
 mod side_file;
 #[cfg(test)]
