@@ -14,6 +14,7 @@ mod EncryptEnding
 pub mod Numbered
 pub mod SameBlocks
 pub mod Following
+mod Defining
 mod PlainWriting
 pub mod OneFile
 pub mod Growing

@@ -4,6 +4,7 @@
 mod decrypt;
 #[cfg(test)]
 mod decrypt_tests;
+mod defines;
 mod encrypt;
 #[cfg(test)]
 mod encrypt_tests;
