@@ -3,6 +3,8 @@ pub mod Composing
 pub mod Calls
 pub mod Stopping
 pub mod KeyReading
+pub mod Asking
+pub mod InputReading
 mod Lists
 mod Drawing
 mod SideDisk

@@ -8,6 +8,8 @@ pub mod Reports
 pub mod Requests
 pub mod SideFiles
 pub mod Keys
+pub mod InputFiles
+pub mod InputSlices
 pub mod Encrypting
 pub mod Making
 pub mod Decrypting
