@@ -1,7 +1,7 @@
 -- The reading of an input, from its calls.
-use Rattle.std.proofs.Common.{◌≡◌, ◌⊎◌, inl, inr, ℕ, ◌+◌, ◌<◌, ◌≤◌, List, [], ◌∷◌, ◌++◌, length, refl, subst, ap, ◌∙◌, sym, arith, length-append, Option, Some, None, Result, Ok, Err}
+use Rattle.std.proofs.Common.{◌≡◌, ◌⊎◌, inl, inr, ℕ, ◌+◌, ◌<◌, ◌≤◌, List, [], ◌∷◌, ◌++◌, length, refl, subst, ap, ◌∙◌, sym, arith, length-append, Option, Some, None, Result, Ok, Err, IfOk, IfErr}
 use Rattle.std.specs.List.{concat}
-use Rattle.lru.proofs.Splits.{all_both}
+use Rattle.std.proofs.lemmas.List.{append-nil}
 use Rattle.pf_io.specs.Disk.{Name}
 use Rattle.pf_io.specs.Host.{Answer, LengthWas, Gave, HostState, KeepsFiles}
 use Rattle.pf_io.specs.Names.{IsName}
@@ -49,6 +49,10 @@ read_none name state = record {
 }
 
 -- one slice more
+whole_more : (whole : List (List ℕ)) (slice : List ℕ) → AreWhole whole → length slice ≡ SLICE → AreWhole (whole ++ slice ∷ [])
+whole_more [] slice are is = (is, tt)
+whole_more (first ∷ whole) slice are is = (are.0, whole_more whole slice are.1 is)
+
 in_turn_more : (name : Name) (bytes : List ℕ) (whole : List (List ℕ)) (slice : List ℕ) → bytes ≡ concat whole → given_in_turn name 0 (whole ++ slice ∷ []) ≡ given_in_turn name 0 whole ++ Gave name (length bytes) SLICE slice ∷ []
 in_turn_more name bytes whole slice are =
     let place : 0 + length (concat whole) ≡ length bytes = omega (arith, ap (λ (l : List ℕ). length l) are) in
@@ -65,7 +69,7 @@ passed_more name count bytes now old mid new was came =
 pub read_more : (name : Name) (count : ℕ) (bytes now : List ℕ) (old mid new : HostState) → ReadTo name bytes old mid → SliceAdded name count bytes now mid new → count ≡ SLICE → length now ≤ MOST_INPUT → KeepsFiles mid new → KeepsDisk mid new → ReadTo name now old new
 read_more name count bytes now old mid new was came is small files disk = record {
   whole = was.whole ++ came.slice ∷ [];
-  are_whole = all_both (λ s. length s ≡ SLICE) was.whole (came.slice ∷ []) was.are_whole (sym came.count_is ∙ is, tt);
+  are_whole = whole_more was.whole came.slice was.are_whole (sym came.count_is ∙ is);
   bytes_are = bytes_more bytes now came.slice was.whole was.bytes_are came.added;
   small = small;
   passed = passed_more name count bytes now old mid new was came;
@@ -95,7 +99,7 @@ module _ (name : Name) (named : IsName name) (size : ℕ) (world : World) where
   slice_next : (bytes : List ℕ) (whole : List (List ℕ)) → AreWhole whole → bytes ≡ concat whole → length bytes ≤ MOST_INPUT → SlicesLead name size (asked (given_in_turn name 0 whole) ++ Answers (Gave name (length bytes) SLICE []) ∷ []) Done
   slice_next bytes whole are_whole are small =
       let all = given_in_turn name 0 (whole ++ [] ∷ []) in
-      let none : concat whole ++ [] ≡ bytes = simp (sym are) in
+      let none : concat whole ++ [] ≡ bytes = append-nil (concat whole) ∙ sym are in
       let few : length (concat (whole ++ [] ∷ [])) ≤ MOST_INPUT = omega (arith, small, ap (λ (l : List ℕ). length l) (concat_last whole [] ∙ none)) in
       let events_are : asked (given_in_turn name 0 whole) ++ Answers (Gave name (length bytes) SLICE []) ∷ [] ≡ asked all =
       sym (asked_then (given_in_turn name 0 whole) (Gave name (length bytes) SLICE [] ∷ [])) ∙ ap asked (sym (in_turn_more name bytes whole [] are)) in
@@ -158,3 +162,14 @@ module _ (name : Name) (world : World) (s0 : HostState) where
         passed = passed_reading (asked (LengthWas name (Some size) ∷ [])) (asked read.these) (with_host world s0) (with_host world s1) (with_host world s2)
             (passed_asked (LengthWas name (Some size) ∷ []) world s0 s1 passed) files (passed_asked read.these world s1 s2 read.passed);
       }
+
+-- however the slices came
+module _ (name : Name) (named : IsName name) (size : ℕ) (s0 s1 s2 : HostState) (passed : HostPassed (LengthWas name (Some size) ∷ []) s0 s1) (files : KeepsFiles s0 s1) where
+  pub all_read : (r : Result (List ℕ) Fault) → IfOk r (λ text. SlicesRead name text s1 s2) → IfOk r (λ text. (world : World) → InputRead name text (with_host world s0) (with_host world s2))
+  all_read (Ok text) read = λ world. slices_read name world s0 named size s1 s2 passed files text read
+  all_read (Err fault) read = tt
+
+  pub all_fall : (r : Result (List ℕ) Fault) → KeepsDisk s0 s2 → IfErr r (λ fault. (size : ℕ) (world : World) → Falls (SlicesLead name size) (λ _ _. KeepsDisk) fault (with_host world s1) (with_host world s2))
+      → IfErr r (λ fault. (world : World) → Falls (InputLeads name) (λ _ _. KeepsDisk) fault (with_host world s0) (with_host world s2))
+  all_fall (Ok text) kept falls = tt
+  all_fall (Err fault) kept falls = λ world. slices_fall name world s0 named size s1 s2 passed files fault kept (falls size world)

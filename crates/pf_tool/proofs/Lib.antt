@@ -5,6 +5,7 @@ pub mod Stopping
 pub mod KeyReading
 pub mod Asking
 pub mod InputReading
+pub mod InputLaws
 mod Lists
 mod Drawing
 mod SideDisk

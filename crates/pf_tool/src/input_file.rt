@@ -1,5 +1,5 @@
 // The reading of a plain input file, whole.
-ghost use Rattle.std.specs.Prelude.{◌≡◌, ◌×◌, ◌≤◌, ℕ, IfOk, IfErr, length};
+ghost use Rattle.std.specs.Prelude.{◌≤◌, ℕ, IfOk, IfErr, length};
 ghost use Rattle.pf_io.specs.Host.{KeepsFiles};
 ghost use Rattle.pf_io.specs.Names.{IsName};
 ghost use Rattle.pf_io.specs.Unchanged.{KeepsDisk};
@@ -29,8 +29,8 @@ fn add_slice<H: Host>(
     requires { length bytes.old.items ≤ MOST_INPUT }
     ensures files { KeepsFiles (H.state host.old) (H.state host.new) }
     ensures disk { KeepsDisk (H.state host.old) (H.state host.new) }
-    ensures added { IfOk result (SliceAdded name.now bytes.old.items bytes.new.items (H.state host.old) (H.state host.new)) }
-    ensures fails { IfErr result (SliceFails name.now (length bytes.old.items) (H.state host.old) (H.state host.new)) }
+    ensures added { IfOk result (λ given. SliceAdded name.now given bytes.old.items bytes.new.items (H.state host.old) (H.state host.new)) }
+    ensures fails { IfErr result (λ fault. SliceFails name.now (length bytes.old.items) fault (H.state host.old) (H.state host.new)) }
 {
     let at = bytes.len();
     bytes.resize(at + SLICE, 0)?;
@@ -82,8 +82,8 @@ pub(crate) fn read_input<'a, H: Host>(
     if !is_name(name) {
         return Err(Fault::Refused(Why::BadName));
     }
-    if host.len(name)?.is_none() {
+    let Some(_) = host.len(name)? else {
         return Err(Fault::Refused(Why::NotFound(name)));
-    }
+    };
     read_slices(alloc, host, name)
 }
