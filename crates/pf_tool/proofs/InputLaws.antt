@@ -109,7 +109,7 @@ record Turn (name : Name) (es : List Event) : Type 0 where
 long_last : (whole : List (List ℕ)) (last : List ℕ) → length (concat (whole ++ last ∷ [])) ≡ length (concat whole) + length last
 long_last whole last = ap (λ (l : List ℕ). length l) (concat_last whole last) ∙ length-append (concat whole) last
 
-large_turn : (name : Name) (es : List Event) (whole : List (List ℕ)) (last : List ℕ) (these : List Answer) → CameInTurn name whole (last ∷ []) these → length (concat whole) ≤ MOST_INPUT → MOST_INPUT < length (concat (whole ++ last ∷ [])) → es ≡ asked these → Turn name es
+abbrev large_turn : (name : Name) (es : List Event) (whole : List (List ℕ)) (last : List ℕ) (these : List Answer) → CameInTurn name whole (last ∷ []) these → length (concat whole) ≤ MOST_INPUT → MOST_INPUT < length (concat (whole ++ last ∷ [])) → es ≡ asked these → Turn name es
 large_turn name es whole last these came few many is = record {
   size = came.1.0;
   whole = whole;
@@ -119,7 +119,7 @@ large_turn name es whole last these came few many is = record {
   is = is ∙ ap asked came.1.1;
 }
 
-taken_turn : (name : Name) (es : List Event) (text : List ℕ) (these : List Answer) → IsTaken name these text → length text ≤ MOST_INPUT → es ≡ asked these → Turn name es
+abbrev taken_turn : (name : Name) (es : List Event) (text : List ℕ) (these : List Answer) → IsTaken name these text → length text ≤ MOST_INPUT → es ≡ asked these → Turn name es
 taken_turn name es text these taken few is = record {
   size = taken.size;
   whole = taken.whole;
