@@ -17,6 +17,7 @@ mod EncryptEnding
 pub mod Numbered
 pub mod SameBlocks
 pub mod Following
+mod PlainWriting
 pub mod OneFile
 pub mod Growing
 pub mod Fronts

@@ -7,6 +7,7 @@ pub mod Outcomes
 pub mod Reports
 pub mod Requests
 pub mod SideFiles
+pub mod PlainFiles
 pub mod Keys
 pub mod InputFiles
 pub mod InputSlices

@@ -12,6 +12,7 @@ mod input_file;
 mod key;
 mod lines;
 mod pieces;
+mod plain_file;
 mod run;
 mod side_file;
 #[cfg(test)]
