@@ -82,14 +82,14 @@ pub read_last : (name : Name) (count : ℕ) (bytes now : List ℕ) (old mid new 
 read_last name count bytes now old mid new was came short small = record {
   these = given_in_turn name 0 (was.whole ++ came.slice ∷ []);
   taken = λ size. record {
-      size = size;
-      whole = was.whole;
-      last = came.slice;
-      are_whole = was.are_whole;
-      ended = let e = came.count_is in omega (arith, short, e);
-      asked = refl;
-      bytes_are = bytes_more bytes now came.slice was.whole was.bytes_are came.added;
-    };
+    size = size;
+    whole = was.whole;
+    last = came.slice;
+    are_whole = was.are_whole;
+    ended = let e = came.count_is in omega (arith, short, e);
+    asked = refl;
+    bytes_are = bytes_more bytes now came.slice was.whole was.bytes_are came.added;
+  };
   small = small;
   passed = passed_more name count bytes now old mid new was came;
 }

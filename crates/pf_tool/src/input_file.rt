@@ -40,11 +40,7 @@ fn add_slice<H: Host>(
 }
 
 // Reads the slices of a file that is there, up to the first that is no whole one.
-fn read_slices<H: Host>(
-    alloc: Global,
-    host: &mut H,
-    name: &str,
-) -> Result<Bytes, Fault<'static>>
+fn read_slices<H: Host>(alloc: Global, host: &mut H, name: &str) -> Result<Bytes, Fault<'static>>
     requires { IsName name.now }
     ensures files { KeepsFiles (H.state host.old) (H.state host.new) }
     ensures disk { KeepsDisk (H.state host.old) (H.state host.new) }
