@@ -12,6 +12,7 @@ pub data Refusal : Type 0 where
   NotFound : (name : Name) → Refusal
   KeyFile : (number : ℕ) → Refusal
   NotProtected : Refusal
+  TooLarge : Refusal
   Unbuilt : Refusal
 
 -- what the events of a command lead to: its work is done, or a damage or a refusal by name
@@ -19,6 +20,17 @@ pub data Ending : Type 0 where
   Done : Ending
   Damaged : (node : ℕ) → (kind : Kind) → Ending
   Refused : (why : Refusal) → Ending
+
+-- endings that are found in a text that was read: memory may be wanting for the reading of the text, and then for these too
+abbrev pub MayStarve : Ending → Type 0
+MayStarve Done = ⊥
+MayStarve (Damaged node kind) = ⊥
+MayStarve (Refused BadName) = ⊥
+MayStarve (Refused (NotFound name)) = ⊥
+MayStarve (Refused (KeyFile number)) = ⊥
+MayStarve (Refused NotProtected) = ⊥
+MayStarve (Refused TooLarge) = ⊥
+MayStarve (Refused Unbuilt) = ⊥
 
 -- Where a run stops: at an ending, in a call that failed and was to give this event, or for want of memory.
 pub data Stop : Type 0 where
@@ -48,6 +60,7 @@ refusal_text BadName = codes "refused bad name"
 refusal_text (NotFound name) = codes "refused not found " ++ name
 refusal_text (KeyFile number) = codes "refused key file " ++ decimal number
 refusal_text NotProtected = codes "refused not protected"
+refusal_text TooLarge = codes "refused too large"
 refusal_text Unbuilt = codes "refused unbuilt"
 
 -- what an ending writes to the log

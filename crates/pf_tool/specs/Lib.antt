@@ -10,6 +10,8 @@ pub mod Requests
 pub mod SideFiles
 pub mod PlainFiles
 pub mod Keys
+pub mod InputFiles
+pub mod InputSlices
 pub mod Encrypting
 pub mod Making
 pub mod Decrypting

@@ -9,6 +9,7 @@ mod encrypt;
 #[cfg(test)]
 mod encrypt_tests;
 mod fault;
+mod input_file;
 mod key;
 mod lines;
 mod pieces;

@@ -17,6 +17,8 @@ pub(crate) enum Why<'a> {
     KeyFile(u64),
     /// The file is no protected file.
     NotProtected,
+    /// The file has more bytes than it may have.
+    TooLarge,
     /// The case is not built yet.
     Unbuilt,
 }
@@ -31,6 +33,7 @@ impl Why<'_> {
             Why::NotFound(name) => write_name(log, "refused not found ", name),
             Why::KeyFile(number) => write_number(log, "refused key file ", *number, ""),
             Why::NotProtected => write_text(log, "refused not protected"),
+            Why::TooLarge => write_text(log, "refused too large"),
             Why::Unbuilt => write_text(log, "refused unbuilt"),
         }
     }
