@@ -18,6 +18,7 @@ mod run;
 mod side_file;
 #[cfg(test)]
 mod tests;
+mod text_refusals;
 mod why;
 mod words;
 
