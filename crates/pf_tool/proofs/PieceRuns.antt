@@ -93,14 +93,14 @@ module _ (name : Name) (ks : List ℕ) (these : List Answer) (asks : AsksInTurn 
   -- they came, and then a call failed
   pub nodes_failed : (place : ℕ) (block : List ℕ) → new.faults ≡ counted old.faults → CountsCalls (suc (length these)) old new
       → (mid : HostState) × HostPassed these old mid × HostFailed (Gave name place 4096 block) mid new
-  nodes_failed place block rose counts = by_cases these refl where
+  nodes_failed place block once counts = by_cases these refl where
     by_cases : (l : List Answer) → these ≡ l → (mid : HostState) × HostPassed these old mid × HostFailed (Gave name place 4096 block) mid new
     by_cases [] none = (
       old,
       subst (λ (l : List Answer). HostPassed l old old) (sym none) (host_none old),
       record {
         told = same_given old.given new.given (subst (λ (l : List Answer). Both old.given new.given (IsMore l)) none answered.told);
-        rose = rose;
+        once = once;
         reads = counts.reads ∙ ap (λ (l : List Answer). counted_times (suc (length l)) old.reads) none;
         writes = counts.writes;
       },
@@ -115,7 +115,7 @@ module _ (name : Name) (ks : List ℕ) (these : List Answer) (asks : AsksInTurn 
         untouched = λ none. absurd (some (sym is ∙ none));
         honest = answered.honest;
       },
-      record { told = refl; rose = rose; reads = counts.reads ∙ one_later (length these) old.reads; writes = counts.writes },
+      record { told = refl; once = once; reads = counts.reads ∙ one_later (length these) old.reads; writes = counts.writes },
     ) where
       some : x ∷ xs ≡ [] → ⊥
       some none = absurd (cc)
@@ -226,11 +226,11 @@ module _ (input : Name) (node : List ℕ) (secret : MetaSecret) (at : ℕ) (tree
 
       pub read_failed : (fault : Fault) → fault ≡ faults.Host → (reads : Reads (Err trees.Host) input at buffer tree tree' now new) → new.faults ≡ counted now.faults → (world : World)
           → Falls (PiecesLead input node secret) (λ _ _. KeepsDisk) fault (facing world old before) (facing world new out)
-      read_failed fault is reads rose world =
+      read_failed fault is reads once world =
           let begun = piece_failed input secret at so_far.file tree lt long_here holding_here buffer room tree' now new reads in
           let next = asks_next input node secret at so_far.file so_far.events so_far.front lt begun.1.other begun.1.same begun.0 begun.1.ready begun.1.low begun.2 in
           let nodes : so_far.events ++ range_events input begun.1.other (node_count at) (begun.0 - node_count at) ≡ so_far.events ++ map (λ a. Answers a) reads.these = ap (λ (l : List Event). so_far.events ++ l) (sym begun.1.events) in
-          let failed = nodes_failed input reads.asked.done reads.these reads.asked.asks now new reads.answered (4096 * begun.0) next.0 rose reads.counted in
+          let failed = nodes_failed input reads.asked.done reads.these reads.asked.asks now new reads.answered (4096 * begun.0) next.0 once reads.counted in
           host_fails (PiecesLead input node secret) Kept (so_far.events ++ map (λ a. Answers a) reads.these) next.1.rest next.1.ending fault (facing world old before) (facing world failed.0 out) (facing world new out)
           (Gave input (4096 * begun.0) 4096 next.0) is (subst (λ (l : List Event). PiecesLead input node secret (l ++ Answers (Gave input (4096 * begun.0) 4096 next.0) ∷ next.1.rest) next.1.ending) nodes next.1.leads)
           (nodes_then reads.these failed.0 failed.1 world) (failed.2, refl) kept

@@ -4,17 +4,21 @@
 mod decrypt;
 #[cfg(test)]
 mod decrypt_tests;
+mod defines;
 mod encrypt;
 #[cfg(test)]
 mod encrypt_tests;
 mod fault;
+mod input_file;
 mod key;
 mod lines;
 mod pieces;
+mod plain_file;
 mod run;
 mod side_file;
 #[cfg(test)]
 mod tests;
+mod text_refusals;
 mod why;
 mod words;
 

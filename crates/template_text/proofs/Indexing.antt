@@ -22,12 +22,17 @@ map-cond : (b : Bool) (value : Bor (List ℕ)) (o : Option (Bor (List ℕ))) →
 map-cond true value o = refl
 map-cond false value o = refl
 
-pub index_more : (values : Values) (i : ℕ) (pair : List ℕ × List ℕ) (old new : BTreeMap (Bor (List ℕ)) (Bor (List ℕ))) (key value : Bor (List ℕ)) → i < length values → pair ≡ get_or values i pair → key.now ≡ pair.0 → value.now ≡ pair.1
-    → UpdatesBy (λ x y. slice_cmp nat_cmp x.now y.now) (λ k. slice_cmp nat_cmp key.now k.now) old new (Some value)
-    → ((q : List ℕ) → value_in old q ≡ value_of (take i values) q) → (q : List ℕ) → value_in new q ≡ value_of (take (i + 1) values) q
-index_more values i pair old new key value l is name text updates so_far q =
+-- a name is given a value
+pub value_set : (old new : BTreeMap (Bor (List ℕ)) (Bor (List ℕ))) (key value : Bor (List ℕ)) → UpdatesBy (λ x y. slice_cmp nat_cmp x.now y.now) (λ k. slice_cmp nat_cmp key.now k.now) old new (Some value)
+    → (q : List ℕ) → value_in new q ≡ cond (bytes_eq q key.now) (Some value.now) (value_in old q)
+value_set old new key value updates q =
     let found = ap (option_map (λ (v : Bor (List ℕ)). v.now)) (btree_map_updates_str key.now old new (Some value) updates q) ∙ map-cond (bytes_eq key.now q) value (get_by (λ k. slice_cmp nat_cmp q k.now) old) in
-    let same : bytes_eq key.now q ≡ bytes_eq q pair.0 = bytes_eq_comm key.now q ∙ ap (bytes_eq q) name in
-    let here : cond (bytes_eq key.now q) (Some value.now) (value_in old q) ≡ cond (bytes_eq q pair.0) (Some pair.1) (value_of (take i values) q) = rw (same, text, so_far q) refl in
+    found ∙ ap (λ (b : Bool). cond b (Some value.now) (value_in old q)) (bytes_eq_comm key.now q)
+
+-- so with the values of one pair more
+pub index_more : (values : Values) (i : ℕ) (pair : List ℕ × List ℕ) (old new : BTreeMap (Bor (List ℕ)) (Bor (List ℕ))) (key value : List ℕ) → i < length values → pair ≡ get_or values i pair → key ≡ pair.0 → value ≡ pair.1
+    → ((q : List ℕ) → value_in new q ≡ cond (bytes_eq q key) (Some value) (value_in old q)) → ((q : List ℕ) → value_in old q ≡ value_of (take i values) q) → (q : List ℕ) → value_in new q ≡ value_of (take (i + 1) values) q
+index_more values i pair old new key value l is name text sets so_far q =
+    let here : cond (bytes_eq q key) (Some value) (value_in old q) ≡ cond (bytes_eq q pair.0) (Some pair.1) (value_of (take i values) q) = rw (name, text, so_far q) refl in
     let whole : take (i + 1) values ≡ take i values ++ (pair.0, pair.1) ∷ [] = take_more values i pair l ∙ ap (λ p. take i values ++ p ∷ []) (sym is) in
-    found ∙ here ∙ sym (value_of_more (take i values) pair.0 pair.1 q) ∙ ap (λ vs. value_of vs q) (sym whole)
+    sets q ∙ here ∙ sym (value_of_more (take i values) pair.0 pair.1 q) ∙ ap (λ vs. value_of vs q) (sym whole)

@@ -1,0 +1,80 @@
+"""Protected files of an independent writer, of one to three levels of hash-tree nodes."""
+from harness import KEY, Skip, decrypt, put, same
+
+try:
+    import cryptography
+except ImportError:
+    cryptography = None
+else:
+    from protected import DATA_CHILDREN, FIRST, NODE, TREE_CHILDREN, counts, data_place, protected, tree_place
+
+PIECE = 32_768
+NONCE = bytes(range(32))
+
+
+def content_of(size):
+    """Bytes that differ from place to place."""
+    words = b"".join(i.to_bytes(4, "big") for i in range(size // 4 + 1))
+    return words[:size]
+
+
+def nodes_of(content):
+    if cryptography is None:
+        raise Skip("Python's package cryptography is not installed")
+    return protected(KEY, b"out.pf", NONCE, content)
+
+
+def three_levels():
+    """One byte more than the data nodes of the root, its children and their first child can have."""
+    return content_of(FIRST + NODE * DATA_CHILDREN * (1 + TREE_CHILDREN + 1) + 1) if cryptography else b""
+
+
+def test_files_of_each_depth_are_decrypted():
+    sizes = [0, 1, 3071, 3072, 3073, 7168, 7169, 396_288, 396_289, len(three_levels())]
+    for size in sizes:
+        content = content_of(size)
+        put("out.pf", b"".join(nodes_of(content)))
+        ran = decrypt()
+        same((ran.status, ran.log), (0, ""), f"{size} bytes")
+        same(ran.out == content, True, f"the content of {size} bytes")
+
+
+def first_touched(node):
+    """The place in the content of the first byte that is read by way of the node."""
+    if node == 0:
+        return 0
+    number, m = (node - 1) % (DATA_CHILDREN + 1), (node - 1) // (DATA_CHILDREN + 1)
+    d = DATA_CHILDREN * m + max(number - 1, 0)
+    return 0 if node == 1 else FIRST + NODE * d
+
+
+def test_damage_at_each_level_is_named_behind_the_pieces_before_it():
+    content = three_levels()
+    nodes = nodes_of(content)
+    data, trees = counts(len(content))
+    levels = [0, tree_place(0), tree_place(1), tree_place(TREE_CHILDREN + 1), tree_place(trees - 1)]
+    for node in [*levels, data_place(0), data_place(DATA_CHILDREN), data_place(data - 1)]:
+        for kind in "tag", "short":
+            if kind == "tag":
+                broken = bytearray(nodes[node])
+                broken[1000] ^= 1
+                put("out.pf", b"".join(nodes[:node]) + broken + b"".join(nodes[node + 1 :]))
+            else:
+                put("out.pf", b"".join(nodes[:node]) + nodes[node][:4095])
+            ran = decrypt()
+            front = content[: first_touched(node) // PIECE * PIECE]
+            if kind == "tag":
+                same((ran.status, ran.log), (1, f"damaged node {node} tag\n"), f"node {node} changed")
+                same(ran.out == front, True, f"the pieces before node {node}")
+            else:
+                same((ran.status, ran.log.startswith("damaged node ")), (1, True), f"node {node} short ({ran.log})")
+                same(content.startswith(ran.out) and len(ran.out) <= len(front), True, f"a front before node {node}")
+
+
+def test_nodes_that_change_places_are_damage():
+    content = content_of(FIRST + 8 * NODE)
+    nodes = nodes_of(content)
+    nodes[2], nodes[3] = nodes[3], nodes[2]
+    put("out.pf", b"".join(nodes))
+    ran = decrypt()
+    same((ran.status, ran.log, ran.out), (1, "damaged node 2 tag\n", b""), "nodes 2 and 3 exchanged")
