@@ -477,4 +477,4 @@ pub decrypts_sheets : DecryptsSheets
 decrypts_sheets key input es (AtEnd ending) user sheets stands has_key unforged = at_end key input user sheets es ending has_key unforged stands
 decrypts_sheets key input es (Failed event) user sheets stands has_key unforged = stopped key input user sheets es stands.0 stands.1 event stands.2 has_key unforged
 decrypts_sheets key input es Starved user sheets stands has_key unforged =
-    by_front key input user sheets es (stands.0 ∷ stands.1) stands.2 Starved (λ e is. absurd (cc)) refl stands.3 has_key unforged
+    by_front key input user sheets es stands.0 stands.1 Starved (λ e is. absurd (cc)) refl stands.3 has_key unforged

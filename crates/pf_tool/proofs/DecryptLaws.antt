@@ -272,6 +272,13 @@ module _ (key input : Name) where
   decrypt_silent ending other es (decrypt_key_refused (key_short bytes named short is ends)) second = absurd (cc)
   decrypt_silent ending other es (decrypt_key_read user rest has is unseals) second = absurd (cc)
 
+  pub decrypt_spoken : (ending : Ending) → DecryptLeads key input [] ending → ending ≡ Refused BadName
+  decrypt_spoken ending (decrypt_key_refused (key_unnamed u is ends)) = ends
+  decrypt_spoken ending (decrypt_key_refused (key_absent named is ends)) = absurd (cc)
+  decrypt_spoken ending (decrypt_key_refused (key_length n named ne is ends)) = absurd (cc)
+  decrypt_spoken ending (decrypt_key_refused (key_short bytes named short is ends)) = absurd (cc)
+  decrypt_spoken ending (decrypt_key_read user rest has is unseals) = absurd (cc)
+
   -- the same answers lead to one run
   pub decrypt_one : (es others : List Event) (ending other : Ending) → DecryptLeads key input es ending → DecryptLeads key input others other → answers_in es ≡ answers_in others → ending ≡ other
   decrypt_one es others ending other (decrypt_key_refused refused) (decrypt_key_refused refused2) same = key_by key es ending refused ∙ ap key_ending same ∙ sym (key_by key others other refused2)

@@ -48,6 +48,9 @@ module _ (key input output : Name) where
   alone_unnamed es ending never (encrypt_key_read user rest has is seals) = absurd (never has.is_name)
 
   -- where the words alone lead to an ending, nothing else does
+  pub encrypt_spoken : (ending : Ending) → EncryptLeads key input output [] ending → ending ≡ Refused BadName
+  encrypt_spoken ending leads = (unnamed_alone ending leads).1
+
   pub encrypt_silent : (ending other : Ending) (es : List Event) → EncryptLeads key input output [] ending → EncryptLeads key input output es other → (es ≡ []) × (ending ≡ other)
   encrypt_silent ending other es first second =
       let one = unnamed_alone ending first in

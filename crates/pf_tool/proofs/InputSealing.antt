@@ -1,5 +1,5 @@
 -- The sealing of an input, from its parts.
-use Rattle.std.proofs.Common.{◌≡◌, ◌≢◌, ℕ, ◌<◌, ◌≤◌, List, [], ◌∷◌, ◌++◌, length, take, refl, subst, ap, ◌∙◌, sym, arith, Option, Some, None, IfSome, Result, Ok, Err}
+use Rattle.std.proofs.Common.{◌≡◌, ◌≢◌, inr, ℕ, ◌<◌, ◌≤◌, List, [], ◌∷◌, ◌++◌, length, take, refl, subst, ap, ◌∙◌, sym, arith, Option, Some, None, IfSome, Result, Ok, Err}
 use Rattle.std.specs.List.{AllByRecursion}
 use Rattle.std.proofs.lemmas.List.Elements.{Contains-append_right}
 use Rattle.pf_io.specs.Disk.{Name, Files}
@@ -42,7 +42,7 @@ asks_nothing user output content es (Failed event) files stands =
     all_front (IsAnswerOf files) (answers_in es) (answers_in (event ∷ stands.0)) (subst (λ (l : List Answer). AllByRecursion (IsAnswerOf files) l) (answers_then es (event ∷ stands.0))
     (subst (λ (l : List Event). AllByRecursion (IsAnswerOf files) (answers_in l)) (sym stands.2.are) (tt, (tt, (tt, tt)))))
 asks_nothing user output content es Starved files stands =
-    all_front (IsAnswerOf files) (answers_in es) (answers_in (stands.0 ∷ stands.1)) (subst (λ (l : List Answer). AllByRecursion (IsAnswerOf files) l) (answers_then es (stands.0 ∷ stands.1))
+    all_front (IsAnswerOf files) (answers_in es) (answers_in stands.0) (subst (λ (l : List Answer). AllByRecursion (IsAnswerOf files) l) (answers_then es stands.0)
     (subst (λ (l : List Event). AllByRecursion (IsAnswerOf files) (answers_in l)) (sym stands.3.are) (tt, (tt, (tt, tt)))))
 
 not_end : (ending : Ending) → ending ≢ Done → AtEnd ending ≡ AtEnd Done → ⊥
@@ -107,15 +107,13 @@ module _ (user : List ℕ) (input output : Name) (target : IsTarget output) (fit
         pub not_begun : (fault : Fault) → Falls (Begins user output) (LeavesBegun output) fault Asked Started → Falls (Seals user input output) (LeavesSealed user input output) fault Start Started
         not_begun fault falls =
             let o = falls.outcome in
-            let never : (ending : Ending) → falls.stop ≡ AtEnd ending → Begins user output o.events ending → ⊥ = λ ending is begins.
-            not_done fault (falls.is_fault.ends ∙ ap stop_status is ∙ ap ending_status begins.done) in
             let not_at_end : falls.stop ≡ AtEnd Done → ⊥ = λ is. not_done fault (falls.is_fault.ends ∙ ap stop_status is) in
             record {
               stop = falls.stop;
               is_fault = falls.is_fault;
               outcome = outcome_of First (Begins user output) Leading (LeavesBegun output) Leaving falls.stop Start Asked Started o first_passed
                   (files_kept (answers_in o.events) s0 s1 files (happened_honest o.events falls.stop Asked Started o.happened))
-                  (stands_on First (Begins user output) Leading o.events falls.stop begins_on never o.stands)
+                  (stands_on First (Begins user output) Leading o.events falls.stop (λ es ending begins. inr (begins.done, begins_on es ending begins)) not_at_end o.stands)
                   (λ left. early user input output (First ++ tried o.events falls.stop) (SideBegun (tried o.events falls.stop) falls.stop output) falls.stop s0.honest s2.honest not_at_end (λ d e begun. begun.others)
                   (λ d e begun none. begun.side (λ made. none (Contains-append_right First (tried o.events falls.stop) (Answers (Made (side_of output))) made)))
                   (begun_run user input output (First ++ tried o.events falls.stop) (tried o.events falls.stop) falls.stop s0.honest s1.honest s2.honest

@@ -3,6 +3,9 @@ pub mod Composing
 pub mod Calls
 pub mod Stopping
 pub mod KeyReading
+pub mod Asking
+pub mod InputReading
+pub mod InputLaws
 mod Lists
 mod Drawing
 mod SideDisk
@@ -14,6 +17,7 @@ mod EncryptEnding
 pub mod Numbered
 pub mod SameBlocks
 pub mod Following
+mod Defining
 mod PlainWriting
 pub mod OneFile
 pub mod Growing

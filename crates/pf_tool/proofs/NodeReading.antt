@@ -13,7 +13,7 @@ use Rattle.pf_io.specs.Unchanged.{KeepsDisk}
 use Rattle.pf_io.proofs.Unchanged.{kept_none}
 use Rattle.pf_tool.specs.World.{World, with_host}
 use Rattle.pf_tool.specs.Events.{Event, Answers}
-use Rattle.pf_tool.specs.Endings.{Ending, Done, Refused, BadName, NotFound, NotProtected, Unbuilt, Stop, AtEnd, ending_line}
+use Rattle.pf_tool.specs.Endings.{Ending, Done, Refused, BadName, NotFound, NotProtected, Unbuilt, Stop, ending_line}
 use Rattle.pf_tool.specs.Faults.{fault_line, fault_status}
 use Rattle.pf_tool.specs.Happened.{HostPassed, HostFailed, Passed}
 use Rattle.pf_tool.specs.Outcomes.{Falls, ComesOut}
@@ -24,7 +24,7 @@ use Rattle.pf_tool.specs.declared.fault.Fault.{Fault}
 use Rattle.pf_tool.specs.declared.fault.Fault.TheVariants as faults
 use Rattle.pf_tool.specs.declared.why.Why.TheVariants as whys
 use Rattle.pf_tool.proofs.Composing.{passed_none, passed_host, passed_reading, failed_host}
-use Rattle.pf_tool.proofs.Stopping.{refused, host_fails, falls_as, outcome_then}
+use Rattle.pf_tool.proofs.Stopping.{refused, host_fails, falls_as, falls_after, ends_after}
 use Rattle.pf_tool.proofs.KeyReading.{asked_twice}
 use Rattle.pf_tool.proofs.OneFile.{refused_last}
 
@@ -92,20 +92,6 @@ unseals_pieces user input size node secret target whole opens es ending lead =
     (pieces_read lead.end (subst IsOpenable (sym lead.first) whole) (record { secret = secret; opens_to = subst (λ (b : List ℕ). OpensTo user b secret) (sym lead.first) opens; pieces_are = lead.are }) lead.ending_is)
     (ap (λ (l : List Event). Answers (LengthWas input (Some size)) ∷ Answers (Gave input 0 4096 node) ∷ l) (lead.events_are ∙ ap (λ (e : Ending). piece_events input lead.file 0 lead.pieces e) (sym lead.ending_is))
     ∙ ap (λ (b : List ℕ). Answers (LengthWas input (Some size)) ∷ Answers (Gave input 0 4096 b) ∷ piece_events input lead.file 0 lead.pieces ending) (sym lead.first))
-
--- the last part of a command did not come to its end
-falls_after : (xs : List Event) (Part Leads : List Event → Ending → Type 0) (fault : Fault) (old mid new : World) → Falls Part (λ _ _. KeepsDisk) fault mid new → Passed xs old mid → KeepsFiles old.host mid.host → KeepsDisk old.host new.host
-    → ((es : List Event) (ending : Ending) → Part es ending → Leads (xs ++ es) ending) → Falls Leads (λ _ _. KeepsDisk) fault old new
-falls_after xs Part Leads fault old mid new falls passed files kept go = record {
-  stop = falls.stop;
-  is_fault = falls.is_fault;
-  outcome = outcome_then xs Part Leads (λ _ _. KeepsDisk) (λ _ _. KeepsDisk) falls.stop old mid new falls.outcome passed files go (λ left. kept);
-}
-
-pub ends_after : {T : Type 0} (xs : List Event) (Part Leads : List Event → Ending → Type 0) (result : Result T Fault) (old mid new : World) → ComesOut Part (λ _ _. KeepsDisk) result mid new → Passed xs old mid → KeepsFiles old.host mid.host → KeepsDisk old.host new.host
-    → ((es : List Event) (ending : Ending) → Part es ending → Leads (xs ++ es) ending) → ComesOut Leads (λ _ _. KeepsDisk) result old new
-ends_after xs Part Leads (Ok value) old mid new ends passed files kept go = outcome_then xs Part Leads (λ _ _. KeepsDisk) (λ _ _. KeepsDisk) (AtEnd Done) old mid new ends passed files go (λ left. kept)
-ends_after xs Part Leads (Err fault) old mid new ends passed files kept go = falls_after xs Part Leads fault old mid new ends passed files kept go
 
 module _ (key input : Name) where
   pub no_key : (fault : Fault) (old new : World) → Falls (KeyRefused key) (λ _ _. KeepsDisk) fault old new → Falls (DecryptLeads key input) (λ _ _. KeepsDisk) fault old new

@@ -1,6 +1,7 @@
 -- The clauses of a run, each from what the whole run came to.
 use Rattle.std.proofs.Common.{◌≡◌, ◌≢◌, ◌⊎◌, inl, inr, ⊎_elim, ℕ, ◌≤◌, List, [], ◌∷◌, ◌++◌, subst, ap, ◌∙◌, sym, arith, Option, Some, Result, Ok, Err, IfSome}
 use Rattle.std.specs.List.{AllByRecursion, concat}
+use Rattle.std.proofs.lemmas.List.{append-nil}
 use Rattle.pf_io.specs.Disk.{Name, Files}
 use Rattle.pf_io.specs.Host.{Answer, HostState, IsMore, files_of}
 use Rattle.pf_io.specs.Answered.{IsAnswerOf, WereTold}
@@ -9,17 +10,17 @@ use Rattle.pf_io.specs.Words.{WordsState}
 use Rattle.pf_io.proofs.Telling.{both_weaker}
 use Rattle.pf_tool.specs.World.{World, world_of, with_log}
 use Rattle.pf_tool.specs.Events.{Event, Answers, Draws, Puts, answers_in, words_in, pieces_in, bytes_in}
-use Rattle.pf_tool.specs.Endings.{Ending, Done, Stop, AtEnd, Failed, Starved, stop_line, stop_status, no_command_line}
+use Rattle.pf_tool.specs.Endings.{Ending, Done, MayStarve, Stop, AtEnd, Failed, Starved, stop_line, stop_status, no_command_line}
 use Rattle.pf_tool.specs.declared.fault.Fault.{Fault}
 use Rattle.pf_tool.proofs.Stopping.{not_done}
 use Rattle.pf_tool.specs.Happened.{Passed, Happened}
 use Rattle.pf_tool.specs.Faults.{fault_status}
-use Rattle.pf_tool.specs.Outcomes.{StopsAt, ComesOut, Concludes}
+use Rattle.pf_tool.specs.Outcomes.{IsAhead, StopsAt, ComesOut, Concludes}
 use Rattle.pf_tool.specs.Reports.{Reported, Reports}
 use Rattle.pf_tool.specs.Requests.{Request, Decrypt, Encrypt}
 use Rattle.pf_tool.specs.Runs.{Leads, LeavesHost, Runs, Usage, Causes, ByWords, Content, Decided, NoneCounted, Honestly, as_files_give, starved, Honest, Stays}
 use Rattle.pf_tool.proofs.RunStops.{not_two, reports_of, stop_low, reported_said, said, status_of, host_counted, random_counted, out_counted, all_passed, none_failed, input_kept, undrawn, unput, done_at_zero}
-use Rattle.pf_tool.proofs.RunLaws.{silent, decided, none_left, over, over_front}
+use Rattle.pf_tool.proofs.RunLaws.{silent, spoken, decided, none_left, over, over_front}
 use Rattle.pf_tool.proofs.DecryptLaws.{decrypt_undrawn}
 use Rattle.pf_tool.proofs.EncryptLaws.{encrypt_unput, encrypt_given}
 use Rattle.pf_tool.proofs.ContentRuns.{told_of, these_told, front_taken, took_content}
@@ -107,26 +108,37 @@ module _ (request : Request) (old new : World) (status : ℕ) (run : Runs reques
         most = ⊎_elim (λ both. omega (arith, both.0, stop_low run.stop)) (λ both. omega (arith, both.0)) what;
       }
 
+  -- where the words alone lead to an ending, nothing is ahead
+  not_ahead : (es rest : List Event) (ending other : Ending) → IsAhead rest other → Leads request [] ending → (es ++ rest ≡ []) × (ending ≡ other) → ⊥
+  not_ahead es [] ending other ahead leads alone = subst MayStarve (sym alone.1 ∙ spoken request ending leads) ahead
+  not_ahead es (event ∷ rest) ending other ahead leads alone = some_event es event rest alone.0
+
   by_words_at : (stop : Stop) (es : List Event) (ending : Ending) → Leads request [] ending → StopsAt (Leads request) es stop → Happened es stop old Now → Reports stop old.log new.log status → Reports (AtEnd ending) old.log new.log status × (Now ≡ old)
   by_words_at (AtEnd other) es ending leads stands happened reports =
       let alone = silent request ending other es leads stands in
       (subst (λ (e : Ending). Reports (AtEnd e) old.log new.log status) (sym alone.1) reports, nothing_passed es old Now alone.0 happened)
   by_words_at (Failed event) es ending leads stands happened reports = absurd (some_event es event stands.0 (silent request ending stands.1 (es ++ event ∷ stands.0) leads stands.2).0)
-  by_words_at Starved es ending leads stands happened reports = absurd (some_event es stands.0 stands.1 (silent request ending stands.2 (es ++ stands.0 ∷ stands.1) leads stands.3).0)
+  by_words_at Starved es ending leads stands happened reports = absurd (not_ahead es stands.0 ending stands.1 stands.2 leads (silent request ending stands.1 (es ++ stands.0) leads stands.3))
 
   pub run_by_words : ByWords request old new status
   run_by_words ending leads = by_words_at run.stop run.outcome.events ending leads run.outcome.stands run.outcome.happened run.reports
 
+  -- memory is wanting behind all answers of an ending alone where it may be for this ending
+  want_decided : (es events rest : List Event) (ending other : Ending) → ending ≢ Done → Leads request events ending → IsAhead rest other → Leads request (es ++ rest) other → answers_in es ≡ answers_in events → MayStarve ending
+  want_decided es events [] ending other refused leads ahead stands same =
+      subst MayStarve (decided request (es ++ []) events other ending stands leads (ap (λ (l : List Event). answers_in l) (append-nil es) ∙ same)) ahead
+  want_decided es events (event ∷ rest) ending other refused leads ahead stands same = absurd (none_left request events es event rest ending other refused leads stands same)
+
   decided_at : (stop : Stop) (es events : List Event) (ending : Ending) → Leads request events ending → WereTold (answers_in events) old.host new.host → (status ≤ 3) ⊎ (ending ≢ Done) → StopsAt (Leads request) es stop → Happened es stop old Now → Reports stop old.log new.log status
-      → Reports (AtEnd ending) old.log new.log status
+      → Reports (AtEnd ending) old.log new.log status ⊎ (MayStarve ending × Reports Starved old.log new.log status)
   decided_at (AtEnd other) es events ending leads told low stands happened reports =
       let same : other ≡ ending = decided request es events other ending stands leads (these_told old.host new.host (answers_in es) (answers_in events) happened.host.told told) in
-      subst (λ (e : Ending). Reports (AtEnd e) old.log new.log status) same reports
+      inl (subst (λ (e : Ending). Reports (AtEnd e) old.log new.log status) same reports)
   decided_at (Failed event) es events ending leads told (inr refused) stands happened reports =
       absurd (none_left request events es event stands.0 ending stands.1 refused leads stands.2 (these_told old.host new.host (answers_in es) (answers_in events) (told_of es (Failed event) old Now happened) told))
   decided_at (Failed event) es events ending leads told (inl low) stands happened reports = absurd (⊎_elim (λ both. omega (arith, both.0, low, failed_high event)) (λ both. omega (arith, both.0, low)) (said (Failed event) old.log new.log status reports))
   decided_at Starved es events ending leads told (inr refused) stands happened reports =
-      absurd (none_left request events es stands.0 stands.1 ending stands.2 refused leads stands.3 (these_told old.host new.host (answers_in es) (answers_in events) (told_of es Starved old Now happened) told))
+      inr (want_decided es events stands.0 ending stands.1 refused leads stands.2 stands.3 (these_told old.host new.host (answers_in es) (answers_in events) (told_of es Starved old Now happened) told), reports)
   decided_at Starved es events ending leads told (inl low) stands happened reports = absurd (⊎_elim (λ both. omega (arith, both.0, low)) (λ both. omega (arith, both.0, low)) (said Starved old.log new.log status reports))
 
   pub run_decided : Decided request old new status
@@ -139,7 +151,7 @@ module _ (request : Request) (old new : World) (status : ℕ) (run : Runs reques
   honest_at (Failed event) es files is none stands happened reports = absurd (none_failed es old Now event happened none.host none.random none.out)
   honest_at Starved es files is none stands happened reports =
       ⊎_elim (λ both. starved (λ pieces ending gives.
-      let front = over_front request files es (stands.0 ∷ stands.1) stands.2 ending pieces stands.3 (all_of files (files_of old.host) (answers_in es) is happened.host.honest) gives in
+      let front = over_front request files es stands.0 stands.1 ending pieces stands.3 (all_of files (files_of old.host) (answers_in es) is happened.host.honest) gives in
       both_weaker (IsMore (bytes_in es)) (TakesFront (concat pieces)) old.out.bytes new.out.bytes happened.out.told (λ before now more. front_taken (bytes_in es) front.0 (concat pieces) before now front.1 more)) both.0 both.1)
       (λ both. absurd (none.log both.1)) (said Starved old.log new.log status reports)
 

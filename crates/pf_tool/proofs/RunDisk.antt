@@ -1,6 +1,7 @@
 -- What a run leaves of an honest disk, by its status and by the host's count of faults.
 use Rattle.std.proofs.Common.{◌≡◌, ◌⊎◌, inl, inr, ⊎_elim, ℕ, zero, suc, List, [], ◌∷◌, ◌++◌, refl, subst, sym, arith, Option, Some}
 use Rattle.std.specs.Prelude.{Contains}
+use Rattle.std.proofs.lemmas.List.{append-nil}
 use Rattle.std.proofs.lemmas.List.Elements.{Contains-append_cases}
 use Rattle.pf_io.specs.Disk.{Name, File, Disk, Image}
 use Rattle.pf_io.specs.Host.{Swapped}
@@ -9,9 +10,9 @@ use Rattle.pf_io.specs.Names.{side_of}
 use Rattle.pf_io.proofs.Telling.{both_weaker}
 use Rattle.pf_tool.specs.World.{World, with_log}
 use Rattle.pf_tool.specs.Events.{Event, Answers, Draws, Puts}
-use Rattle.pf_tool.specs.Endings.{Ending, Done, Stop, AtEnd, Failed, Starved, tried}
+use Rattle.pf_tool.specs.Endings.{Ending, Done, MayStarve, Stop, AtEnd, Failed, Starved, tried}
 use Rattle.pf_tool.specs.Happened.{Happened}
-use Rattle.pf_tool.specs.Outcomes.{StopsAt}
+use Rattle.pf_tool.specs.Outcomes.{IsAhead, StopsAt}
 use Rattle.pf_tool.specs.Reports.{Reports}
 use Rattle.pf_tool.specs.Requests.{Request, Decrypt, Encrypt}
 use Rattle.pf_tool.specs.SideFiles.{IsSwapped, SideLeaves, SideEnds, IsNewFile}
@@ -94,6 +95,11 @@ module _ (key input output : Name) where
   not_in_front : (es : List Event) (event : Event) (rest : List Event) (ending : Ending) → EncryptLeads key input output (es ++ event ∷ rest) ending → IsSwapped es output → ⊥
   not_in_front es event rest ending leads swapped = none_has es (front_none es event rest ending leads) (has_swap es (side_of output) output swapped)
 
+  not_at_want : (es rest : List Event) (ending : Ending) → IsAhead rest ending → EncryptLeads key input output (es ++ rest) ending → IsSwapped es output → ⊥
+  not_at_want es [] ending ahead leads swapped =
+      ⊎_elim (λ none. none_has es none (has_swap es (side_of output) output swapped)) (λ both. subst MayStarve both.0 ahead) (leads_swaps es ending (subst (λ (l : List Event). EncryptLeads key input output l ending) (append-nil es) leads))
+  not_at_want es (event ∷ rest) ending ahead leads swapped = not_in_front es event rest ending leads swapped
+
   module _ (old new : World) (status : ℕ) where
     may_be_new : (es : List Event) (stop : Stop) → StopsAt (EncryptLeads key input output) es stop → Happened es stop old (with_log new old.log) → Reports stop old.log new.log status → IsSwapped (tried es stop) output → MayBeNew old new status
     may_be_new es (AtEnd ending) stands happened reports swapped =
@@ -105,7 +111,7 @@ module _ (key input output : Name) where
     may_be_new es (Failed (Puts bytes)) stands happened reports swapped =
         absurd (⊎_elim (λ front. not_in_front es (Puts bytes) stands.0 stands.1 stands.2 front) (λ last. none_has (Puts bytes ∷ []) (λ no. no, tt) (has_swap (Puts bytes ∷ []) (side_of output) output last))
         (Contains-append_cases es (Puts bytes ∷ []) (Answers (Swapped (side_of output) output)) swapped))
-    may_be_new es Starved stands happened reports swapped = absurd (not_in_front es stands.0 stands.1 stands.2 stands.3 swapped)
+    may_be_new es Starved stands happened reports swapped = absurd (not_at_want es stands.0 stands.1 stands.2 stands.3 swapped)
 
     module _ (run : Runs (Encrypt key input output) old new status) where
       abbrev Tried : List Event

@@ -6,13 +6,13 @@ use Rattle.pf_io.specs.Disk.{Files}
 use Rattle.pf_io.specs.Host.{Answer}
 use Rattle.pf_io.specs.Answered.{IsAnswerOf}
 use Rattle.pf_tool.specs.Events.{Event, answers_in, pieces_in, bytes_in}
-use Rattle.pf_tool.specs.Endings.{Ending, Done}
+use Rattle.pf_tool.specs.Endings.{Ending, Done, Refused, BadName}
 use Rattle.pf_tool.specs.Requests.{Request, Decrypt, Encrypt, AskFor}
 use Rattle.pf_tool.specs.Runs.{Leads, Over}
 use Rattle.pf_tool.proofs.Composing.{answers_then, pieces_then, no_first}
-use Rattle.pf_tool.proofs.EncryptLaws.{encrypt_unput, encrypt_silent, encrypt_one, encrypt_over, encrypt_over_one}
+use Rattle.pf_tool.proofs.EncryptLaws.{encrypt_spoken, encrypt_unput, encrypt_silent, encrypt_one, encrypt_over, encrypt_over_one}
 use Rattle.pf_tool.proofs.LastAnswers.{EndsAnswered, has_answer, decrypt_answered, encrypt_answered, decrypt_no_more, encrypt_no_more}
-use Rattle.pf_tool.proofs.DecryptLaws.{decrypt_silent, decrypt_one, decrypt_over, decrypt_front, decrypt_over_one}
+use Rattle.pf_tool.proofs.DecryptLaws.{decrypt_spoken, decrypt_silent, decrypt_one, decrypt_over, decrypt_front, decrypt_over_one}
 
 -- words ask for one thing
 pub one_request : (words : List (List ℕ)) (request other : Request) → AskFor words request → AskFor words other → request ≡ other
@@ -25,6 +25,11 @@ one_request words (Encrypt key input output) (Encrypt key2 input2 output2) first
 pub silent : (request : Request) (ending other : Ending) (es : List Event) → Leads request [] ending → Leads request es other → (es ≡ []) × (ending ≡ other)
 silent (Decrypt key input) ending other es first second = decrypt_silent key input ending other es first second
 silent (Encrypt key input output) ending other es first second = encrypt_silent key input output ending other es first second
+
+-- and it is that a name is none
+pub spoken : (request : Request) (ending : Ending) → Leads request [] ending → ending ≡ Refused BadName
+spoken (Decrypt key input) ending leads = decrypt_spoken key input ending leads
+spoken (Encrypt key input output) ending leads = encrypt_spoken key input output ending leads
 
 -- the same answers lead to one ending
 pub decided : (request : Request) (es others : List Event) (ending other : Ending) → Leads request es ending → Leads request others other → answers_in es ≡ answers_in others → ending ≡ other

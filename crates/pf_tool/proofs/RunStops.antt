@@ -136,7 +136,7 @@ undrawn Leads es (Failed event) old new never stands happened =
     let both = no_front (words_in es) (words_in (event ∷ stands.0)) (sym (words_then es (event ∷ stands.0)) ∙ never (es ++ event ∷ stands.0) stands.1 stands.2) in
     failed_undrawn event happened.0 new stands.0 both.1 happened.2 ∙ happened.1.random.untouched both.0
 undrawn Leads es Starved old new never stands happened =
-    let both = no_front (words_in es) (words_in (stands.0 ∷ stands.1)) (sym (words_then es (stands.0 ∷ stands.1)) ∙ never (es ++ stands.0 ∷ stands.1) stands.2 stands.3) in
+    let both = no_front (words_in es) (words_in stands.0) (sym (words_then es stands.0) ∙ never (es ++ stands.0) stands.1 stands.3) in
     happened.random.untouched both.0
 
 -- where no run puts anything out, the output stays
@@ -146,7 +146,7 @@ unput Leads es (Failed event) old new never stands happened =
     let both = no_front (pieces_in es) (pieces_in (event ∷ stands.0)) (sym (pieces_then es (event ∷ stands.0)) ∙ never (es ++ event ∷ stands.0) stands.1 stands.2) in
     failed_unput event happened.0 new stands.0 both.1 happened.2 ∙ happened.1.out.untouched both.0
 unput Leads es Starved old new never stands happened =
-    let both = no_front (pieces_in es) (pieces_in (stands.0 ∷ stands.1)) (sym (pieces_then es (stands.0 ∷ stands.1)) ∙ never (es ++ stands.0 ∷ stands.1) stands.2 stands.3) in
+    let both = no_front (pieces_in es) (pieces_in stands.0) (sym (pieces_then es stands.0) ∙ never (es ++ stands.0) stands.1 stands.3) in
     happened.out.untouched both.0
 
 -- where the work is done the status is 0, and only there

@@ -3,7 +3,11 @@ use Rattle.std.specs.Prelude.{ℕ, List, [], ◌∷◌, ◌++◌, codes}
 use Rattle.std.specs.Fmt.{decimal}
 use Rattle.node_layout.specs.declared.damage.Kind.{Kind}
 use Rattle.node_layout.specs.declared.damage.Kind.TheVariants as kinds
+use Rattle.manifest_model.specs.declared.fault.ManifestFault.{ManifestFault}
+use Rattle.manifest_model.specs.declared.fault.ManifestFault.TheVariants as manifests
 use Rattle.pf_io.specs.Disk.{Name}
+use Rattle.template_text.specs.declared.fault.RenderFault.{RenderFault}
+use Rattle.template_text.specs.declared.fault.RenderFault.TheVariants as renders
 use Rattle.pf_tool.specs.Events.{Event, Answers, Draws, Puts}
 
 -- why a command is refused
@@ -12,6 +16,10 @@ pub data Refusal : Type 0 where
   NotFound : (name : Name) → Refusal
   KeyFile : (number : ℕ) → Refusal
   NotProtected : Refusal
+  TooLarge : Refusal
+  NotUtf8 : Refusal
+  BadTemplate : (fault : RenderFault) → Refusal
+  BadManifest : (fault : ManifestFault) → Refusal
   Unbuilt : Refusal
 
 -- what the events of a command lead to: its work is done, or a damage or a refusal by name
@@ -19,6 +27,20 @@ pub data Ending : Type 0 where
   Done : Ending
   Damaged : (node : ℕ) → (kind : Kind) → Ending
   Refused : (why : Refusal) → Ending
+
+-- endings that are found in a text that was read: memory may be wanting for the reading of the text, and then for these too
+abbrev pub MayStarve : Ending → Type 0
+MayStarve Done = ⊥
+MayStarve (Damaged node kind) = ⊥
+MayStarve (Refused BadName) = ⊥
+MayStarve (Refused (NotFound name)) = ⊥
+MayStarve (Refused (KeyFile number)) = ⊥
+MayStarve (Refused NotProtected) = ⊥
+MayStarve (Refused TooLarge) = ⊥
+MayStarve (Refused NotUtf8) = ⊥
+MayStarve (Refused (BadTemplate fault)) = Unit {0}
+MayStarve (Refused (BadManifest fault)) = Unit {0}
+MayStarve (Refused Unbuilt) = ⊥
 
 -- Where a run stops: at an ending, in a call that failed and was to give this event, or for want of memory.
 pub data Stop : Type 0 where
@@ -42,12 +64,36 @@ kind_word kinds.Tag = codes "tag"
 kind_word kinds.Text = codes "text"
 kind_word kinds.Log = codes "log"
 
+-- why a template is not rendered; want of memory is no refusal
+abbrev pub template_text : RenderFault → List ℕ
+template_text (renders.Unclosed at) = codes "refused template unclosed at " ++ decimal at
+template_text (renders.BadName at) = codes "refused template name at " ++ decimal at
+template_text (renders.Unknown at name) = codes "refused template unknown " ++ name ++ codes " at " ++ decimal at
+template_text (renders.Statement at) = codes "refused template statement at " ++ decimal at
+template_text (renders.TooLong at) = codes "refused template too long at " ++ decimal at
+template_text renders.Memory = codes "want of memory"
+
+-- why a text is no manifest; want of memory is no refusal
+abbrev pub manifest_text : ManifestFault → List ℕ
+manifest_text manifests.NotToml = codes "refused manifest not toml"
+manifest_text (manifests.BadField key) = codes "refused manifest field " ++ key
+manifest_text (manifests.BadUri uri) = codes "refused manifest uri " ++ uri
+manifest_text (manifests.BadSum uri) = codes "refused manifest sum " ++ uri
+manifest_text (manifests.TwoSums uri) = codes "refused manifest two sums " ++ uri
+manifest_text (manifests.BadKey name) = codes "refused manifest key " ++ name
+manifest_text (manifests.BadPolicy text) = codes "refused manifest policy " ++ text
+manifest_text manifests.Memory = codes "want of memory"
+
 -- the text of each refusal
 abbrev pub refusal_text : Refusal → List ℕ
 refusal_text BadName = codes "refused bad name"
 refusal_text (NotFound name) = codes "refused not found " ++ name
 refusal_text (KeyFile number) = codes "refused key file " ++ decimal number
 refusal_text NotProtected = codes "refused not protected"
+refusal_text TooLarge = codes "refused too large"
+refusal_text NotUtf8 = codes "refused template not utf-8"
+refusal_text (BadTemplate fault) = template_text fault
+refusal_text (BadManifest fault) = manifest_text fault
 refusal_text Unbuilt = codes "refused unbuilt"
 
 -- what an ending writes to the log

@@ -5,10 +5,13 @@ pub mod Happened
 pub mod Faults
 pub mod Outcomes
 pub mod Reports
+pub mod Defines
 pub mod Requests
 pub mod SideFiles
 pub mod PlainFiles
 pub mod Keys
+pub mod InputFiles
+pub mod InputSlices
 pub mod Encrypting
 pub mod Making
 pub mod Decrypting

@@ -11,7 +11,7 @@ use Rattle.pf_io.specs.Answered.{WereTold}
 use Rattle.pf_io.specs.Unchanged.{KeepsDisk}
 use Rattle.pf_tool.specs.World.{World, with_log}
 use Rattle.pf_tool.specs.Events.{Event, answers_in}
-use Rattle.pf_tool.specs.Endings.{Ending, Done, Stop, AtEnd, ending_line, ending_status, memory_line, no_command_line}
+use Rattle.pf_tool.specs.Endings.{Ending, Done, MayStarve, Stop, AtEnd, Starved, ending_line, ending_status, memory_line, no_command_line}
 use Rattle.pf_tool.specs.Outcomes.{Outcome}
 use Rattle.pf_tool.specs.Reports.{WroteAll, Reported, Reports}
 use Rattle.pf_tool.specs.Requests.{Request, Decrypt, Encrypt}
@@ -72,10 +72,11 @@ Content (Decrypt key input) old new status = TookContent key input old new statu
 Content (Encrypt key input output) old new status = (these : List Answer) → WereTold these old.host new.host → status ≡ 0 → GaveSealed key input output these
 
 -- Where the host told these answers, and they lead to an ending, it is reported: a refusal or a damage always, since no event
--- comes behind its answers, and `Done` where the status is at most 3, since a piece may come behind the last and fail.
+-- comes behind its answers, and `Done` where the status is at most 3, since a piece may come behind the last and fail. In place of
+-- an ending that is found in a text, want of memory may be.
 abbrev pub Decided : Request → World → World → ℕ → Type 0
 Decided request old new status = (events : List Event) (ending : Ending) → Leads request events ending → WereTold (answers_in events) old.host new.host → (status ≤ 3) ⊎ (ending ≢ Done)
-    → Reports (AtEnd ending) old.log new.log status
+    → Reports (AtEnd ending) old.log new.log status ⊎ (MayStarve ending × Reports Starved old.log new.log status)
 
 -- no fault was counted, and no count stands at its last value
 pub record NoneCounted (old new : World) : Type 0 where

@@ -9,6 +9,7 @@ use crate::lines::{write_number, write_text};
 use crate::why::Why;
 use node_layout::{Damage, Kind};
 use pf_io::{HostFault, Memory, Sink, StreamFault, WordsFault};
+use std::alloc::AllocError;
 
 /// Why a command ends before its work is done.
 #[derive(Drop)]
@@ -50,6 +51,14 @@ impl From<WordsFault> for Fault<'_> {
 
     fn from(_: WordsFault) -> Self {
         Fault::Random
+    }
+}
+
+impl From<AllocError> for Fault<'_> {
+    ghost from_gives = { λ _ fault. fault ≡ MemoryFailed };
+
+    fn from(_: AllocError) -> Self {
+        Fault::Memory
     }
 }
 

@@ -4,10 +4,12 @@
 mod decrypt;
 #[cfg(test)]
 mod decrypt_tests;
+mod defines;
 mod encrypt;
 #[cfg(test)]
 mod encrypt_tests;
 mod fault;
+mod input_file;
 mod key;
 mod lines;
 mod pieces;
@@ -16,6 +18,7 @@ mod run;
 mod side_file;
 #[cfg(test)]
 mod tests;
+mod text_refusals;
 mod why;
 mod words;
 

@@ -4,7 +4,10 @@ ghost use Rattle.pf_tool.specs.Faults.{refusal_of};
 ghost use Rattle.pf_tool.specs.Reports.{Written};
 
 use crate::lines::{write_name, write_number, write_text};
+use crate::text_refusals::{say_manifest, say_template};
+use manifest_model::ManifestFault;
 use pf_io::{Sink, StreamFault};
+use template_text::RenderFault;
 
 /// Why a command is refused.
 #[derive(Drop)]
@@ -17,6 +20,14 @@ pub(crate) enum Why<'a> {
     KeyFile(u64),
     /// The file is no protected file.
     NotProtected,
+    /// The file has more bytes than it may have.
+    TooLarge,
+    /// The template is no UTF-8.
+    NotUtf8,
+    /// The template is not rendered.
+    BadTemplate(RenderFault),
+    /// The text is no manifest.
+    BadManifest(ManifestFault),
     /// The case is not built yet.
     Unbuilt,
 }
@@ -31,6 +42,10 @@ impl Why<'_> {
             Why::NotFound(name) => write_name(log, "refused not found ", name),
             Why::KeyFile(number) => write_number(log, "refused key file ", *number, ""),
             Why::NotProtected => write_text(log, "refused not protected"),
+            Why::TooLarge => write_text(log, "refused too large"),
+            Why::NotUtf8 => write_text(log, "refused template not utf-8"),
+            Why::BadTemplate(fault) => say_template(fault, log),
+            Why::BadManifest(fault) => say_manifest(fault, log),
             Why::Unbuilt => write_text(log, "refused unbuilt"),
         }
     }

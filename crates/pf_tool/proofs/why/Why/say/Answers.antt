@@ -28,3 +28,9 @@ returns-in-NotProtected g c = said_of c.write_text-in-NotProtected.result _ _ (g
 
 pub returns-in-Unbuilt : goal.returns-in-Unbuilt
 returns-in-Unbuilt g c = said_of c.write_text-in-Unbuilt.result _ _ (g.L.Sink.state c.args.log.now) (g.L.Sink.state c.write_text-in-Unbuilt.new.log) c.in-Unbuilt.is c.write_text-in-Unbuilt.ensures
+
+pub returns-in-TooLarge : goal.returns-in-TooLarge
+returns-in-TooLarge g c = said_of c.write_text-in-TooLarge.result _ _ (g.L.Sink.state c.args.log.now) (g.L.Sink.state c.write_text-in-TooLarge.new.log) c.in-TooLarge.is c.write_text-in-TooLarge.ensures
+
+pub returns-in-NotUtf8 : goal.returns-in-NotUtf8
+returns-in-NotUtf8 g c = said_of c.write_text-in-NotUtf8.result _ _ (g.L.Sink.state c.args.log.now) (g.L.Sink.state c.write_text-in-NotUtf8.new.log) c.in-NotUtf8.is c.write_text-in-NotUtf8.ensures
