@@ -1,3 +1,4 @@
 mod Taken
 mod Summed
 mod Collected
+mod Deciding
