@@ -1,9 +1,9 @@
 -- The search for a line feed, read by read.
-use Rattle.std.proofs.Common.{◌≡◌, ◌≢◌, ◌∙◌, ℕ, ◌+◌, ◌-◌, ◌^◌, ◌<◌, ◌≤◌, Bool, true, false, List, [], ◌∷◌, ◌++◌, length, take, drop, get_or, refl, sym, ap, subst, arith, All, Option, Some, None, IfSome, Result, Ok, Err, inl, inr, append_assoc, length-append}
+use Rattle.std.proofs.Common.{◌≡◌, ◌≢◌, ◌∙◌, ℕ, ◌+◌, ◌<◌, ◌≤◌, Bool, true, false, List, [], ◌∷◌, ◌++◌, length, take, drop, get_or, refl, sym, ap, subst, arith, Option, Some, None, IfSome, Result, Ok, Err, inl, inr, append_assoc, length-append}
 use Rattle.std.proofs.lemmas.List.{append-nil, take_all, take-append-le, length-take-le}
 use Rattle.std.proofs.Math.Seq.{take-add, drop-append_seam, drop-append-add}
-use Rattle.std.proofs.lemmas.List.Elements.{All-append, All-nil, All-take, All-drop}
-use Rattle.pf_io.specs.Counts.{counted, counted_by}
+use Rattle.std.proofs.lemmas.List.Elements.{All-append, All-nil, All-drop}
+use Rattle.pf_io.specs.Counts.{counted}
 use Rattle.pf_io.specs.Host.{Both}
 use Rattle.pf_io.specs.Streams.{SourceState}
 use Rattle.pf_io.specs.declared.faults.StreamFault.{StreamFault}
@@ -12,7 +12,7 @@ use Rattle.pf_script.specs.declared.next_line.NextLine.{NextLine}
 use Rattle.pf_script.specs.declared.next_line.NextLine.TheVariants as nexts
 use Rattle.pf_script.specs.Lines.{LINE_FEED, HasNoFeed, lines_of}
 use Rattle.pf_script.specs.ScriptLines.{LONGEST_LINE}
-use Rattle.pf_script.specs.LineReading.{MOST_READS, ReaderState, Took, HasNoMore, FailCause, FilledWith, FailedFill, Fills, MakesRoom, HadRoom, WasFull, CutsAt, Finishes, Dropped, Nothing, Given, AtEnd, Fed, Last, Cuts, IsPrompt, HasFailCause, BeginsWith, Advances, GoesOn, LinesGoOn}
+use Rattle.pf_script.specs.LineReading.{ReaderState, Took, HasNoMore, FailCause, FilledWith, FailedFill, MakesRoom, HadRoom, WasFull, CutsAt, Finishes, Dropped, Nothing, Given, AtEnd, Fed, Last, Cuts, IsPrompt, HasFailCause, BeginsWith, Advances, GoesOn, LinesGoOn}
 use Rattle.pf_script.proofs.Cutting.{IsNoFeed, around, fed_line, last_line}
 
 -- The bytes taken so far, of which a front was dropped where the line is too long; none of them is a line feed.

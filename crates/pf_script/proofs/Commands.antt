@@ -1,5 +1,5 @@
 -- The words that lines begin with.
-use Rattle.std.proofs.Common.{◌≡◌, ◌≢◌, ◌∙◌, ◌==◌, ℕ, ◌≤◌, Bool, true, false, if◌then◌else◌, List, [], ◌∷◌, ◌++◌, length, get_or, sym, ap, subst, refl, codes, arith, All, Result, Ok, Err}
+use Rattle.std.proofs.Common.{◌≡◌, ◌≢◌, ◌∙◌, ◌==◌, ℕ, ◌≤◌, Bool, true, false, if◌then◌else◌, List, [], ◌∷◌, length, get_or, sym, ap, subst, refl, arith, Result, Ok, Err}
 use Rattle.std.proofs.lemmas.List.Elements.{All-nil, All-cons}
 use Rattle.pf_script.specs.declared.command.Command.{Command}
 use Rattle.pf_script.specs.declared.command.Command.TheVariants as commands
@@ -7,7 +7,7 @@ use Rattle.pf_script.specs.declared.fault.LineFault.{LineFault}
 use Rattle.pf_script.specs.declared.fault.LineFault.TheVariants as faults
 use Rattle.pf_script.specs.declared.line.ScriptLine.{ScriptLine}
 use Rattle.pf_script.specs.Words.{SPACE, spaced, HasNoSpace}
-use Rattle.pf_script.specs.ScriptLines.{word_of, HasFields, IsBlank, IsForm, Blank, Worded, LONGEST_LINE, IsScriptLine}
+use Rattle.pf_script.specs.ScriptLines.{word_of, HasFields, IsBlank, Blank, Worded, LONGEST_LINE, IsScriptLine}
 use Rattle.pf_script.specs.Reading.{Reads}
 use Rattle.pf_script.proofs.Wording.{IsOther, same_word, no_second}
 

@@ -5,3 +5,4 @@ pub mod OneReading
 pub mod Cutting
 pub mod Parts
 pub mod Advancing
+pub mod Phrasing

@@ -1,13 +1,12 @@
 -- Bytes are one line at most.
-use Rattle.std.proofs.Common.{◌≡◌, ◌∙◌, ℕ, List, [], ◌∷◌, ◌++◌, sym, ap, subst, refl, codes, length, get_or, drop, arith, All}
-use Rattle.std.proofs.lemmas.List.Elements.{All-nil, All-cons}
+use Rattle.std.proofs.Common.{◌≡◌, ◌∙◌, ℕ, List, sym, ap, subst}
 use Rattle.pf_io.specs.Numbers.{Spells}
-use Rattle.pf_script.specs.Words.{SPACE, spaced, HasNoSpace, IsSeat, IsHex, IsByte, IsRest}
+use Rattle.pf_script.specs.Words.{IsHex, IsByte, IsRest}
 use Rattle.pf_script.specs.declared.command.Command.{Command}
 use Rattle.pf_script.specs.declared.command.Command.TheVariants as commands
 use Rattle.pf_script.specs.declared.line.ScriptLine.{ScriptLine}
 use Rattle.pf_script.specs.declared.line.ScriptLine.TheVariants as lines
-use Rattle.pf_script.specs.ScriptLines.{word_of, AfterSeat, AfterNumber, HasSeat, HasName, HasSize, HasRange, HasBytes, HasCopies, HasFields, IsBlank, IsForm, Blank, Worded, IsScriptLine}
+use Rattle.pf_script.specs.ScriptLines.{word_of, AfterNumber, HasSeat, HasName, HasSize, HasRange, HasBytes, HasCopies, HasFields, IsBlank, IsForm, Blank, Worded, IsScriptLine}
 use Rattle.pf_script.proofs.Wording.{one_seat, one_number, one_hex, one_byte, one_name, one_after_seat, one_after_number, same_word, past_seat, past_number}
 use Rattle.pf_script.proofs.Commands.{word_spaceless, one_command, not_blank}
 

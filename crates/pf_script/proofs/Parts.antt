@@ -1,7 +1,7 @@
 -- The parts of a buffer between two places.
-use Rattle.std.proofs.Common.{◌≡◌, ◌≢◌, ◌∙◌, ℕ, ◌+◌, ◌-◌, ◌<◌, ◌≤◌, Bool, List, [], ◌∷◌, ◌++◌, length, take, drop, refl, sym, ap, subst, arith, length-drop}
+use Rattle.std.proofs.Common.{◌≡◌, ◌≢◌, ◌∙◌, ℕ, ◌+◌, ◌-◌, ◌<◌, ◌≤◌, List, ◌++◌, length, take, drop, sym, ap, subst, arith, length-drop}
 use Rattle.std.proofs.lemmas.List.{take_all, take_rest, take-append-le, take-take, drop-take, drop-drop, length-take, length-take-le}
-use Rattle.std.proofs.Math.Seq.{take-add, drop-append_seam, drop-append-add}
+use Rattle.std.proofs.Math.Seq.{take-add}
 use Rattle.pf_io.specs.Streams.{SourceState}
 use Rattle.pf_script.specs.declared.stage.Stage.{Stage}
 use Rattle.pf_script.specs.LineReading.{MOST_READS, ReaderState, ReadBehind, FilledWith}

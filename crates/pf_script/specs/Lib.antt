@@ -3,3 +3,4 @@ pub mod ScriptLines
 pub mod Reading
 pub mod Lines
 pub mod LineReading
+pub mod Replies

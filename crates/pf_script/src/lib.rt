@@ -9,7 +9,9 @@ mod laws;
 mod line;
 mod line_reader;
 mod next_line;
+mod printing;
 mod reading;
+mod reply;
 mod stage;
 mod words;
 
@@ -18,5 +20,7 @@ pub use laws::text_has_one_reading;
 pub use line::ScriptLine;
 pub use line_reader::LineReader;
 pub use next_line::NextLine;
+pub use printing::write_reply;
 pub use reading::read_line;
+pub use reply::{Reply, Why};
 pub use stage::Stage;

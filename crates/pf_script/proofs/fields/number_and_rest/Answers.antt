@@ -1,4 +1,3 @@
-use Rattle.std.proofs.Common.{Some, None}
 use Rattle.pf_script.proofs.Wording.{no_number, number_in}
 use Rattle.pf_script.proofs.fields.number_and_rest.Goals as goal
 

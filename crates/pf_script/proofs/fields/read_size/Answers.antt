@@ -1,4 +1,3 @@
-use Rattle.std.proofs.Common.{Some, None}
 use Rattle.pf_io.specs.Numbers.{Spells}
 use Rattle.pf_script.proofs.Wording.{past_seat}
 use Rattle.pf_script.proofs.fields.read_size.Goals as goal

@@ -1,8 +1,6 @@
 use Rattle.std.proofs.lemmas.Result.{err_from_is_err_and}
-use Rattle.std.proofs.Common.{Err, sym, subst}
 use Rattle.pf_script.specs.Words.{IsHex}
 use Rattle.pf_script.specs.ScriptLines.{AfterNumber, HasBytes}
-use Rattle.pf_script.specs.Reading.{Reads}
 use Rattle.pf_script.proofs.Answering.{part_unread}
 use Rattle.pf_script.proofs.Wording.{past_seat, past_number}
 use Rattle.pf_script.proofs.fields.read_write.Goals as goal

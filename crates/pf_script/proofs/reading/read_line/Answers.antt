@@ -1,4 +1,3 @@
-use Rattle.std.proofs.Common.{arith}
 use Rattle.pf_script.specs.ScriptLines.{IsBlank}
 use Rattle.pf_script.proofs.Commands.{no_line, no_command, fields_read}
 use Rattle.pf_script.proofs.reading.read_line.Goals as goal

@@ -1,4 +1,4 @@
-use Rattle.std.proofs.Common.{◌≡◌, ◌≢◌, ◌∙◌, ◌-◌, ◌<◌, ◌++◌, List, ℕ, length, take, drop, arith, sym, ap, subst}
+use Rattle.std.proofs.Common.{◌≡◌, ◌∙◌, ◌-◌, ◌<◌, List, ℕ, length, take, drop, arith, sym, ap, subst}
 use Rattle.pf_script.specs.LineReading.{MOST_READS, ReadBehind}
 use Rattle.pf_script.proofs.Parts.{between, filled, whole_loan}
 use Rattle.pf_script.proofs.line_reader.LineReader.fill.Goals as goal
