@@ -62,7 +62,7 @@ counts_in_turn name at (slice ∷ slices) =
     omega (arith, split, on)
 
 -- of a file's answers all but the length are slices
-slices_given : (these : List Answer) (size : Option ℕ) (name : Name) (slices : List (List ℕ)) → these ≡ LengthWas name size ∷ given_in_turn name 0 slices → length these - 1 ≡ count_by is_slice these
+pub slices_given : (these : List Answer) (size : Option ℕ) (name : Name) (slices : List (List ℕ)) → these ≡ LengthWas name size ∷ given_in_turn name 0 slices → length these - 1 ≡ count_by is_slice these
 slices_given these size name slices is =
     let rest = given_in_turn name 0 slices in
     let split : count_by is_slice (LengthWas name size ∷ rest) ≡ count_by is_slice rest = sum_by-append one_of (LengthWas name size ∷ []) rest ∙ zero-add (count_by is_slice rest) in
@@ -94,7 +94,7 @@ entry_gave sum entry old new (EntryEnds.Unlisted is summed) =
       gives = subst (λ (o : Option (List ℕ)). GivesSum o entry.name summed.these sum) (sym is) summed.ends;
     }
 
-gives_push : (entries : List Trusted) (entry : Trusted) (these last : List Answer) (sums : List (List ℕ)) (sum : List ℕ) → Gives entries these sums → GivesSum entry.sum entry.name last sum → Gives (entries ++ entry ∷ []) (these ++ last) (sums ++ sum ∷ [])
+pub gives_push : (entries : List Trusted) (entry : Trusted) (these last : List Answer) (sums : List (List ℕ)) (sum : List ℕ) → Gives entries these sums → GivesSum entry.sum entry.name last sum → Gives (entries ++ entry ∷ []) (these ++ last) (sums ++ sum ∷ [])
 gives_push [] entry these last sums sum so_far gives =
     (last, [], sum, [], gives, (refl, refl), ap (λ (l : List Answer). l ++ last) so_far.0 ∙ sym (append-nil last), ap (λ (l : List (List ℕ)). l ++ sum ∷ []) so_far.1)
 gives_push (e ∷ entries) entry these last sums sum so_far gives =
@@ -105,7 +105,7 @@ both_none : (xs ys : List Answer) → xs ++ ys ≡ [] → (xs ≡ []) × (ys ≡
 both_none [] ys none = (refl, none)
 both_none (x ∷ xs) ys none = absurd (cc)
 
-count_both : (xs ys : List Answer) → count_by is_slice (xs ++ ys) ≡ count_by is_slice xs + count_by is_slice ys
+pub count_both : (xs ys : List Answer) → count_by is_slice (xs ++ ys) ≡ count_by is_slice xs + count_by is_slice ys
 count_both xs ys = sum_by-append one_of xs ys
 
 -- one entry more
