@@ -13,6 +13,8 @@ mod printing;
 mod reading;
 mod reply;
 mod stage;
+#[cfg(test)]
+mod tests;
 mod words;
 
 pub use fault::LineFault;
