@@ -2,6 +2,7 @@ pub mod Lending
 pub mod Counts
 pub mod Names
 pub mod Numbers
+pub mod Lines
 pub mod Disk
 pub mod Moments
 pub mod Steps

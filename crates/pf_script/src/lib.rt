@@ -18,7 +18,7 @@ mod tests;
 mod words;
 
 pub use fault::LineFault;
-pub use laws::text_has_one_reading;
+pub use laws::{definitions_on_examples, text_has_one_reading};
 pub use line::ScriptLine;
 pub use line_reader::LineReader;
 pub use next_line::NextLine;
