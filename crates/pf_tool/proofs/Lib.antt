@@ -18,6 +18,7 @@ pub mod Numbered
 pub mod SameBlocks
 pub mod Following
 mod Defining
+mod RenderLaws
 mod PlainWriting
 pub mod OneFile
 pub mod Growing

@@ -9,6 +9,7 @@ pub mod Defines
 pub mod Requests
 pub mod SideFiles
 pub mod PlainFiles
+pub mod Rendering
 pub mod Keys
 pub mod InputFiles
 pub mod InputSlices

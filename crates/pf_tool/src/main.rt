@@ -14,6 +14,7 @@ mod key;
 mod lines;
 mod pieces;
 mod plain_file;
+mod rendering;
 mod run;
 mod side_file;
 #[cfg(test)]
