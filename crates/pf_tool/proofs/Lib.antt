@@ -13,12 +13,15 @@ mod SealDisk
 mod SideMaking
 mod InputDisk
 mod InputSealing
+mod SideBehind
 mod EncryptEnding
 pub mod Numbered
 pub mod SameBlocks
 pub mod Following
 mod Defining
 mod RenderLaws
+mod TextPutting
+mod ManifestEnding
 mod PlainWriting
 pub mod OneFile
 pub mod Growing

@@ -12,6 +12,8 @@ mod fault;
 mod input_file;
 mod key;
 mod lines;
+mod manifest;
+mod manifest_words;
 mod pieces;
 mod plain_file;
 mod rendering;
@@ -19,6 +21,7 @@ mod run;
 mod side_file;
 #[cfg(test)]
 mod tests;
+mod text_output;
 mod text_refusals;
 mod why;
 mod words;
