@@ -22,6 +22,7 @@ mod Defining
 mod RenderLaws
 mod TextPutting
 mod ManifestEnding
+mod ManifestLaws
 mod PlainWriting
 pub mod OneFile
 pub mod Growing
