@@ -329,3 +329,13 @@ module _ (values : Values) (template : Name) (output : Option Name) where
         answered = answers_behind values template output es first rest is ∙ ap (λ (l : List Answer). l ++ answers_in rest) by.2 ∙ ap (λ (l : List Event). by.0 ++ answers_in l) are ∙ ap (λ (l : List Answer). by.0 ++ l) (out_answered output text);
         pieces = pieces_behind values template output es first rest bytes is reads ∙ ap (λ (l : List Event). pieces_in l) are ∙ out_pieces_in output text;
       }
+
+rest_unput : (values : Values) (name : Name) (bytes : List ℕ) (rest : List Event) (ending : Ending) → WritesManifest values (Some name) bytes rest ending → pieces_in rest ≡ []
+rest_unput values name bytes rest ending (text_refused renders is) = ap (λ (l : List Event). pieces_in l) is
+rest_unput values name bytes rest ending (text_written text renders is ends) = ap (λ (l : List Event). pieces_in l) is ∙ out_pieces_in (Some name) text
+
+-- where a file is made, nothing is put out
+pub manifest_unput : (values : Values) (template name : Name) (es : List Event) (ending : Ending) → ManifestLeads values template (Some name) es ending → pieces_in es ≡ []
+manifest_unput values template name es ending (output_unfit unfit is ends) = ap (λ (l : List Event). pieces_in l) is
+manifest_unput values template name es ending (template_unread fits reads) = input_pieces template es (Err ending) reads
+manifest_unput values template name es ending (template_read bytes first rest fits reads writes is) = pieces_behind values template (Some name) es first rest bytes is reads ∙ rest_unput values name bytes rest ending writes

@@ -1,7 +1,10 @@
 -- A text that is put out in pieces, piece by piece.
 use Rattle.std.proofs.Common.{◌≡◌, ℕ, zero, suc, ◌+◌, ◌-◌, ◌*◌, ◌<◌, ◌≤◌, min, max, List, [], ◌∷◌, ◌++◌, length, take, drop, map, refl, subst, ap, ap₂, ◌∙◌, sym, arith, length-drop}
-use Rattle.std.specs.List.{range_with_len}
-use Rattle.std.proofs.lemmas.List.{map-append, take_min, take_all}
+use Rattle.std.specs.List.{range_with_len, concat}
+use Rattle.std.proofs.lemmas.Grind.{div_ceil_times}
+use Rattle.std.proofs.lemmas.List.Folds.{concat-append}
+use Rattle.std.proofs.Math.Seq.{take-add}
+use Rattle.std.proofs.lemmas.List.{append-nil, map-append, take_min, take_all}
 use Rattle.std.proofs.lemmas.List.FromFn.{map-range_with_len_more}
 use Rattle.pf_io.specs.Counts.{counted}
 use Rattle.pf_io.specs.Host.{Both, IsMore, HostState}
@@ -54,6 +57,21 @@ parted f a (suc k) n lt =
     let left : m - k - 1 ≡ n - suc k - 1 = omega arith in
     ap (λ (c : ℕ). map f (range_with_len a c)) is ∙ ap (λ (l : List (List ℕ)). f a ∷ l) on
     ∙ ap₂ (λ (b c : ℕ). f a ∷ (map f (range_with_len (a + 1) k) ++ f b ∷ map f (range_with_len (b + 1) c))) place left
+
+-- the pieces are the text
+concat_first : (text : List ℕ) (k : ℕ) → concat (map (piece_at text) (range_with_len 0 k)) ≡ take (k * PIECE) text
+concat_first text zero = refl
+concat_first text (suc k) =
+    let first = map (piece_at text) (range_with_len 0 k) in
+    let next : suc k ≡ k + 1 = omega arith in
+    let place : k * PIECE + PIECE ≡ suc k * PIECE = omega arith in
+    ap (λ (n : ℕ). concat (map (piece_at text) (range_with_len 0 n))) next ∙ ap (λ (l : List (List ℕ)). concat l) (map-range_with_len_more (piece_at text) 0 k k (omega arith)) ∙ concat-append first (piece_at text k ∷ [])
+    ∙ ap₂ (λ (a b : List ℕ). a ++ b) (concat_first text k) (append-nil (piece_at text k)) ∙ sym (take-add (k * PIECE) PIECE text) ∙ ap (λ (n : ℕ). take n text) place
+
+pub concat_pieces : (text : List ℕ) → concat (pieces_of text) ≡ text
+concat_pieces text =
+    let most = div_ceil_times (length text) PIECE (omega arith) in
+    concat_first text (count_of text) ∙ take_all (count_of text * PIECE) text (omega (arith, most.0, most.1))
 
 -- a piece as the loop cuts it
 pub piece_is : (text : List ℕ) (k end : ℕ) → end ≡ min (length (take (length text - k * PIECE) (drop (k * PIECE) text))) PIECE → take end (take (length text - k * PIECE) (drop (k * PIECE) text)) ≡ piece_at text k

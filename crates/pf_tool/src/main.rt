@@ -13,6 +13,8 @@ mod input_file;
 mod key;
 mod lines;
 mod manifest;
+#[cfg(test)]
+mod manifest_tests;
 mod manifest_words;
 mod pieces;
 mod plain_file;
