@@ -1,20 +1,13 @@
 -- The lines of a layout's text, and their words.
-use Rattle.std.specs.Prelude.{ℕ, suc, Bool, true, not, ◌==◌, if◌then◌else◌, List, [], ◌∷◌, filter}
-use Rattle.std.specs.List.{onto_first, slice_split}
-
-abbrev pub LINE_FEED : ℕ
-LINE_FEED = 10
+use Rattle.std.specs.Prelude.{ℕ, suc, Bool, true, not, ◌==◌, List, [], ◌∷◌, filter}
+use Rattle.std.specs.List.{slice_split}
+pub use Rattle.pf_io.specs.Lines.{LINE_FEED, lines_of}
 
 abbrev pub SPACE : ℕ
 SPACE = 32
 
 abbrev pub NUMBER_SIGN : ℕ
 NUMBER_SIGN = 35
-
--- The text is cut at each line feed. Bytes after the last one are a line, where there are any.
-abbrev pub lines_of : List ℕ → List (List ℕ)
-lines_of [] = []
-lines_of (byte ∷ text) = if byte == LINE_FEED then [] ∷ lines_of text else onto_first byte (lines_of text)
 
 -- a line and its number
 abbrev pub Line : Type 0

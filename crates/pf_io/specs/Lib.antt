@@ -2,6 +2,7 @@ pub mod Lending
 pub mod Counts
 pub mod Names
 pub mod Numbers
+pub mod Lines
 pub mod Disk
 pub mod Moments
 pub mod Steps
@@ -11,6 +12,7 @@ pub mod Unchanged
 pub mod Slices
 pub mod Replay
 pub mod Streams
+pub mod Writing
 pub mod Words
 pub mod SideFile
 pub mod SideSteps

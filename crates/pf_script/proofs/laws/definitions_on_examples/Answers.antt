@@ -1,0 +1,25 @@
+use Rattle.std.proofs.Common.{List, ℕ, ◌++◌, codes, refl, sym, ap, arith}
+use Rattle.std.proofs.lemmas.Fmt.{decimal_digit}
+use Rattle.pf_script.specs.Replies.{ended}
+use Rattle.pf_script.specs.declared.command.Command.TheVariants as commands
+use Rattle.pf_script.specs.ScriptLines.{Worded}
+use Rattle.pf_script.proofs.laws.definitions_on_examples.Goals as goal
+
+pub returns-clause-line : goal.returns-clause-line
+returns-clause-line c = record {
+  not_long = omega arith;
+  form = Worded commands.Read (codes "0 6 1") refl (record {
+    seat = 0;
+    behind_seat = codes "6 1";
+    at = 6;
+    behind_at = codes "1";
+    count = 1;
+    seat_is = record { word = codes "0"; form = refl; seat_is = record { digit = refl; below = omega arith } };
+    at_is = record { word = codes "6"; form = refl; number_is = record { digits = sym (decimal_digit 6 (omega arith)); fits = omega arith } };
+    count_is = record { digits = sym (decimal_digit 1 (omega arith)); fits = omega arith };
+    line_is = refl;
+  });
+}
+
+pub returns-clause-reply : goal.returns-clause-reply
+returns-clause-reply c = ap (λ (d : List ℕ). ended (codes "ok write " ++ d ++ codes " flushed")) (decimal_digit 5 (omega arith))
