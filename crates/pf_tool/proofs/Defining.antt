@@ -10,7 +10,9 @@ use Rattle.template_text.specs.Rendering.{Values}
 use Rattle.std.specs.declared.alloc.Global.{Global}
 use Rattle.std.proofs.lemmas.Slice.Eq.{bytes_eq-Decides}
 use denote.Ref.{Bor}
-use Rattle.pf_tool.specs.Requests.{texts}
+use Rattle.pf_io.specs.Disk.{Name}
+use Rattle.pf_tool.specs.Texts.{texts}
+use Rattle.pf_tool.specs.Requests.{IsOperand, operands, AreOperands, AsksManifest}
 use Rattle.pf_tool.specs.Defines.{EQUALS, spelled, DefinesFirst, in_two_words, in_one_word, DefinesNone, Define, pair_of, values_in, values_behind}
 
 -- no `=` stands in a name
@@ -103,6 +105,13 @@ name_found text None pair name value found some named is = absurd (cc)
 name_found text (Some x) pair name value found some named is =
     let same : x ≡ pair = cc in
     ap (λ (p : Bor (List ℕ) × Bor (List ℕ)). p.0.now) (sym same) ∙ found.1 ∙ ap (before_first (λ byte. byte == EQUALS)) is ∙ name_before name value named
+
+-- lists that begin alike
+the_word : (word : List ℕ) (more : List (List ℕ)) (other : List ℕ) (rest : List (List ℕ)) → word ∷ more ≡ other ∷ rest → word ≡ other
+the_word word more other rest same = cc
+
+the_rest : (word : List ℕ) (more : List (List ℕ)) (other : List ℕ) (rest : List (List ℕ)) → word ∷ more ≡ other ∷ rest → more ≡ rest
+the_rest word more other rest same = cc
 
 -- one pair stands first
 
@@ -212,3 +221,39 @@ cut_at words rest values first =
 -- where the rest has none, the pairs are all
 pub all_pairs : (words : List (List ℕ)) (values others : Values) (rest : List (List ℕ)) → Define words values rest → DefinesNone rest → Define words others [] → values ≡ others
 all_pairs words values others rest first none alone = (one_define words values others rest [] first none alone none_first).0
+
+-- an operand begins no pair
+pub operand_first : (word : List ℕ) (more : List (List ℕ)) → IsOperand word → DefinesNone (word ∷ more)
+operand_first word more operand name value rest (in_two_words named is) = operand 68 [] (the_word word more (codes "-D") (spelled name value ∷ rest) is)
+operand_first word more operand name value rest (in_one_word named is) = operand 68 (spelled name value) (the_word word more (codes "-D" ++ spelled name value) rest is)
+
+pub operands_first : (template : Name) (output : Option Name) → AreOperands template output → DefinesNone (operands template output)
+operands_first template None are = operand_first template [] are
+operands_first template (Some output) are = operand_first template (output ∷ []) are.0
+
+pub same_operands : (template other : Name) (output more : Option Name) → operands template output ≡ operands other more → (template ≡ other) × (output ≡ more)
+same_operands template other None None same = (cc, refl)
+same_operands template other None (Some more) same = absurd (cc)
+same_operands template other (Some output) None same = absurd (cc)
+same_operands template other (Some output) (Some more) same = (cc, ap Some (the_word output [] more [] (cc)))
+
+-- words ask for one thing
+pub record SameManifest (values others : Values) (template other : Name) (output more : Option Name) : Type 0 where
+  pub values_are : values ≡ others
+  pub template_is : template ≡ other
+  pub output_is : output ≡ more
+
+pub one_manifest : (words : List (List ℕ)) (values others : Values) (template other : Name) (output more : Option Name) → AsksManifest words values template output → AsksManifest words others other more → SameManifest values others template other output more
+one_manifest words values others template other output more first second =
+    let behind : second.behind ≡ first.behind = the_rest (codes "manifest") second.behind (codes "manifest") first.behind (sym second.begins ∙ first.begins) in
+    let same = one_define first.behind values others (operands template output) (operands other more) first.defines (operands_first template output first.are_operands)
+    (subst (λ (l : List (List ℕ)). Define l others (operands other more)) behind second.defines) (operands_first other more second.are_operands) in
+    let names = same_operands template other output more same.1 in
+    record { values_are = same.0; template_is = names.0; output_is = names.1 }
+
+-- words that ask for it, and the pairs that were cut off them
+pub asked_operands : (words behind : List (List ℕ)) (cut values : Values) (rest : List (List ℕ)) (template : Name) (output : Option Name) → words ≡ codes "manifest" ∷ behind → Define behind cut rest → DefinesNone rest
+    → AsksManifest words values template output → (rest ≡ operands template output) × AreOperands template output
+asked_operands words behind cut values rest template output begins defines none asks =
+    let same : asks.behind ≡ behind = the_rest (codes "manifest") asks.behind (codes "manifest") behind (sym asks.begins ∙ begins) in
+    ((one_define behind cut values rest (operands template output) defines none (subst (λ (l : List (List ℕ)). Define l values (operands template output)) same asks.defines) (operands_first template output asks.are_operands)).1, asks.are_operands)

@@ -25,14 +25,7 @@ use Rattle.pf_tool.specs.declared.why.Why.TheVariants as whys
 use Rattle.pf_tool.proofs.Composing.{passed_none}
 use Rattle.pf_tool.proofs.Stopping.{not_done, outcome_then, refused}
 use Rattle.pf_tool.proofs.InputDisk.{kept_leaves}
-
--- what is known of the files at the start of a run
-knowing_first : (F : Files → Type 0) (P : Disk → Image → Type 0) (Q : Disk → Disk → Type 0) (o p : Option Honest) → Both o p (Ran P Q) → IfSome (option_map (λ host. reading host.now) o) F
-    → Both o p (Ran P (λ d e. Q d e × F (reading d)))
-knowing_first F P Q (Some a) (Some b) ran fact = record { leaves = ran.leaves; ends = (ran.ends, fact) }
-knowing_first F P Q None None ran fact = tt
-knowing_first F P Q (Some a) None ran fact = absurd ran
-knowing_first F P Q None (Some b) ran fact = absurd ran
+use Rattle.pf_tool.proofs.SideBehind.{leaves_behind}
 
 names_unfit : (user : List ℕ) (input output : Name) → ¬ (IsTarget output) ⊎ (IsTarget output × ¬ (IsInput input output)) → Seals user input output [] (Refused BadName)
 names_unfit user input output (inl unnamed) = output_unnamed unnamed refl refl
@@ -64,49 +57,13 @@ module _ (key input output : Name) where
         refused Leading Leaving (key_events key user) (Refused BadName) (faults.Refused whys.BadName) old new refl refl (encrypt_key_read user [] has refl (names_unfit user input output unfit)) passed
         (kept_leaves output (IsSealed key input output) (key_events key user) (AtEnd (Refused BadName)) old.host new.host (λ same. absurd (cc)) kept)
 
-    module _ (last : List Event) (stop : Stop) where
-      abbrev All : List Event
-      All = key_events key user ++ last
+    abbrev Known : Files → Type 0
+    Known files = user ≡ take 16 (contents (files key))
 
-      stands_back : (d : Disk) (file : Option (List ℕ)) → user ≡ user_on d key → IsSealedUnder user input output d last file → IsSealed key input output d All file
-      stands_back d file same stands = subst (λ (u : List ℕ). StandsFor u output (nonce_in last) (content_on d input) file) same stands
-
-      new_back : (d : Disk) (file : Option File) → user ≡ user_on d key → IsNewFile (IsSealedUnder user input output d last) file → IsNewFile (IsSealed key input output d All) file
-      new_back d file same new = record { file = new.file; there = new.there; settled = new.settled; is_new = stands_back d (Some new.file.bytes) same new.is_new }
-
-      made_then : IsMade last output → IsMade All output
-      made_then made = Contains-append_right (key_events key user) last (Answers (Made (side_of output))) made
-
-      swapped_then : IsSwapped last output → IsSwapped All output
-      swapped_then swapped = Contains-append_right (key_events key user) last (Answers (Swapped (side_of output) output)) swapped
-
-      left_back : (d : Disk) (image : Image) → user ≡ user_on d key → SideLeaves last output (IsSealedUnder user input output d last) d image → SideLeaves All output (IsSealed key input output d All) d image
-      left_back d image same left = record {
-        here = ⊎_elim (λ before. inl before) (λ new. inr (swapped_then new.0, stands_back d (image output) same new.1)) left.here;
-        side = λ none. left.side (λ made. none (made_then made));
-        others = left.others;
-      }
-
-      ends_back : (d f : Disk) → user ≡ user_on d key → SideEnds last stop output (IsSealedUnder user input output d last) d f → SideEnds All stop output (IsSealed key input output d All) d f
-      ends_back d f same ends = record {
-        done = λ done. new_back d (f output) same (ends.done done);
-        here = ⊎_elim (λ before. inl before) (λ new. inr (swapped_then new.0, new_back d (f output) same new.1)) ends.here;
-        side = λ none. ends.side (λ made. none (made_then made));
-        others = ends.others;
-      }
-
-      sealed_leaves : (s0 s1 s2 : HostState) → KeepsDisk s0 s1 → OnHonest s0 (λ files. user ≡ take 16 (contents (files key))) → LeavesSealed user input output last stop s1 s2 → EncryptLeaves key input output All stop s0 s2
-      sealed_leaves s0 s1 s2 kept known next =
-          goes_on_ran (λ disk image. SideLeaves All output (IsSealed key input output disk All) disk image) (λ disk image. SideLeaves last output (IsSealedUnder user input output disk last) disk image)
-          (λ d e. (e ≡ d) × (user ≡ user_on d key)) (λ before now. SideEnds last stop output (IsSealedUnder user input output before last) before now) (λ before now. SideEnds All stop output (IsSealed key input output before All) before now)
-          s0.honest s1.honest s2.honest
-          (knowing_first (λ files. user ≡ take 16 (contents (files key))) (λ disk image. SideLeaves All output (IsSealed key input output disk All) disk image) (λ d e. e ≡ d) s0.honest s1.honest
-          (goes_on_ran (λ disk image. SideLeaves All output (IsSealed key input output disk All) disk image) IsImage (λ d e. e ≡ d) Stays (λ d e. e ≡ d) s0.honest s0.honest s1.honest
-          (started (λ disk image. SideLeaves All output (IsSealed key input output disk All) disk image) s0.honest (λ d image is. record { here = inl (is output); side = λ none. is (side_of output); others = λ other ne side. is other })) kept
-          (λ d e same image is. let there = subst (λ (x : Disk). IsImage x image) same is in record { here = inl (there output); side = λ none. there (side_of output); others = λ other ne side. there other })
-          (λ d e f same stays. stays ∙ same)) known) next
-          (λ d e holds image left. left_back d image holds.1 (subst (λ (x : Disk). SideLeaves last output (IsSealedUnder user input output x last) x image) holds.0 left))
-          (λ d e f holds ends. ends_back d f holds.1 (subst (λ (x : Disk). SideEnds last stop output (IsSealedUnder user input output x last) x f) holds.0 ends))
+    sealed_leaves : (last : List Event) (stop : Stop) (s0 s1 s2 : HostState) → KeepsDisk s0 s1 → OnHonest s0 Known → LeavesSealed user input output last stop s1 s2 → EncryptLeaves key input output (key_events key user ++ last) stop s0 s2
+    sealed_leaves last stop s0 s1 s2 kept known next =
+        leaves_behind (key_events key user) last stop output Known (IsSealedUnder user input output) (IsSealed key input output)
+        (λ d file same stands. subst (λ (u : List ℕ). StandsFor u output (nonce_in last) (content_on d input) file) same stands) s0 s1 s2 kept known next
 
     -- the sealing after the reading of the key
     module _ (old mid new : World) (passed : Passed (key_events key user) old mid) (files : KeepsFiles old.host mid.host) (kept : KeepsDisk old.host mid.host) where

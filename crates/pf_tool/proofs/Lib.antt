@@ -13,11 +13,16 @@ mod SealDisk
 mod SideMaking
 mod InputDisk
 mod InputSealing
+mod SideBehind
 mod EncryptEnding
 pub mod Numbered
 pub mod SameBlocks
 pub mod Following
 mod Defining
+mod RenderLaws
+mod TextPutting
+mod ManifestEnding
+mod ManifestLaws
 mod PlainWriting
 pub mod OneFile
 pub mod Growing

@@ -1,5 +1,7 @@
 -- Lists of a known length, and names with an ending.
-use Rattle.std.proofs.Common.{◌≡◌, ◌≢◌, ◌↔◌, ◌∙◌, ◌<◌, ◌≤◌, ℕ, List, [], ◌∷◌, ◌++◌, length, take, drop, ◌-◌, slice_index_or, Bool, true, false, IsTrue, MatchBool, ap, ap₂, sym, refl, arith}
+use Rattle.std.proofs.Common.{◌≡◌, ◌≢◌, ◌↔◌, ◌∙◌, ◌<◌, ◌≤◌, ℕ, List, [], ◌∷◌, ◌++◌, length, take, drop, ◌-◌, slice_index_or, Bool, true, false, IsTrue, MatchBool, not, nat_eq, eqb-true, eq-eqb, ap, ap₂, sym, refl, subst, inl, inr, arith}
+use Rattle.std.proofs.lemmas.Bool.{cases_Bool}
+use Rattle.pf_tool.specs.Requests.{IsOperand}
 use Rattle.std.proofs.lemmas.List.{append_cancel_left, take_all}
 
 -- the items of a list of five, as reads give them
@@ -13,6 +15,13 @@ five (v ∷ w ∷ x ∷ []) a b c d e least most p q r s t = absurd (omega arith
 five (v ∷ w ∷ x ∷ y ∷ []) a b c d e least most p q r s t = absurd (omega arith)
 five (v ∷ w ∷ x ∷ y ∷ z ∷ []) a b c d e least most p q r s t = cc
 five (v ∷ w ∷ x ∷ y ∷ z ∷ u ∷ more) a b c d e least most p q r s t = absurd (omega arith)
+
+-- a list of at least one
+pub one_more : {A : Type 0} → (xs : List A) (a : A) → 1 ≤ length xs → a ≡ slice_index_or xs 0 a → xs ≡ a ∷ take (length xs - 1) (drop 1 xs)
+one_more [] a least p = absurd (omega arith)
+one_more (v ∷ xs) a least p =
+    let n : length xs ≤ length (v ∷ xs) - 1 = omega arith in
+    ap (λ c. c ∷ xs) (sym p) ∙ ap (λ l. a ∷ l) (sym (take_all (length (v ∷ xs) - 1) xs n))
 
 -- a list of at least two
 pub two_more : {A : Type 0} → (xs : List A) (a b : A) → 2 ≤ length xs → a ≡ slice_index_or xs 0 a → b ≡ slice_index_or xs 1 b → xs ≡ a ∷ b ∷ take (length xs - 2) (drop 2 xs)
@@ -32,3 +41,20 @@ told_beside name other rest ending false is told = (λ yes. absurd (never_true y
 
 pub not_beside : (name other ending : List ℕ) → ((rest : List ℕ) → name ≢ other ++ rest) → IsTrue false ↔ (name ≡ other ++ ending)
 not_beside name other ending never = (λ yes. absurd (never_true yes), λ same. absurd (never ending same))
+
+-- a word of at least two bytes is an operand where its first one is no `-`
+pub operand_told : (bytes word : List ℕ) → bytes ≡ word → 2 ≤ length word → IsTrue (not (nat_eq (slice_index_or bytes 0 0) 45)) ↔ IsOperand word
+operand_told bytes [] same least = absurd (omega arith)
+operand_told bytes (a ∷ []) same least = absurd (omega arith)
+operand_told bytes (a ∷ b ∷ rest) same least =
+    let first : slice_index_or bytes 0 0 ≡ a = ap (λ (l : List ℕ). slice_index_or l 0 0) same in
+    (λ other c more is.
+    let dash : nat_eq (slice_index_or bytes 0 0) 45 ≡ true = eq-eqb (slice_index_or bytes 0 0) 45 (first ∙ the_first a b rest c more is) in
+    never_true (subst (λ (t : Bool). IsTrue (not t)) dash other), λ operand.
+    elim (cases_Bool (nat_eq (slice_index_or bytes 0 0) 45)) [
+      | inl is ↦ absurd (operand b rest (ap (λ (n : ℕ). n ∷ b ∷ rest) (sym first ∙ eqb-true (slice_index_or bytes 0 0) 45 is)))
+      | inr other ↦ subst (λ (t : Bool). IsTrue (not t)) (sym other) refl
+    ])
+  where
+    the_first : (a b : ℕ) (rest : List ℕ) (c : ℕ) (more : List ℕ) → a ∷ b ∷ rest ≡ 45 ∷ c ∷ more → a ≡ 45
+    the_first a b rest c more is = cc

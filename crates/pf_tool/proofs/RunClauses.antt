@@ -1,9 +1,9 @@
 -- The clauses of a run, each from what the whole run came to.
-use Rattle.std.proofs.Common.{◌≡◌, ◌≢◌, ◌⊎◌, inl, inr, ⊎_elim, ℕ, ◌≤◌, List, [], ◌∷◌, ◌++◌, subst, ap, ◌∙◌, sym, arith, Option, Some, Result, Ok, Err, IfSome}
+use Rattle.std.proofs.Common.{◌≡◌, ◌≢◌, ◌⊎◌, inl, inr, ⊎_elim, ℕ, ◌≤◌, List, [], ◌∷◌, ◌++◌, subst, ap, ◌∙◌, sym, arith, Option, Some, None, Result, Ok, Err, IfSome}
 use Rattle.std.specs.List.{AllByRecursion, concat}
 use Rattle.std.proofs.lemmas.List.{append-nil}
 use Rattle.pf_io.specs.Disk.{Name, Files}
-use Rattle.pf_io.specs.Host.{Answer, HostState, IsMore, files_of}
+use Rattle.pf_io.specs.Host.{Answer, HostState, Both, IsMore, files_of}
 use Rattle.pf_io.specs.Answered.{IsAnswerOf, WereTold}
 use Rattle.pf_io.specs.Streams.{SourceState, SinkState, TakesFront}
 use Rattle.pf_io.specs.Words.{WordsState}
@@ -13,11 +13,15 @@ use Rattle.pf_tool.specs.Events.{Event, Answers, Draws, Puts, answers_in, words_
 use Rattle.pf_tool.specs.Endings.{Ending, Done, MayStarve, Stop, AtEnd, Failed, Starved, stop_line, stop_status, no_command_line}
 use Rattle.pf_tool.specs.declared.fault.Fault.{Fault}
 use Rattle.pf_tool.proofs.Stopping.{not_done}
-use Rattle.pf_tool.specs.Happened.{Passed, Happened}
+use Rattle.pf_tool.specs.Happened.{OutPassed, Passed, Happened}
+use Rattle.pf_tool.specs.Manifests.{out_pieces, TookText, ManifestLeads, GaveRendered}
+use Rattle.template_text.specs.Rendering.{Values}
+use Rattle.pf_tool.proofs.ManifestLaws.{GivenText, manifest_given, manifest_undrawn, manifest_unput}
+use Rattle.pf_tool.proofs.TextPutting.{concat_pieces}
 use Rattle.pf_tool.specs.Faults.{fault_status}
 use Rattle.pf_tool.specs.Outcomes.{IsAhead, StopsAt, ComesOut, Concludes}
 use Rattle.pf_tool.specs.Reports.{Reported, Reports}
-use Rattle.pf_tool.specs.Requests.{Request, Decrypt, Encrypt}
+use Rattle.pf_tool.specs.Requests.{Request, Decrypt, Encrypt, Manifest}
 use Rattle.pf_tool.specs.Runs.{Leads, LeavesHost, Runs, Usage, Causes, ByWords, Content, Decided, NoneCounted, Honestly, as_files_give, starved, Honest, Stays}
 use Rattle.pf_tool.proofs.RunStops.{not_two, reports_of, stop_low, reported_said, said, status_of, host_counted, random_counted, out_counted, all_passed, none_failed, input_kept, undrawn, unput, done_at_zero}
 use Rattle.pf_tool.proofs.RunLaws.{silent, spoken, decided, none_left, over, over_front}
@@ -167,6 +171,13 @@ module _ (request : Request) (old new : World) (status : ℕ) (run : Runs reques
 done_given : (key input output : Name) (es : List Event) (stop : Stop) → stop ≡ AtEnd Done → StopsAt (EncryptLeads key input output) es stop → GaveSealed key input output (answers_in es)
 done_given key input output es stop is stands = encrypt_given key input output es (subst (λ (s : Stop). StopsAt (EncryptLeads key input output) es s) is stands)
 
+took_text : (output : Option Name) (text : List ℕ) (pieces : List (List ℕ)) (old new : SinkState) → OutPassed pieces old new → pieces ≡ out_pieces output text → TookText output text old new
+took_text None text pieces old new passed is = subst (λ (l : List ℕ). Both old.bytes new.bytes (IsMore l)) (ap (λ (l : List (List ℕ)). concat l) is ∙ concat_pieces text) passed.told
+took_text (Some output) text pieces old new passed is = passed.untouched is
+
+done_rendered : (values : Values) (template : Name) (output : Option Name) (es : List Event) (stop : Stop) → stop ≡ AtEnd Done → StopsAt (ManifestLeads values template output) es stop → GivenText values template output es
+done_rendered values template output es stop is stands = manifest_given values template output es (subst (λ (s : Stop). StopsAt (ManifestLeads values template output) es s) is stands)
+
 pub run_content : (request : Request) (old new : World) (status : ℕ) → Runs request old new status → Content request old new status
 run_content (Decrypt key input) old new status run = took_content key input old new status run
 run_content (Encrypt key input output) old new status run = λ these told zero_is.
@@ -175,7 +186,28 @@ run_content (Encrypt key input output) old new status run = λ these told zero_i
     let passed : Passed es old (with_log new old.log) = subst (λ (s : Stop). Happened es s old (with_log new old.log)) done run.outcome.happened in
     let same : answers_in es ≡ these = these_told old.host new.host (answers_in es) these passed.host.told told in
     subst (λ (l : List Answer). GaveSealed key input output l) same (done_given key input output es run.stop done run.outcome.stands)
+run_content (Manifest values template output) old new status run = λ these told zero_is.
+    let es = run.outcome.events in
+    let done = done_at_zero run.stop old.log new.log status run.reports zero_is in
+    let passed : Passed es old (with_log new old.log) = subst (λ (s : Stop). Happened es s old (with_log new old.log)) done run.outcome.happened in
+    let same : answers_in es ≡ these = these_told old.host new.host (answers_in es) these passed.host.told told in
+    let given = done_rendered values template output es run.stop done run.outcome.stands in
+    record {
+      bytes = given.bytes;
+      text = given.text;
+      first = given.first;
+      taken = given.taken;
+      rendered = given.rendered;
+      answered = sym same ∙ given.answered;
+      took = took_text output given.text (pieces_in es) old.out new.out passed.out given.pieces;
+    }
 
 pub run_stays : (request : Request) (old new : World) (status : ℕ) → Runs request old new status → Stays request old new
 run_stays (Decrypt key input) old new status run = undrawn (Leads (Decrypt key input)) run.outcome.events run.stop old (with_log new old.log) (decrypt_undrawn key input) run.outcome.stands run.outcome.happened
 run_stays (Encrypt key input output) old new status run = unput (Leads (Encrypt key input output)) run.outcome.events run.stop old (with_log new old.log) (encrypt_unput key input output) run.outcome.stands run.outcome.happened
+run_stays (Manifest values template None) old new status run =
+    undrawn (Leads (Manifest values template None)) run.outcome.events run.stop old (with_log new old.log) (manifest_undrawn values template None) run.outcome.stands run.outcome.happened
+run_stays (Manifest values template (Some output)) old new status run = (
+  undrawn (Leads (Manifest values template (Some output))) run.outcome.events run.stop old (with_log new old.log) (manifest_undrawn values template (Some output)) run.outcome.stands run.outcome.happened,
+  unput (Leads (Manifest values template (Some output))) run.outcome.events run.stop old (with_log new old.log) (manifest_unput values template output) run.outcome.stands run.outcome.happened,
+)

@@ -1,24 +1,31 @@
 -- What a run leaves of an honest disk, by its status and by the host's count of faults.
-use Rattle.std.proofs.Common.{◌≡◌, ◌⊎◌, inl, inr, ⊎_elim, ℕ, zero, suc, List, [], ◌∷◌, ◌++◌, refl, subst, sym, arith, Option, Some}
+use Rattle.std.proofs.Common.{◌≡◌, ◌⊎◌, inl, inr, ⊎_elim, ℕ, zero, suc, ◌+◌, ◌*◌, List, [], ◌∷◌, ◌++◌, length, take, drop, refl, subst, ap, ◌∙◌, sym, arith, append_assoc, Option, Some, None, Result, Ok, Err}
 use Rattle.std.specs.Prelude.{Contains}
 use Rattle.std.proofs.lemmas.List.{append-nil}
 use Rattle.std.proofs.lemmas.List.Elements.{Contains-append_cases}
 use Rattle.pf_io.specs.Disk.{Name, File, Disk, Image}
-use Rattle.pf_io.specs.Host.{Swapped}
-use Rattle.pf_io.specs.Moments.{Ran}
+use Rattle.pf_io.specs.Host.{Wrote, Synced, Swapped}
+use Rattle.pf_io.specs.SideFile.{PIECE, pieces, wrote_pieces, side_steps}
+use Rattle.pf_io.specs.Slices.{given_in_turn}
 use Rattle.pf_io.specs.Names.{side_of}
-use Rattle.pf_io.proofs.Telling.{both_weaker}
 use Rattle.pf_tool.specs.World.{World, with_log}
 use Rattle.pf_tool.specs.Events.{Event, Answers, Draws, Puts}
 use Rattle.pf_tool.specs.Endings.{Ending, Done, MayStarve, Stop, AtEnd, Failed, Starved, tried}
 use Rattle.pf_tool.specs.Happened.{Happened}
 use Rattle.pf_tool.specs.Outcomes.{IsAhead, StopsAt}
 use Rattle.pf_tool.specs.Reports.{Reports}
-use Rattle.pf_tool.specs.Requests.{Request, Decrypt, Encrypt}
-use Rattle.pf_tool.specs.SideFiles.{IsSwapped, SideLeaves, SideEnds, IsNewFile}
+use Rattle.pf_tool.specs.Requests.{Request, Decrypt, Encrypt, Manifest}
+use Rattle.pf_tool.specs.SideFiles.{IsSwapped, SideLeaves, SideEnds, IsNewFile, LeavesBySide}
+use Rattle.template_text.specs.Rendering.{Values}
+use Rattle.pf_tool.specs.InputFiles.{asked, InputReads, file_unnamed, file_absent, file_large, file_taken}
+use Rattle.pf_tool.specs.Manifests as manifests
+use Rattle.pf_tool.specs.Manifests.{WritesManifest, text_refused, text_written, ManifestLeads, template_unread, template_read, IsRendered}
+use Rattle.pf_tool.specs.PlainFiles.{written_events}
+use Rattle.pf_tool.proofs.Asking.{asked_then}
+use Rattle.pf_tool.proofs.PlainWriting.{ran_weaker}
 use Rattle.pf_tool.specs.Keys.{KeyRefused, key_unnamed, key_absent, key_length, key_short, key_events}
 use Rattle.pf_tool.specs.Encrypting.{Seals, output_unnamed, input_unfit, input_absent, input_large, published, EncryptLeads, encrypt_key_refused, encrypt_key_read, IsSealed, IsVersion, nonce_in}
-use Rattle.pf_tool.specs.Runs.{Runs, MayBeNew, OutputLeft, OutputEnds, OnDisks}
+use Rattle.pf_tool.specs.Runs.{Runs, MayBeNew, OutputLeft, OutputEnds, LeavesOutput, OnDisks}
 use Rattle.pf_tool.proofs.RunStops.{host_counted, reports_done, done_at_zero}
 
 -- a side file takes a name
@@ -83,27 +90,76 @@ seals_swaps key user input output rest ending (published size first second third
           (λ no. no, (λ no. no, (λ no. no, (λ no. no, (λ no. no, (λ no. no, (λ no. no, (λ no. no, (λ no. no, (λ no. no, (λ no. no, (λ no. no, (λ no. no, tt))))))))))))),
     )
 
-module _ (key input output : Name) where
-  leads_swaps : (es : List Event) (ending : Ending) → EncryptLeads key input output es ending → Swaps es ending
-  leads_swaps es ending (encrypt_key_refused refuses) = inl (key_none key es ending refuses)
-  leads_swaps es ending (encrypt_key_read user rest has is seals) = subst (λ (l : List Event). Swaps l ending) (sym is) (seals_swaps key user input output rest ending seals)
+encrypt_swaps : (key input output : Name) (es : List Event) (ending : Ending) → EncryptLeads key input output es ending → Swaps es ending
+encrypt_swaps key input output es ending (encrypt_key_refused refuses) = inl (key_none key es ending refuses)
+encrypt_swaps key input output es ending (encrypt_key_read user rest has is seals) = subst (λ (l : List Event). Swaps l ending) (sym is) (seals_swaps key user input output rest ending seals)
 
+none_append : (xs ys : List Event) → NoSwap xs → NoSwap ys → NoSwap (xs ++ ys)
+none_append [] ys first second = second
+none_append (x ∷ xs) ys first second = (first.0, none_append xs ys first.1 second)
+
+last_only : (xs : List Event) (event : Event) → NoSwap xs → OnlyLast (xs ++ event ∷ [])
+last_only [] event none = tt
+last_only (x ∷ []) event none = (none.0, tt)
+last_only (x ∷ y ∷ xs) event none = (none.0, last_only (y ∷ xs) event none.1)
+
+none_in_turn : (name : Name) (at : ℕ) (slices : List (List ℕ)) → NoSwap (asked (given_in_turn name at slices))
+none_in_turn name at [] = tt
+none_in_turn name at (slice ∷ slices) = (λ no. no, none_in_turn name (at + length slice) slices)
+
+reading_none : (name : Name) (es : List Event) (r : Result (List ℕ) Ending) → InputReads name es r → NoSwap es
+reading_none name es r (file_unnamed u is ends) = subst NoSwap (sym is) tt
+reading_none name es r (file_absent named is ends) = subst NoSwap (sym is) (λ no. no, tt)
+reading_none name es r (file_large whole last these named came few many is ends) = subst NoSwap (sym (is ∙ ap asked came.1.1)) (λ no. no, none_in_turn name 0 (whole ++ last ∷ []))
+reading_none name es r (file_taken text these named taken few is ends) = subst NoSwap (sym (is ∙ ap asked taken.asked)) (λ no. no, none_in_turn name 0 (taken.whole ++ taken.last ∷ []))
+
+wrote_none : (side : Name) (bytes : List ℕ) (count : ℕ) → NoSwap (asked (wrote_pieces side bytes count))
+wrote_none side bytes zero = tt
+wrote_none side bytes (suc count) =
+    let piece = Wrote side (count * PIECE) (take PIECE (drop (count * PIECE) bytes)) in
+    subst NoSwap (sym (asked_then (wrote_pieces side bytes count) (piece ∷ []))) (none_append (asked (wrote_pieces side bytes count)) (Answers piece ∷ []) (wrote_none side bytes count) (λ no. no, tt))
+
+side_none : (side : Name) (bytes : List ℕ) → NoSwap (asked (side_steps side bytes))
+side_none side bytes =
+    let wrote = wrote_pieces side bytes (pieces (length bytes)) in
+    (λ no. no, subst NoSwap (sym (asked_then wrote (Synced side ∷ []))) (none_append (asked wrote) (Answers (Synced side) ∷ []) (wrote_none side bytes (pieces (length bytes))) (λ no. no, tt)))
+
+-- behind events without one, the side file takes its name last
+written_last : (first : List Event) (output : Name) (text : List ℕ) → NoSwap first → OnlyLast (first ++ written_events output text)
+written_last first output text none =
+    let side = side_of output in
+    let swap = Answers (Swapped side output) in
+    subst OnlyLast (append_assoc first (asked (side_steps side text)) (swap ∷ []) ∙ ap (λ (l : List Event). first ++ l) (sym (asked_then (side_steps side text) (Swapped side output ∷ []))))
+    (last_only (first ++ asked (side_steps side text)) swap (none_append first (asked (side_steps side text)) none (side_none side text)))
+
+rest_swaps : (values : Values) (output : Name) (bytes : List ℕ) (first rest : List Event) (ending : Ending) → NoSwap first → WritesManifest values (Some output) bytes rest ending → Swaps (first ++ rest) ending
+rest_swaps values output bytes first rest ending none (text_refused renders is) = inl (subst (λ (l : List Event). NoSwap (first ++ l)) (sym is) (none_append first [] none tt))
+rest_swaps values output bytes first rest ending none (text_written text renders is ends) = inr (ends, subst (λ (l : List Event). OnlyLast (first ++ l)) (sym is) (written_last first output text none))
+
+manifest_swaps : (values : Values) (template output : Name) (es : List Event) (ending : Ending) → ManifestLeads values template (Some output) es ending → Swaps es ending
+manifest_swaps values template output es ending (manifests.output_unfit unfit is ends) = inl (subst NoSwap (sym is) tt)
+manifest_swaps values template output es ending (template_unread fits reads) = inl (reading_none template es (Err ending) reads)
+manifest_swaps values template output es ending (template_read bytes first rest fits reads writes is) =
+    subst (λ (l : List Event). Swaps l ending) (sym is) (rest_swaps values output bytes first rest ending (reading_none template first (Ok bytes) reads) writes)
+
+-- a command whose side file takes its name last
+module _ (output : Name) (Leading : List Event → Ending → Type 0) (swaps : (es : List Event) (ending : Ending) → Leading es ending → Swaps es ending) where
   -- before the last event none does
-  front_none : (es : List Event) (event : Event) (rest : List Event) (ending : Ending) → EncryptLeads key input output (es ++ event ∷ rest) ending → NoSwap es
-  front_none es event rest ending leads = none_before es event rest (⊎_elim (λ none. none_only (es ++ event ∷ rest) none) (λ both. both.1) (leads_swaps (es ++ event ∷ rest) ending leads))
+  front_none : (es : List Event) (event : Event) (rest : List Event) (ending : Ending) → Leading (es ++ event ∷ rest) ending → NoSwap es
+  front_none es event rest ending leads = none_before es event rest (⊎_elim (λ none. none_only (es ++ event ∷ rest) none) (λ both. both.1) (swaps (es ++ event ∷ rest) ending leads))
 
-  not_in_front : (es : List Event) (event : Event) (rest : List Event) (ending : Ending) → EncryptLeads key input output (es ++ event ∷ rest) ending → IsSwapped es output → ⊥
+  not_in_front : (es : List Event) (event : Event) (rest : List Event) (ending : Ending) → Leading (es ++ event ∷ rest) ending → IsSwapped es output → ⊥
   not_in_front es event rest ending leads swapped = none_has es (front_none es event rest ending leads) (has_swap es (side_of output) output swapped)
 
-  not_at_want : (es rest : List Event) (ending : Ending) → IsAhead rest ending → EncryptLeads key input output (es ++ rest) ending → IsSwapped es output → ⊥
+  not_at_want : (es rest : List Event) (ending : Ending) → IsAhead rest ending → Leading (es ++ rest) ending → IsSwapped es output → ⊥
   not_at_want es [] ending ahead leads swapped =
-      ⊎_elim (λ none. none_has es none (has_swap es (side_of output) output swapped)) (λ both. subst MayStarve both.0 ahead) (leads_swaps es ending (subst (λ (l : List Event). EncryptLeads key input output l ending) (append-nil es) leads))
+      ⊎_elim (λ none. none_has es none (has_swap es (side_of output) output swapped)) (λ both. subst MayStarve both.0 ahead) (swaps es ending (subst (λ (l : List Event). Leading l ending) (append-nil es) leads))
   not_at_want es (event ∷ rest) ending ahead leads swapped = not_in_front es event rest ending leads swapped
 
   module _ (old new : World) (status : ℕ) where
-    may_be_new : (es : List Event) (stop : Stop) → StopsAt (EncryptLeads key input output) es stop → Happened es stop old (with_log new old.log) → Reports stop old.log new.log status → IsSwapped (tried es stop) output → MayBeNew old new status
+    may_be_new : (es : List Event) (stop : Stop) → StopsAt Leading es stop → Happened es stop old (with_log new old.log) → Reports stop old.log new.log status → IsSwapped (tried es stop) output → MayBeNew old new status
     may_be_new es (AtEnd ending) stands happened reports swapped =
-        inl (⊎_elim (λ none. absurd (none_has es none (has_swap es (side_of output) output swapped))) (λ both. reports_done ending old.log new.log status both.0 reports) (leads_swaps es ending stands))
+        inl (⊎_elim (λ none. absurd (none_has es none (has_swap es (side_of output) output swapped))) (λ both. reports_done ending old.log new.log status both.0 reports) (swaps es ending stands))
     may_be_new es (Failed (Answers answer)) stands happened reports swapped = inr (host_counted es old (with_log new old.log) (Failed (Answers answer)) happened refl)
     may_be_new es (Failed (Draws word)) stands happened reports swapped =
         absurd (⊎_elim (λ front. not_in_front es (Draws word) stands.0 stands.1 stands.2 front) (λ last. none_has (Draws word ∷ []) (λ no. no, tt) (has_swap (Draws word ∷ []) (side_of output) output last))
@@ -113,39 +169,39 @@ module _ (key input output : Name) where
         (Contains-append_cases es (Puts bytes ∷ []) (Answers (Swapped (side_of output) output)) swapped))
     may_be_new es Starved stands happened reports swapped = absurd (not_at_want es stands.0 stands.1 stands.2 stands.3 swapped)
 
-    module _ (run : Runs (Encrypt key input output) old new status) where
+    module _ (es : List Event) (stop : Stop) (stands : StopsAt Leading es stop) (happened : Happened es stop old (with_log new old.log)) (reports : Reports stop old.log new.log status)
+        (IsNew : Disk → List Event → Option (List ℕ) → Type 0) (IsVersion : Disk → Option (List ℕ) → Type 0) (version : (d : Disk) (file : Option (List ℕ)) → IsNew d (tried es stop) file → IsVersion d file) where
       abbrev Tried : List Event
-      Tried = tried run.outcome.events run.stop
+      Tried = tried es stop
 
       may : IsSwapped Tried output → MayBeNew old new status
-      may swapped = may_be_new run.outcome.events run.stop run.outcome.stands run.outcome.happened run.reports swapped
+      may swapped = may_be_new es stop stands happened reports swapped
 
-      version : (d : Disk) (file : Option (List ℕ)) → IsSealed key input output d Tried file → IsVersion key input output d file
-      version d file stands = (nonce_in Tried, stands)
-
-      new_version : (d : Disk) (file : Option File) → IsNewFile (IsSealed key input output d Tried) file → IsNewFile (IsVersion key input output d) file
+      new_version : (d : Disk) (file : Option File) → IsNewFile (IsNew d Tried) file → IsNewFile (IsVersion d) file
       new_version d file new_file = record { file = new_file.file; there = new_file.there; settled = new_file.settled; is_new = version d (Some new_file.file.bytes) new_file.is_new }
 
-      left : (d : Disk) (image : Image) → SideLeaves Tried output (IsSealed key input output d Tried) d image → OutputLeft key input output (MayBeNew old new status) d image
+      left : (d : Disk) (image : Image) → SideLeaves Tried output (IsNew d Tried) d image → OutputLeft output IsVersion (MayBeNew old new status) d image
       left d image leaves = record { here = ⊎_elim (λ before. inl before) (λ both. inr (may both.0, version d (image output) both.1)) leaves.here; others = leaves.others }
 
-      pub encrypt_disk : OnDisks (Encrypt key input output) old new status
-      encrypt_disk =
-          both_weaker (Ran (λ disk image. SideLeaves Tried output (IsSealed key input output disk Tried) disk image) (λ before now. SideEnds Tried run.stop output (IsSealed key input output before Tried) before now))
-          (Ran (OutputLeft key input output (MayBeNew old new status)) (OutputEnds key input output (MayBeNew old new status) (status ≡ 0))) old.host.honest new.host.honest run.outcome.leaves
-          (λ a b ran. record {
-            leaves = record {
-              later = ran.leaves.later;
-              each = λ image was. left a.now image (ran.leaves.each image was);
-              earlier = λ t image le was. ⊎_elim (λ before. inl before) (λ has. inr (left a.now image has)) (ran.leaves.earlier t image le was);
-            };
-            ends = record {
-              done = λ zero_is. new_version a.now (b.now output) (ran.ends.done (done_at_zero run.stop old.log new.log status run.reports zero_is));
-              here = ⊎_elim (λ before. inl before) (λ both. inr (may both.0, new_version a.now (b.now output) both.1)) ran.ends.here;
-              others = ran.ends.others;
-            };
-          })
+      ends : (d e : Disk) → SideEnds Tried stop output (IsNew d Tried) d e → OutputEnds output IsVersion (MayBeNew old new status) (status ≡ 0) d e
+      ends d e ended = record {
+        done = λ zero_is. new_version d (e output) (ended.done (done_at_zero stop old.log new.log status reports zero_is));
+        here = ⊎_elim (λ before. inl before) (λ both. inr (may both.0, new_version d (e output) both.1)) ended.here;
+        others = ended.others;
+      }
+
+      pub side_disk : LeavesBySide output IsNew Tried stop old.host new.host → LeavesOutput output IsVersion old new status
+      side_disk leaves =
+          ran_weaker (λ disk image. SideLeaves Tried output (IsNew disk Tried) disk image) (OutputLeft output IsVersion (MayBeNew old new status))
+          (λ before now. SideEnds Tried stop output (IsNew before Tried) before now) (OutputEnds output IsVersion (MayBeNew old new status) (status ≡ 0)) old.host.honest new.host.honest leaves left ends
 
 pub run_disk : (request : Request) (old new : World) (status : ℕ) → Runs request old new status → OnDisks request old new status
 run_disk (Decrypt key input) old new status run = run.outcome.leaves
-run_disk (Encrypt key input output) old new status run = encrypt_disk key input output old new status run
+run_disk (Encrypt key input output) old new status run =
+    let es = run.outcome.events in
+    side_disk output (EncryptLeads key input output) (encrypt_swaps key input output) old new status es run.stop run.outcome.stands run.outcome.happened run.reports (IsSealed key input output) (IsVersion key input output)
+    (λ d file stands. (nonce_in (tried es run.stop), stands)) run.outcome.leaves
+run_disk (Manifest values template None) old new status run = run.outcome.leaves
+run_disk (Manifest values template (Some output)) old new status run =
+    side_disk output (ManifestLeads values template (Some output)) (manifest_swaps values template output) old new status run.outcome.events run.stop run.outcome.stands run.outcome.happened run.reports
+    (λ disk _. IsRendered values template disk) (IsRendered values template) (λ d file rendered. rendered) run.outcome.leaves

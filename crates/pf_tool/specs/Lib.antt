@@ -5,10 +5,14 @@ pub mod Happened
 pub mod Faults
 pub mod Outcomes
 pub mod Reports
+pub mod Texts
 pub mod Defines
 pub mod Requests
 pub mod SideFiles
 pub mod PlainFiles
+pub mod Rendering
+pub mod TextOutput
+pub mod Manifests
 pub mod Keys
 pub mod InputFiles
 pub mod InputSlices

@@ -1,5 +1,5 @@
 -- What a run of the program comes to, by what its words ask for.
-use Rattle.std.specs.Prelude.{◌≡◌, ◌≢◌, ◌⊎◌, ℕ, ◌≤◌, List, [], Some}
+use Rattle.std.specs.Prelude.{◌≡◌, ◌≢◌, ◌⊎◌, ℕ, ◌≤◌, List, [], Option, Some, None}
 use Rattle.std.specs.List.{concat}
 use Rattle.pf_io.specs.Counts.{counted}
 use Rattle.pf_io.specs.Disk.{Name, Files, Disk, Image, IsImageAt}
@@ -14,26 +14,30 @@ use Rattle.pf_tool.specs.Events.{Event, answers_in}
 use Rattle.pf_tool.specs.Endings.{Ending, Done, MayStarve, Stop, AtEnd, Starved, ending_line, ending_status, memory_line, no_command_line}
 use Rattle.pf_tool.specs.Outcomes.{Outcome}
 use Rattle.pf_tool.specs.Reports.{WroteAll, Reported, Reports}
-use Rattle.pf_tool.specs.Requests.{Request, Decrypt, Encrypt}
+use Rattle.pf_tool.specs.Requests.{Request, Decrypt, Encrypt, Manifest}
 use Rattle.pf_tool.specs.SideFiles.{IsNewFile}
 use Rattle.pf_tool.specs.Decrypting.{DecryptLeads, DecryptOver}
 use Rattle.pf_tool.specs.Encrypting.{EncryptLeads, EncryptLeaves, EncryptOver, GaveSealed, IsVersion}
 use Rattle.pf_tool.specs.Contents.{TookContent}
+use Rattle.pf_tool.specs.Manifests.{ManifestLeads, ManifestLeaves, ManifestOver, GaveRendered, IsRendered}
 
 -- all events of a run with this ending
 abbrev pub Leads : Request → List Event → Ending → Type 0
 Leads (Decrypt key input) events ending = DecryptLeads key input events ending
 Leads (Encrypt key input output) events ending = EncryptLeads key input output events ending
+Leads (Manifest values template output) events ending = ManifestLeads values template output events ending
 
 -- what is left on the host after what was tried
 abbrev pub LeavesHost : Request → List Event → Stop → HostState → HostState → Type 0
 LeavesHost (Decrypt key input) tried stop old new = KeepsDisk old new
 LeavesHost (Encrypt key input output) tried stop old new = EncryptLeaves key input output tried stop old new
+LeavesHost (Manifest values template output) tried stop old new = ManifestLeaves values template output tried stop old new
 
 -- the pieces for the output, and the ending, that files give
 abbrev pub Over : Request → Files → List (List ℕ) → Ending → Type 0
 Over (Decrypt key input) files pieces ending = DecryptOver key input files pieces ending
 Over (Encrypt key input output) files pieces ending = (pieces ≡ []) × EncryptOver key input output files ending
+Over (Manifest values template output) files pieces ending = ManifestOver values template output files pieces ending
 
 -- The whole of a run: where it stopped, what had happened until then, and what it said.
 pub record Runs (request : Request) (old new : World) (status : ℕ) : Type 0 where
@@ -70,6 +74,7 @@ ByWords request old new status = (ending : Ending) → Leads request [] ending �
 abbrev pub Content : Request → World → World → ℕ → Type 0
 Content (Decrypt key input) old new status = TookContent key input old new status
 Content (Encrypt key input output) old new status = (these : List Answer) → WereTold these old.host new.host → status ≡ 0 → GaveSealed key input output these
+Content (Manifest values template output) old new status = (these : List Answer) → WereTold these old.host new.host → status ≡ 0 → GaveRendered values template output these old.out new.out
 
 -- Where the host told these answers, and they lead to an ending, it is reported: a refusal or a damage always, since no event
 -- comes behind its answers, and `Done` where the status is at most 3, since a piece may come behind the last and fail. In place of
@@ -103,24 +108,31 @@ OneOver = (request : Request) (files : Files) (pieces others : List (List ℕ)) 
 abbrev pub MayBeNew : World → World → ℕ → Type 0
 MayBeNew old new status = (status ≡ 0) ⊎ (new.host.faults ≡ counted old.host.faults)
 
--- Every name but the output's and its side file's is as before. The output is as before, or where it may be new it stands for
--- the input under the key, under some nonce.
-pub record OutputLeft (key input output : Name) (may : Type 0) (disk : Disk) (image : Image) : Type 0 where
-  pub here : IsImageAt (disk output) (image output) ⊎ (may × IsVersion key input output disk (image output))
+-- Every name but the output's and its side file's is as before. The output is as before, or where it may be new it is what a new
+-- file is, by the disk before the run.
+pub record OutputLeft (output : Name) (IsNew : Disk → Option (List ℕ) → Type 0) (may : Type 0) (disk : Disk) (image : Image) : Type 0 where
+  pub here : IsImageAt (disk output) (image output) ⊎ (may × IsNew disk (image output))
   pub others : (other : Name) → other ≢ output → other ≢ side_of output → IsImageAt (disk other) (image other)
 
-pub record OutputEnds (key input output : Name) (may whole : Type 0) (old new : Disk) : Type 0 where
-  pub done : whole → IsNewFile (IsVersion key input output old) (new output)
-  pub here : (new output ≡ old output) ⊎ (may × IsNewFile (IsVersion key input output old) (new output))
+pub record OutputEnds (output : Name) (IsNew : Disk → Option (List ℕ) → Type 0) (may whole : Type 0) (old new : Disk) : Type 0 where
+  pub done : whole → IsNewFile (IsNew old) (new output)
+  pub here : (new output ≡ old output) ⊎ (may × IsNewFile (IsNew old) (new output))
   pub others : (other : Name) → other ≢ output → other ≢ side_of output → new other ≡ old other
+
+-- one output is made, or stays as it is: at every moment of a run, and in the end
+abbrev pub LeavesOutput : Name → (Disk → Option (List ℕ) → Type 0) → World → World → ℕ → Type 0
+LeavesOutput output IsNew old new status = OnDisk old.host new.host (Ran (OutputLeft output IsNew (MayBeNew old new status)) (OutputEnds output IsNew (MayBeNew old new status) (status ≡ 0)))
 
 -- a run at every moment of it, and in the end, on an honest disk
 abbrev pub OnDisks : Request → World → World → ℕ → Type 0
 OnDisks (Decrypt key input) old new status = KeepsDisk old.host new.host
-OnDisks (Encrypt key input output) old new status = OnDisk old.host new.host
-    (Ran (OutputLeft key input output (MayBeNew old new status)) (OutputEnds key input output (MayBeNew old new status) (status ≡ 0)))
+OnDisks (Encrypt key input output) old new status = LeavesOutput output (IsVersion key input output) old new status
+OnDisks (Manifest values template None) old new status = KeepsDisk old.host new.host
+OnDisks (Manifest values template (Some output)) old new status = LeavesOutput output (IsRendered values template) old new status
 
 -- what a run leaves alone
 abbrev pub Stays : Request → World → World → Type 0
 Stays (Decrypt key input) old new = new.random ≡ old.random
 Stays (Encrypt key input output) old new = new.out ≡ old.out
+Stays (Manifest values template None) old new = new.random ≡ old.random
+Stays (Manifest values template (Some output)) old new = (new.random ≡ old.random) × (new.out ≡ old.out)

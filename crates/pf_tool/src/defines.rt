@@ -2,7 +2,7 @@
 ghost use Rattle.std.specs.Prelude.{◌≡◌, ◌++◌, ℕ, List, IfOk, MatchOption, [], length};
 ghost use Rattle.template_text.specs.Names.{IsValueName};
 ghost use Rattle.template_text.specs.Rendering.{Values};
-ghost use Rattle.pf_tool.specs.Requests.{texts};
+ghost use Rattle.pf_tool.specs.Texts.{texts};
 ghost use Rattle.pf_tool.specs.Defines.{DefinesFirst, DefinesNone, Define, spelled};
 
 use pf_io::{Memory, Text};
@@ -19,7 +19,7 @@ pub struct Defines<'a> {
 impl<'a> Model for Defines<'a> {
     ghost use Rattle.std.specs.Prelude.{[]};
     ghost use Rattle.template_text.specs.Rendering.{Values};
-    ghost use Rattle.pf_tool.specs.Requests.{texts};
+    ghost use Rattle.pf_tool.specs.Texts.{texts};
     ghost use Rattle.pf_tool.specs.Defines.{Define, values_in};
 
     ghost Value = { Values };

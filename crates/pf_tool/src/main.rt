@@ -12,12 +12,18 @@ mod fault;
 mod input_file;
 mod key;
 mod lines;
+mod manifest;
+#[cfg(test)]
+mod manifest_tests;
+mod manifest_words;
 mod pieces;
 mod plain_file;
+mod rendering;
 mod run;
 mod side_file;
 #[cfg(test)]
 mod tests;
+mod text_output;
 mod text_refusals;
 mod why;
 mod words;

@@ -1,6 +1,8 @@
 // The words of the command line.
 ghost use Rattle.std.specs.Prelude.{◌≡◌, ◌↔◌, IsTrue, IfSome, IfNone, List, ℕ, codes};
-ghost use Rattle.pf_tool.specs.Requests.{texts, decrypt_words, encrypt_words, AskFor, AskForNothing, request_of};
+ghost use Rattle.pf_tool.specs.Requests.{texts, decrypt_words, encrypt_words, IsOperand, AskFor, AskForNothing, request_of};
+
+use crate::manifest_words::{Manifest, manifest_of};
 
 /// The words `decrypt -w KEY -i IN`.
 #[derive(Drop)]
@@ -29,6 +31,8 @@ pub enum Command<'a> {
     Decrypt(Decrypt<'a>),
     /// Makes a protected file of a plain one.
     Encrypt(Encrypt<'a>),
+    /// Renders a template to the text of a manifest.
+    Manifest(Manifest<'a>),
 }
 
 fn decrypt_of(words: &[String]) -> Option<Decrypt<'_>>
@@ -88,6 +92,13 @@ fn encrypt_of(words: &[String]) -> Option<Encrypt<'_>>
     })
 }
 
+/// Whether a word is no option: it does not begin with `-`, or is `-` alone.
+pub(crate) fn is_operand(word: &str) -> bool
+    ensures { IsTrue result ↔ IsOperand word.now }
+{
+    word.len() < 2 || word.as_bytes()[0] != b'-'
+}
+
 /// The command of the words, or `None` where they are none.
 pub fn command_of(words: &[String]) -> Option<Command<'_>>
     ensures found { IfSome result (λ command. AskFor (texts words.now) (request_of command)) }
@@ -96,8 +107,11 @@ pub fn command_of(words: &[String]) -> Option<Command<'_>>
     if let Some(command) = decrypt_of(words) {
         return Some(Command::Decrypt(command));
     }
-    match encrypt_of(words) {
-        Some(command) => Some(Command::Encrypt(command)),
+    if let Some(command) = encrypt_of(words) {
+        return Some(Command::Encrypt(command));
+    }
+    match manifest_of(words) {
+        Some(command) => Some(Command::Manifest(command)),
         None => None,
     }
 }

@@ -1,6 +1,6 @@
 use Rattle.std.proofs.Common.{length}
 use Rattle.template_text.specs.Rendering.{Values}
-use Rattle.pf_tool.specs.Requests.{texts}
+use Rattle.pf_tool.specs.Texts.{texts}
 use Rattle.pf_tool.specs.Defines.{Define}
 use Rattle.pf_tool.proofs.defines.cut_defines.Given as goal
 

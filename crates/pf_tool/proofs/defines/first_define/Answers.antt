@@ -1,7 +1,7 @@
 use Rattle.std.proofs.Common.{◌≡◌, ap, ◌∙◌, rules}
 use Rattle.std.specs.Prelude.{codes}
 use Rattle.pf_tool.specs.Defines.{in_two_words}
-use Rattle.pf_tool.specs.Requests.{texts}
+use Rattle.pf_tool.specs.Texts.{texts}
 use Rattle.pf_tool.proofs.Lists.{two_more}
 use Rattle.pf_tool.proofs.defines.first_define.Goals as goal
 

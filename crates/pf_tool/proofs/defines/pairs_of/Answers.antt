@@ -1,6 +1,6 @@
 use Rattle.std.proofs.Common.{◌≡◌, ◌∙◌, ◌++◌, ◌∷◌, List, [], ℕ, ap, ap₂, sym, subst}
 use Rattle.template_text.specs.Rendering.{Values}
-use Rattle.pf_tool.specs.Requests.{texts}
+use Rattle.pf_tool.specs.Texts.{texts}
 use Rattle.pf_tool.specs.Defines.{Define}
 use Rattle.pf_tool.proofs.Defining.{define_more, all_pairs}
 use Rattle.pf_tool.proofs.defines.pairs_of.Goals as goal

@@ -1,5 +1,5 @@
 use Rattle.std.proofs.Common.{length}
-use Rattle.pf_tool.specs.Requests.{texts}
+use Rattle.pf_tool.specs.Texts.{texts}
 use Rattle.pf_tool.specs.Defines.{Define}
 use Rattle.pf_tool.proofs.defines.pairs_of.Given as goal
 
