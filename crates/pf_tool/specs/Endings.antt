@@ -6,13 +6,18 @@ use Rattle.node_layout.specs.declared.damage.Kind.TheVariants as kinds
 use Rattle.pf_io.specs.Disk.{Name}
 use Rattle.pf_tool.specs.Events.{Event, Answers, Draws, Puts}
 
--- why a command is refused
+-- Why a command is refused. `NotFound` has a name of the command line, and `Absent` one that an input lists.
 pub data Refusal : Type 0 where
   BadName : Refusal
   NotFound : (name : Name) → Refusal
   KeyFile : (number : ℕ) → Refusal
   NotProtected : Refusal
   TooLarge : Refusal
+  Absent : (name : Name) → Refusal
+  LayoutLine : (number : ℕ) → Refusal
+  LayoutSize : (number : ℕ) → Refusal
+  LayoutOutOfRange : (number : ℕ) → Refusal
+  LayoutRepeated : (number : ℕ) → Refusal
   Unbuilt : Refusal
 
 -- what the events of a command lead to: its work is done, or a damage or a refusal by name
@@ -30,6 +35,11 @@ MayStarve (Refused (NotFound name)) = ⊥
 MayStarve (Refused (KeyFile number)) = ⊥
 MayStarve (Refused NotProtected) = ⊥
 MayStarve (Refused TooLarge) = ⊥
+MayStarve (Refused (Absent name)) = Unit {0}
+MayStarve (Refused (LayoutLine number)) = Unit {0}
+MayStarve (Refused (LayoutSize number)) = Unit {0}
+MayStarve (Refused (LayoutOutOfRange number)) = Unit {0}
+MayStarve (Refused (LayoutRepeated number)) = Unit {0}
 MayStarve (Refused Unbuilt) = ⊥
 
 -- Where a run stops: at an ending, in a call that failed and was to give this event, or for want of memory.
@@ -61,6 +71,11 @@ refusal_text (NotFound name) = codes "refused not found " ++ name
 refusal_text (KeyFile number) = codes "refused key file " ++ decimal number
 refusal_text NotProtected = codes "refused not protected"
 refusal_text TooLarge = codes "refused too large"
+refusal_text (Absent name) = codes "refused not found " ++ name
+refusal_text (LayoutLine number) = codes "refused layout line " ++ decimal number
+refusal_text (LayoutSize number) = codes "refused layout line " ++ decimal number ++ codes " size"
+refusal_text (LayoutOutOfRange number) = codes "refused layout line " ++ decimal number ++ codes " out of range"
+refusal_text (LayoutRepeated number) = codes "refused layout line " ++ decimal number ++ codes " repeated"
 refusal_text Unbuilt = codes "refused unbuilt"
 
 -- what an ending writes to the log

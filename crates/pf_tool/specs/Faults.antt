@@ -1,6 +1,6 @@
 -- The line and the status of each fault.
 use Rattle.std.specs.Prelude.{ℕ, List}
-use Rattle.pf_tool.specs.Endings.{Refusal, BadName, NotFound, KeyFile, NotProtected, TooLarge, Unbuilt, Damaged, Refused, ending_line, ending_status, no_command_line, host_line, memory_line, random_line, stream_line}
+use Rattle.pf_tool.specs.Endings.{Refusal, BadName, NotFound, KeyFile, NotProtected, TooLarge, Absent, LayoutLine, LayoutSize, LayoutOutOfRange, LayoutRepeated, Unbuilt, Damaged, Refused, ending_line, ending_status, no_command_line, host_line, memory_line, random_line, stream_line}
 use Rattle.pf_tool.specs.declared.why.Why.{Why}
 use Rattle.pf_tool.specs.declared.why.Why.TheVariants as whys
 use Rattle.pf_tool.specs.declared.fault.Fault.{Fault}
@@ -12,6 +12,11 @@ refusal_of (whys.NotFound name) = NotFound name.now
 refusal_of (whys.KeyFile number) = KeyFile number
 refusal_of whys.NotProtected = NotProtected
 refusal_of whys.TooLarge = TooLarge
+refusal_of (whys.Absent name) = Absent name
+refusal_of (whys.LayoutLine number) = LayoutLine number
+refusal_of (whys.LayoutSize number) = LayoutSize number
+refusal_of (whys.LayoutOutOfRange number) = LayoutOutOfRange number
+refusal_of (whys.LayoutRepeated number) = LayoutRepeated number
 refusal_of whys.Unbuilt = Unbuilt
 
 abbrev pub fault_line : Fault → List ℕ

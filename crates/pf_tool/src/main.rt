@@ -11,6 +11,9 @@ mod fault;
 mod input_file;
 mod key;
 mod lines;
+mod measuring;
+#[cfg(test)]
+mod measuring_tests;
 mod pieces;
 mod plain_file;
 mod run;

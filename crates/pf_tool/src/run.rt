@@ -9,6 +9,7 @@ ghost use Rattle.pf_tool.specs.Runs.{Runs, Usage, Causes, ByWords, Content, Deci
 use crate::decrypt::decrypt;
 use crate::encrypt::encrypt;
 use crate::fault::Fault;
+use crate::measuring::measure_layout;
 use crate::words::{Command, command_of};
 use pf_io::{Host, Sink, Source, Words};
 use std::alloc::Global;
@@ -38,6 +39,7 @@ fn run_command<H: Host, K: Sink, L: Sink, R: Words>(
     match command {
         Command::Decrypt(command) => conclude(decrypt(alloc, host, command, out), log),
         Command::Encrypt(command) => conclude(encrypt(alloc, host, random, command), log),
+        Command::Measure(command) => conclude(measure_layout(alloc, host, command, out), log),
     }
 }
 

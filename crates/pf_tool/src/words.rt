@@ -1,6 +1,6 @@
 // The words of the command line.
 ghost use Rattle.std.specs.Prelude.{◌≡◌, ◌↔◌, IsTrue, IfSome, IfNone, List, ℕ, codes};
-ghost use Rattle.pf_tool.specs.Requests.{texts, decrypt_words, encrypt_words, AskFor, AskForNothing, request_of};
+ghost use Rattle.pf_tool.specs.Requests.{texts, decrypt_words, encrypt_words, IsOperand, Measure as MeasureOf, AskFor, AskForNothing, request_of};
 
 /// The words `decrypt -w KEY -i IN`.
 #[derive(Drop)]
@@ -22,6 +22,13 @@ pub struct Encrypt<'a> {
     pub output: &'a str,
 }
 
+/// The words `measure LAYOUT`.
+#[derive(Drop)]
+pub struct Measure<'a> {
+    /// The name of the file that lists the enclave's layout.
+    pub layout: &'a str,
+}
+
 /// What the words ask for.
 #[derive(Drop)]
 pub enum Command<'a> {
@@ -29,6 +36,8 @@ pub enum Command<'a> {
     Decrypt(Decrypt<'a>),
     /// Makes a protected file of a plain one.
     Encrypt(Encrypt<'a>),
+    /// Measures a listed layout of an enclave.
+    Measure(Measure<'a>),
 }
 
 fn decrypt_of(words: &[String]) -> Option<Decrypt<'_>>
@@ -88,6 +97,29 @@ fn encrypt_of(words: &[String]) -> Option<Encrypt<'_>>
     })
 }
 
+/// Whether a word is no option: it does not begin with `-`, or is `-` alone.
+pub(crate) fn is_operand(word: &str) -> bool
+    ensures { IsTrue result ↔ IsOperand word.now }
+{
+    !matches!(word.as_bytes(), [b'-', _, ..])
+}
+
+fn measure_of(words: &[String]) -> Option<Measure<'_>>
+    ensures found { IfSome result (λ command. AskFor (texts words.now) (MeasureOf command.layout.now)) }
+    ensures none { IfNone result ((layout : List ℕ) → AskFor (texts words.now) (MeasureOf layout) → ⊥) }
+{
+    let [command, layout] = words else {
+        return None;
+    };
+    if command.as_str() == "measure" && is_operand(layout.as_str()) {
+        Some(Measure {
+            layout: layout.as_str(),
+        })
+    } else {
+        None
+    }
+}
+
 /// The command of the words, or `None` where they are none.
 pub fn command_of(words: &[String]) -> Option<Command<'_>>
     ensures found { IfSome result (λ command. AskFor (texts words.now) (request_of command)) }
@@ -96,8 +128,11 @@ pub fn command_of(words: &[String]) -> Option<Command<'_>>
     if let Some(command) = decrypt_of(words) {
         return Some(Command::Decrypt(command));
     }
-    match encrypt_of(words) {
-        Some(command) => Some(Command::Encrypt(command)),
+    if let Some(command) = encrypt_of(words) {
+        return Some(Command::Encrypt(command));
+    }
+    match measure_of(words) {
+        Some(command) => Some(Command::Measure(command)),
         None => None,
     }
 }
