@@ -24,7 +24,7 @@ page_there : (measured : Bool) (source : Source) (these : List Answer) (bytes : 
 page_there true source these bytes gives = source_there source these bytes gives
 page_there false source these bytes gives = ap (list_any is_absence) gives.0
 
-pages_there : (pages : List Page) (these : List Answer) (given : List (List ℕ)) → Gives pages these given → list_any is_absence these ≡ false
+pub pages_there : (pages : List Page) (these : List Answer) (given : List (List ℕ)) → Gives pages these given → list_any is_absence these ≡ false
 pages_there [] these given gives = ap (list_any is_absence) gives.0
 pages_there (page ∷ pages) these given gives =
     ap (list_any is_absence) gives.6 ∙ both_none gives.0 gives.1 (page_there page.measured page.source gives.0 gives.2 gives.4) (pages_there pages gives.1 gives.3 gives.5)

@@ -126,7 +126,7 @@ pages_given files (page ∷ pages) these given gives all =
     let rest = pages_given files pages gives.1 gives.3 gives.5 parts.1 in
     ((first.0, rest.0), gives.7 ∙ rw (first.1, rest.1) refl)
 
-of_files : (files : Files) (layout : Listed) (these : List Answer) (outcome : Result (List ℕ) MeasureFault) → AllByRecursion (IsAnswerOf files) these → Measures layout these outcome → MeasuresFiles files layout outcome
+pub of_files : (files : Files) (layout : Listed) (these : List Answer) (outcome : Result (List ℕ) MeasureFault) → AllByRecursion (IsAnswerOf files) these → Measures layout these outcome → MeasuresFiles files layout outcome
 of_files files layout these outcome all (Whole given gives is) =
     let all_given = pages_given files layout.pages these given gives all in
     subst (MeasuresFiles files layout) (sym is) (all_given.0, ap (measurement layout) all_given.1)

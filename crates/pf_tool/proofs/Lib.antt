@@ -6,6 +6,7 @@ pub mod KeyReading
 pub mod Asking
 pub mod InputReading
 pub mod InputLaws
+pub mod PageReading
 mod Lists
 mod Drawing
 mod SideDisk
