@@ -6,7 +6,7 @@ use Rattle.std.proofs.lemmas.Option.{IfSome_then}
 use Rattle.pf_io.specs.Counts.{HasCause}
 use Rattle.pf_io.specs.Host.{Name, Files, Answer, HostState, length_of, contents, files_of}
 use Rattle.pf_io.specs.Answered.{IsAnswerOf}
-use Rattle.pf_io.proofs.Answering.{answered_none, answered_then}
+use Rattle.pf_io.proofs.Answering.{all_split, answered_none, answered_then}
 use Rattle.pf_io.proofs.Unchanged.{kept_then}
 use Rattle.sha2.specs.Sha256.{sha256}
 use Rattle.enclave_measure.specs.declared.page.Page.{Page}
@@ -87,10 +87,6 @@ asking_then value result old mid new first second = record {
   where
     caused : {T : Type 0} (r : Result T MeasureFault) → HasCause mid.faults new.faults (host_part r) → HasCause old.faults new.faults (host_part r)
     caused r cause = subst (λ n. HasCause n new.faults (host_part r)) first.cause.still cause
-
-all_split : (P : Answer → Type 0) (xs ys : List Answer) → AllByRecursion P (xs ++ ys) → AllByRecursion P xs × AllByRecursion P ys
-all_split P [] ys all = (tt, all)
-all_split P (x ∷ xs) ys all = let rest = all_split P xs ys all.1 in ((all.0, rest.0), rest.1)
 
 is_there : (file : Option (List ℕ)) (size : ℕ) → Some size ≡ length_of file → file ≢ None
 is_there file size is none = absurd (let e : Some size ≡ None = is ∙ ap length_of none in cc)

@@ -20,7 +20,7 @@ use Rattle.manifest_model.specs.Fields.{wants, needs, text_or, or_else, ok, byte
 use Rattle.manifest_model.specs.Walk.{walk, walk_items, walk_members, walk_table}
 use Rattle.manifest_model.specs.Trusting.{item_form, uri_field, uri_text, file_refusal, sum_refusal, differ, two_sums, own_refusal, item_refusal, items_refusal, item_of, items_of, is_other, firsts, summed_by, entries_of}
 use Rattle.manifest_model.specs.Indexing.{added, place_of}
-use Rattle.manifest_model.specs.Listed.{sgx, fs, Lists, policy_named, known_policy, allowed_items_refusal, allowed_uris, refusal, lists_of, policy_refusal, policy_of, trusted_refusal, trusted_of, allowed_refusal, allowed_of, mounting_refusal, mounting_of, keying_refusal, keying_of, Listed, Accepted}
+use Rattle.manifest_model.specs.Listed.{sgx, fs, Lists, policy_named, known_policy, allowed_items_refusal, allowed_uris, refusal, lists_of, policy_refusal, policy_of, trusted_refusal, trusted_of, allowed_refusal, allowed_of, mounting_refusal, mounting_of, keying_refusal, keying_of, Listed, Accepted, Refused}
 use Rattle.manifest_model.specs.Summed.{FitSums, IsSum, with_sums, summed_item, summed_items, replaced, where_there, with_trusted}
 use Rattle.manifest_model.proofs.Indexed.{Yes, No, same_name, bytes_eq_comm, no_entry}
 use Rattle.manifest_model.proofs.Entered.{has, sum_in-none, added-entries}
@@ -364,3 +364,16 @@ resummed ms sums e fit all = by_field (get_member (codes "trusted_files") (sgx m
     by_field (Some d) f =
         let some : IsSome (get_member (codes "trusted_files") (sgx ms)) = rw f refl in
         replaced-accepted ms (sgx ms) sums e (sgx_there (codes "trusted_files") (get_member (codes "sgx") ms) some) some fit (are_sums sums all) _ refl
+
+-- of a table with sums nothing is refused; the sums are sums where they are taken into it
+pub accepted_summed : (ms : Members) (sums : List (List ℕ)) → refusal ms ≡ None → FitSums (trusted_of (sgx ms)) sums → (IsSome (get_member (codes "trusted_files") (sgx ms)) → All IsSum sums) → refusal (with_trusted (summed_items (trusted_of (sgx ms)) sums) ms) ≡ None
+unfolding with_trusted
+accepted_summed ms sums e fit all = by_field (get_member (codes "trusted_files") (sgx ms)) refl
+  where
+    accepted : Listed (with_trusted (summed_items (trusted_of (sgx ms)) sums) ms) (Ok (record (lists_of ms) { trusted = with_sums (trusted_of (sgx ms)) sums })) → refusal (with_trusted (summed_items (trusted_of (sgx ms)) sums) ms) ≡ None
+    accepted (Accepted none is) = none
+    accepted (Refused fault some is) = absurd (cc)
+
+    by_field : (o : Option Data) → get_member (codes "trusted_files") (sgx ms) ≡ o → refusal (with_trusted (summed_items (trusted_of (sgx ms)) sums) ms) ≡ None
+    by_field None f = rw f e
+    by_field (Some d) f = accepted (resummed ms sums e fit (all (rw f refl)))

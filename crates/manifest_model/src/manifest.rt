@@ -69,6 +69,19 @@ impl Manifest {
         }
     }
 
+    // The manifest of a table of which nothing is refused.
+    fn of_accepted(alloc: Global, table: Table) -> Result<Manifest, Memory>
+        requires { refusal (table_view «table») ≡ None }
+        ensures whole { IfOk result (λ made. made.«table» ≡ table_view «table») }
+        ensures lists { IfOk result (λ made. made.lists ≡ lists_of (table_view «table»)) }
+    {
+        match take(alloc, &table) {
+            Ok(taken) => Ok(Manifest::of(table, taken)),
+            Err(ManifestFault::Memory) => Err(Memory),
+            Err(_) => unreachable!(),
+        }
+    }
+
     // The manifest of bytes.
     fn read_whole(alloc: Global, bytes: &[u8]) -> Result<Manifest, ManifestFault>
         ensures { (result ≡ Err ManifestFault.Memory) ⊎ ReadsAs bytes.now result }
@@ -154,10 +167,7 @@ impl Manifest {
         ensures lists { IfOk result (λ made. Listed made.«table» (Ok made.lists)) }
     {
         let table = with_sums_of(alloc, &self.table, self.trusted.as_slice(), sums)?;
-        match take(alloc, &table) {
-            Ok(taken) => Ok(Manifest::of(table, taken)),
-            Err(_) => Err(Memory),
-        }
+        Manifest::of_accepted(alloc, table)
     }
 
     /// A TOML text of the manifest's table, which is read as this manifest.

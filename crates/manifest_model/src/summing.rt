@@ -1,9 +1,9 @@
 // A table with the sums of its trusted files.
-ghost use Rattle.std.specs.Prelude.{◌≡◌, IfOk, IsSome, MatchOption, codes};
+ghost use Rattle.std.specs.Prelude.{◌≡◌, All, IfOk, OnOk, IsSome, MatchOption, codes};
 ghost use Rattle.toml.specs.Data.{get_member, table as data_table};
 ghost use Rattle.manifest_model.specs.Listed.{sgx};
 ghost use Rattle.toml.specs.View.{view, array_view, table_view};
-ghost use Rattle.manifest_model.specs.Summed.{FitSums, replaced, summed_item, summed_items, with_trusted};
+ghost use Rattle.manifest_model.specs.Summed.{FitSums, IsSum, replaced, summed_item, summed_items, with_trusted};
 
 use crate::entries::Trusted;
 use crate::fields::member;
@@ -14,7 +14,8 @@ use toml::value::{Array, Value};
 
 // A table of a uri and a sum.
 fn summed_item(alloc: Global, uri: &str, sum: &[u8; 32]) -> Result<Value, Memory>
-    ensures { IfOk result (λ item. view item ≡ summed_item uri.now sum.now) }
+    ensures item { IfOk result (λ item. view item ≡ summed_item uri.now sum.now) }
+    ensures sum { IsSum sum.now }
 {
     let digits = hex::encode(alloc, &sum[..])?;
     let mut fields = Table::new(alloc);
@@ -26,7 +27,8 @@ fn summed_item(alloc: Global, uri: &str, sum: &[u8; 32]) -> Result<Value, Memory
 // One for each entry.
 fn summed_items(alloc: Global, entries: &[Trusted], sums: &[[u8; 32]]) -> Result<Array, Memory>
     requires { FitSums entries.now sums.now }
-    ensures { IfOk result (λ items. array_view items ≡ summed_items entries.now sums.now) }
+    ensures items { IfOk result (λ items. array_view items ≡ summed_items entries.now sums.now) }
+    ensures sums { OnOk result (All IsSum sums.now) }
 {
     let mut items = Array::new(alloc);
     for (k, entry) in entries.iter().enumerate() {
@@ -72,7 +74,8 @@ pub(crate) fn with_sums_of(
     sums: &[[u8; 32]],
 ) -> Result<Table, Memory>
     requires { FitSums entries.now sums.now }
-    ensures { IfOk result (λ made. table_view made ≡ with_trusted (summed_items entries.now sums.now) (table_view table.now)) }
+    ensures whole { IfOk result (λ made. table_view made ≡ with_trusted (summed_items entries.now sums.now) (table_view table.now)) }
+    ensures sums { OnOk result (IsSome (get_member (codes "trusted_files") (sgx (table_view table.now))) → All IsSum sums.now) }
 {
     let Some(sgx) = trusted_in(table) else {
         return copied(table);

@@ -15,6 +15,10 @@ pub all_append : (P : Answer → Type 0) (xs ys : List Answer) → AllByRecursio
 all_append P [] ys one two = two
 all_append P (x ∷ xs) ys one two = (one.0, all_append P xs ys one.1 two)
 
+pub all_split : (P : Answer → Type 0) (xs ys : List Answer) → AllByRecursion P (xs ++ ys) → AllByRecursion P xs × AllByRecursion P ys
+all_split P [] ys all = (tt, all)
+all_split P (x ∷ xs) ys all = let rest = all_split P xs ys all.1 in ((all.0, rest.0), rest.1)
+
 none_honest : (files : Option Files) → IfSome files (λ f. AllByRecursion (IsAnswerOf f) [])
 none_honest (Some f) = tt
 none_honest None = tt

@@ -9,7 +9,7 @@ use Rattle.pf_io.specs.Disk.{Name, Files}
 use Rattle.pf_io.specs.Host.{Answer, LengthWas, Gave, HostState, Both, IsMore, KeepsFiles, KeepsRest, ReadsFrom, OnHonest, CountsRead, CountsNeither, length_of, contents}
 use Rattle.pf_io.specs.Answered.{Answered, IsAnswerOf}
 use Rattle.pf_io.specs.Slices.{SLICE, given_in_turn, AreWhole, IsTaken, CountsSlices, SliceCame, NoSliceCame}
-use Rattle.pf_io.proofs.Answering.{answered_none, answered_bytes, answered_fault, answered_length}
+use Rattle.pf_io.proofs.Answering.{answered_none, answered_bytes, answered_fault, answered_length, answered_then}
 
 pub counts_none : (n : ℕ) (state : HostState) → CountsSlices n state state
 counts_none n state = record { reads = omega arith; writes = refl; widest = omega arith }
@@ -59,6 +59,21 @@ concat_last whole last = concat-append whole (last ∷ []) ∙ ap (λ (l : List 
 pub length_in_turn : (name : Name) (at : ℕ) (slices : List (List ℕ)) → length (given_in_turn name at slices) ≡ length slices
 length_in_turn name at [] = refl
 length_in_turn name at (slice ∷ slices) = let on = length_in_turn name (at + length slice) slices in omega (arith, on)
+
+-- one slice more came
+pub more_answered : (name : Name) (len : ℕ) (whole : List (List ℕ)) (slice : List ℕ) (old mid new : HostState) → len ≡ length (concat whole) → Answered (given_in_turn name 0 whole) old mid → SliceCame name len slice mid new
+    → Answered (given_in_turn name 0 (whole ++ slice ∷ [])) old new
+more_answered name len whole slice old mid new is first came =
+    let place : 0 + length (concat whole) ≡ len = omega (arith, is) in
+    let all : given_in_turn name 0 (whole ++ slice ∷ []) ≡ given_in_turn name 0 whole ++ Gave name len SLICE slice ∷ [] =
+    in_turn_append name 0 whole (slice ∷ []) ∙ ap (λ (k : ℕ). given_in_turn name 0 whole ++ Gave name k SLICE slice ∷ []) place in
+    subst (λ (l : List Answer). Answered l old new) (sym all) (answered_then (given_in_turn name 0 whole) (Gave name len SLICE slice ∷ []) old mid new first came.answered)
+
+pub more_counts : (n : ℕ) (whole : List (List ℕ)) (slice : List ℕ) (old mid new : HostState) → CountsSlices (length whole) old mid → CountsSlices 1 mid new → n ≡ 0 → CountsSlices (length (whole ++ slice ∷ []) + n) old new
+more_counts n whole slice old mid new first second is = counts_then (length whole) 1 (length (whole ++ slice ∷ []) + n) old mid new first second (omega (arith, is, length-append whole (slice ∷ [])))
+
+pub long_last : (whole : List (List ℕ)) (slice : List ℕ) → length (concat (whole ++ slice ∷ [])) ≡ length (concat whole) + length slice
+long_last whole slice = ap (λ (l : List ℕ). length l) (concat_last whole slice) ∙ length-append (concat whole) slice
 
 -- the file was said to be there
 pub record LengthCame (name : Name) (old new : HostState) : Type 0 where

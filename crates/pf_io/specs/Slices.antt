@@ -35,6 +35,19 @@ pub record IsTaken (name : Name) (these : List Answer) (bytes : List ℕ) : Type
 abbrev pub CameInTurn : Name → List (List ℕ) → List (List ℕ) → List Answer → Type 0
 CameInTurn name whole more these = AreWhole whole × ((size : ℕ) × (these ≡ LengthWas name (Some size) ∷ given_in_turn name 0 (whole ++ more)))
 
+-- slices came in turn, and with the last of them more bytes than a file may have
+pub record IsTooLarge (name : Name) (these : List Answer) : Type 0 where
+  pub whole : List (List ℕ)
+  pub last : List ℕ
+  pub came : CameInTurn name whole (last ∷ []) these
+  pub not_before : length (concat whole) ≤ MOST_BYTES
+  pub too_large : MOST_BYTES < length (concat (whole ++ last ∷ []))
+
+-- nothing came, or whole slices of no more bytes than a file may have
+pub data IsStopped (name : Name) (these : List Answer) : Type 0 where
+  at_length : these ≡ [] → IsStopped name these
+  at_slice : (whole : List (List ℕ)) → CameInTurn name whole [] these → length (concat whole) ≤ MOST_BYTES → IsStopped name these
+
 -- the counts after at most n reads of a slice
 pub record CountsSlices (n : ℕ) (old new : HostState) : Type 0 where
   pub reads : new.reads ≤ old.reads + n

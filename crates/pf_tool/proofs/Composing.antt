@@ -53,7 +53,7 @@ no_second : {A : Type 0} (xs ys : List A) → xs ++ ys ≡ [] → ys ≡ []
 no_second [] ys none = none
 no_second (x ∷ xs) ys none = absurd (cc)
 
-none_honest : (files : Option Files) → IfSome files (λ f. AllByRecursion (IsAnswerOf f) [])
+pub none_honest : (files : Option Files) → IfSome files (λ f. AllByRecursion (IsAnswerOf f) [])
 none_honest (Some f) = tt
 none_honest None = tt
 

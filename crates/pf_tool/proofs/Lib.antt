@@ -7,6 +7,7 @@ pub mod Asking
 pub mod InputReading
 pub mod InputLaws
 pub mod PageReading
+pub mod LayoutReading
 mod Lists
 mod Drawing
 mod SideDisk
@@ -18,6 +19,7 @@ mod EncryptEnding
 pub mod Numbered
 pub mod SameBlocks
 pub mod Following
+mod Defining
 mod PlainWriting
 pub mod OneFile
 pub mod Growing

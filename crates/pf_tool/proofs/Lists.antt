@@ -1,6 +1,6 @@
 -- Lists of a known length, and names with an ending.
-use Rattle.std.proofs.Common.{◌≡◌, ◌≢◌, ◌↔◌, ◌∙◌, ◌<◌, ◌≤◌, ℕ, List, [], ◌∷◌, ◌++◌, length, slice_index_or, Bool, true, false, IsTrue, MatchBool, ap, sym, refl, arith}
-use Rattle.std.proofs.lemmas.List.{append_cancel_left}
+use Rattle.std.proofs.Common.{◌≡◌, ◌≢◌, ◌↔◌, ◌∙◌, ◌<◌, ◌≤◌, ℕ, List, [], ◌∷◌, ◌++◌, length, take, drop, ◌-◌, slice_index_or, Bool, true, false, IsTrue, MatchBool, ap, ap₂, sym, refl, arith}
+use Rattle.std.proofs.lemmas.List.{append_cancel_left, take_all}
 
 -- the items of a list of five, as reads give them
 pub five : {A : Type 0} → (xs : List A) (a b c d e : A) → 5 ≤ length xs → length xs < 6
@@ -13,6 +13,14 @@ five (v ∷ w ∷ x ∷ []) a b c d e least most p q r s t = absurd (omega arith
 five (v ∷ w ∷ x ∷ y ∷ []) a b c d e least most p q r s t = absurd (omega arith)
 five (v ∷ w ∷ x ∷ y ∷ z ∷ []) a b c d e least most p q r s t = cc
 five (v ∷ w ∷ x ∷ y ∷ z ∷ u ∷ more) a b c d e least most p q r s t = absurd (omega arith)
+
+-- a list of at least two
+pub two_more : {A : Type 0} → (xs : List A) (a b : A) → 2 ≤ length xs → a ≡ slice_index_or xs 0 a → b ≡ slice_index_or xs 1 b → xs ≡ a ∷ b ∷ take (length xs - 2) (drop 2 xs)
+two_more [] a b least p q = absurd (omega arith)
+two_more (v ∷ []) a b least p q = absurd (omega arith)
+two_more (v ∷ w ∷ xs) a b least p q =
+    let n : length xs ≤ length (v ∷ w ∷ xs) - 2 = omega arith in
+    ap₂ (λ c d. c ∷ d ∷ xs) (sym p) (sym q) ∙ ap (λ l. a ∷ b ∷ l) (sym (take_all (length (v ∷ w ∷ xs) - 2) xs n))
 
 pub never_true : ¬ (IsTrue false)
 never_true is = absurd (cc)

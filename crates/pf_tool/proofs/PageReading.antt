@@ -93,12 +93,6 @@ gives_some (page ∷ pages) =
     let rest = gives_some pages in
     (first.0 ++ rest.0, first.1 ∷ rest.1, (first.0, rest.0, first.1, rest.1, first.2, rest.2, refl, refl))
 
--- so a layout that was read leads on
-pub pages_lead : (layout : Listed) → (events : List Event) × PagesLead layout events Done
-pages_lead layout =
-    let some = gives_some layout.pages in
-    (asked some.0 ++ Puts (sum_line (measurement layout some.1)) ∷ [], pages_measured some.0 (measurement layout some.1) (Whole some.1 some.2 refl) refl refl)
-
 -- pages behind a page
 gives_join : (front : List Page) (page : Page) (others : List Page) (a m b : List Answer) (c : List (List ℕ)) (bytes : List ℕ) (d : List (List ℕ)) → Gives front a c → PageGives page m bytes → Gives others b d → Gives (front ++ page ∷ others) (a ++ (m ++ b)) (c ++ bytes ∷ d)
 gives_join [] page others a m b c bytes d gives here rest =

@@ -3,7 +3,13 @@ use Rattle.std.specs.Prelude.{ℕ, List, [], ◌∷◌, ◌++◌, codes}
 use Rattle.std.specs.Fmt.{decimal}
 use Rattle.node_layout.specs.declared.damage.Kind.{Kind}
 use Rattle.node_layout.specs.declared.damage.Kind.TheVariants as kinds
+use Rattle.enclave_measure.specs.declared.fault.LayoutFault.{LayoutFault}
+use Rattle.enclave_measure.specs.declared.fault.LayoutFault.TheVariants as layouts
+use Rattle.manifest_model.specs.declared.fault.ManifestFault.{ManifestFault}
+use Rattle.manifest_model.specs.declared.fault.ManifestFault.TheVariants as manifests
 use Rattle.pf_io.specs.Disk.{Name}
+use Rattle.template_text.specs.declared.fault.RenderFault.{RenderFault}
+use Rattle.template_text.specs.declared.fault.RenderFault.TheVariants as renders
 use Rattle.pf_tool.specs.Events.{Event, Answers, Draws, Puts}
 
 -- Why a command is refused. `NotFound` has a name of the command line, and `Absent` one that an input lists.
@@ -13,11 +19,11 @@ pub data Refusal : Type 0 where
   KeyFile : (number : ℕ) → Refusal
   NotProtected : Refusal
   TooLarge : Refusal
+  NotUtf8 : Refusal
+  BadTemplate : (fault : RenderFault) → Refusal
+  BadManifest : (fault : ManifestFault) → Refusal
+  BadLayout : (fault : LayoutFault) → Refusal
   Absent : (name : Name) → Refusal
-  LayoutLine : (number : ℕ) → Refusal
-  LayoutSize : (number : ℕ) → Refusal
-  LayoutOutOfRange : (number : ℕ) → Refusal
-  LayoutRepeated : (number : ℕ) → Refusal
   Unbuilt : Refusal
 
 -- what the events of a command lead to: its work is done, or a damage or a refusal by name
@@ -35,11 +41,11 @@ MayStarve (Refused (NotFound name)) = ⊥
 MayStarve (Refused (KeyFile number)) = ⊥
 MayStarve (Refused NotProtected) = ⊥
 MayStarve (Refused TooLarge) = ⊥
+MayStarve (Refused NotUtf8) = ⊥
+MayStarve (Refused (BadTemplate fault)) = Unit {0}
+MayStarve (Refused (BadManifest fault)) = Unit {0}
+MayStarve (Refused (BadLayout fault)) = Unit {0}
 MayStarve (Refused (Absent name)) = Unit {0}
-MayStarve (Refused (LayoutLine number)) = Unit {0}
-MayStarve (Refused (LayoutSize number)) = Unit {0}
-MayStarve (Refused (LayoutOutOfRange number)) = Unit {0}
-MayStarve (Refused (LayoutRepeated number)) = Unit {0}
 MayStarve (Refused Unbuilt) = ⊥
 
 -- Where a run stops: at an ending, in a call that failed and was to give this event, or for want of memory.
@@ -64,6 +70,34 @@ kind_word kinds.Tag = codes "tag"
 kind_word kinds.Text = codes "text"
 kind_word kinds.Log = codes "log"
 
+-- why a template is not rendered; want of memory is no refusal
+abbrev pub template_text : RenderFault → List ℕ
+template_text (renders.Unclosed at) = codes "refused template unclosed at " ++ decimal at
+template_text (renders.BadName at) = codes "refused template name at " ++ decimal at
+template_text (renders.Unknown at name) = codes "refused template unknown " ++ name ++ codes " at " ++ decimal at
+template_text (renders.Statement at) = codes "refused template statement at " ++ decimal at
+template_text (renders.TooLong at) = codes "refused template too long at " ++ decimal at
+template_text renders.Memory = codes "want of memory"
+
+-- why a text is no manifest; want of memory is no refusal
+abbrev pub manifest_text : ManifestFault → List ℕ
+manifest_text manifests.NotToml = codes "refused manifest not toml"
+manifest_text (manifests.BadField key) = codes "refused manifest field " ++ key
+manifest_text (manifests.BadUri uri) = codes "refused manifest uri " ++ uri
+manifest_text (manifests.BadSum uri) = codes "refused manifest sum " ++ uri
+manifest_text (manifests.TwoSums uri) = codes "refused manifest two sums " ++ uri
+manifest_text (manifests.BadKey name) = codes "refused manifest key " ++ name
+manifest_text (manifests.BadPolicy text) = codes "refused manifest policy " ++ text
+manifest_text manifests.Memory = codes "want of memory"
+
+-- why a text is no layout, by the line that is refused; want of memory is no refusal
+abbrev pub layout_text : LayoutFault → List ℕ
+layout_text (layouts.BadLine number) = codes "refused layout line " ++ decimal number
+layout_text (layouts.BadSize number) = codes "refused layout line " ++ decimal number ++ codes " size"
+layout_text (layouts.OutOfRange number) = codes "refused layout line " ++ decimal number ++ codes " out of range"
+layout_text (layouts.Repeated number) = codes "refused layout line " ++ decimal number ++ codes " repeated"
+layout_text layouts.Memory = codes "want of memory"
+
 -- the text of each refusal
 abbrev pub refusal_text : Refusal → List ℕ
 refusal_text BadName = codes "refused bad name"
@@ -71,11 +105,11 @@ refusal_text (NotFound name) = codes "refused not found " ++ name
 refusal_text (KeyFile number) = codes "refused key file " ++ decimal number
 refusal_text NotProtected = codes "refused not protected"
 refusal_text TooLarge = codes "refused too large"
+refusal_text NotUtf8 = codes "refused template not utf-8"
+refusal_text (BadTemplate fault) = template_text fault
+refusal_text (BadManifest fault) = manifest_text fault
+refusal_text (BadLayout fault) = layout_text fault
 refusal_text (Absent name) = codes "refused not found " ++ name
-refusal_text (LayoutLine number) = codes "refused layout line " ++ decimal number
-refusal_text (LayoutSize number) = codes "refused layout line " ++ decimal number ++ codes " size"
-refusal_text (LayoutOutOfRange number) = codes "refused layout line " ++ decimal number ++ codes " out of range"
-refusal_text (LayoutRepeated number) = codes "refused layout line " ++ decimal number ++ codes " repeated"
 refusal_text Unbuilt = codes "refused unbuilt"
 
 -- what an ending writes to the log

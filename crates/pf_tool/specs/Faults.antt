@@ -1,6 +1,12 @@
 -- The line and the status of each fault.
 use Rattle.std.specs.Prelude.{ℕ, List}
-use Rattle.pf_tool.specs.Endings.{Refusal, BadName, NotFound, KeyFile, NotProtected, TooLarge, Absent, LayoutLine, LayoutSize, LayoutOutOfRange, LayoutRepeated, Unbuilt, Damaged, Refused, ending_line, ending_status, no_command_line, host_line, memory_line, random_line, stream_line}
+use Rattle.pf_tool.specs.Endings.{Refusal, BadName, NotFound, KeyFile, NotProtected, TooLarge, NotUtf8, BadTemplate, BadManifest, BadLayout, Absent, Unbuilt, Damaged, Refused, ending_line, ending_status, no_command_line, host_line, memory_line, random_line, stream_line}
+use Rattle.enclave_measure.specs.declared.fault.LayoutFault.{LayoutFault}
+use Rattle.enclave_measure.specs.declared.fault.LayoutFault.TheVariants as layouts
+use Rattle.manifest_model.specs.declared.fault.ManifestFault.{ManifestFault}
+use Rattle.manifest_model.specs.declared.fault.ManifestFault.TheVariants as manifests
+use Rattle.template_text.specs.declared.fault.RenderFault.{RenderFault}
+use Rattle.template_text.specs.declared.fault.RenderFault.TheVariants as renders
 use Rattle.pf_tool.specs.declared.why.Why.{Why}
 use Rattle.pf_tool.specs.declared.why.Why.TheVariants as whys
 use Rattle.pf_tool.specs.declared.fault.Fault.{Fault}
@@ -12,11 +18,11 @@ refusal_of (whys.NotFound name) = NotFound name.now
 refusal_of (whys.KeyFile number) = KeyFile number
 refusal_of whys.NotProtected = NotProtected
 refusal_of whys.TooLarge = TooLarge
+refusal_of whys.NotUtf8 = NotUtf8
+refusal_of (whys.BadTemplate fault) = BadTemplate fault
+refusal_of (whys.BadManifest fault) = BadManifest fault
+refusal_of (whys.BadLayout fault) = BadLayout fault
 refusal_of (whys.Absent name) = Absent name
-refusal_of (whys.LayoutLine number) = LayoutLine number
-refusal_of (whys.LayoutSize number) = LayoutSize number
-refusal_of (whys.LayoutOutOfRange number) = LayoutOutOfRange number
-refusal_of (whys.LayoutRepeated number) = LayoutRepeated number
 refusal_of whys.Unbuilt = Unbuilt
 
 abbrev pub fault_line : Fault → List ℕ
@@ -36,3 +42,31 @@ fault_status faults.Host = 4
 fault_status faults.Stream = 7
 fault_status faults.Memory = 5
 fault_status faults.Random = 6
+
+-- the fault of a template that is not rendered
+abbrev pub template_fault : RenderFault → Fault
+template_fault renders.Memory = faults.Memory
+template_fault (renders.Unclosed at) = faults.Refused (whys.BadTemplate (renders.Unclosed at))
+template_fault (renders.BadName at) = faults.Refused (whys.BadTemplate (renders.BadName at))
+template_fault (renders.Unknown at name) = faults.Refused (whys.BadTemplate (renders.Unknown at name))
+template_fault (renders.Statement at) = faults.Refused (whys.BadTemplate (renders.Statement at))
+template_fault (renders.TooLong at) = faults.Refused (whys.BadTemplate (renders.TooLong at))
+
+-- the fault of a text that is no manifest
+abbrev pub manifest_fault : ManifestFault → Fault
+manifest_fault manifests.Memory = faults.Memory
+manifest_fault manifests.NotToml = faults.Refused (whys.BadManifest manifests.NotToml)
+manifest_fault (manifests.BadField key) = faults.Refused (whys.BadManifest (manifests.BadField key))
+manifest_fault (manifests.BadUri uri) = faults.Refused (whys.BadManifest (manifests.BadUri uri))
+manifest_fault (manifests.BadSum uri) = faults.Refused (whys.BadManifest (manifests.BadSum uri))
+manifest_fault (manifests.TwoSums uri) = faults.Refused (whys.BadManifest (manifests.TwoSums uri))
+manifest_fault (manifests.BadKey name) = faults.Refused (whys.BadManifest (manifests.BadKey name))
+manifest_fault (manifests.BadPolicy text) = faults.Refused (whys.BadManifest (manifests.BadPolicy text))
+
+-- the fault of a text that is no layout
+abbrev pub layout_fault : LayoutFault → Fault
+layout_fault layouts.Memory = faults.Memory
+layout_fault (layouts.BadLine number) = faults.Refused (whys.BadLayout (layouts.BadLine number))
+layout_fault (layouts.BadSize number) = faults.Refused (whys.BadLayout (layouts.BadSize number))
+layout_fault (layouts.OutOfRange number) = faults.Refused (whys.BadLayout (layouts.OutOfRange number))
+layout_fault (layouts.Repeated number) = faults.Refused (whys.BadLayout (layouts.Repeated number))

@@ -5,6 +5,7 @@ pub mod Happened
 pub mod Faults
 pub mod Outcomes
 pub mod Reports
+pub mod Defines
 pub mod Requests
 pub mod SideFiles
 pub mod PlainFiles

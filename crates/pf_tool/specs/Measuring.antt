@@ -2,7 +2,6 @@
 use Rattle.std.specs.Prelude.{◌≡◌, ℕ, List, [], ◌∷◌, ◌++◌, slice_get, Some, Result, Ok, Err}
 use Rattle.hex.specs.Hex.{encode_lower}
 use Rattle.enclave_measure.specs.declared.fault.LayoutFault.{LayoutFault}
-use Rattle.enclave_measure.specs.declared.fault.LayoutFault.TheVariants as layouts
 use Rattle.enclave_measure.specs.declared.fault.MeasureFault.TheVariants as measures
 use Rattle.enclave_measure.specs.Pages.{Listed}
 use Rattle.enclave_measure.specs.Layouts.{ReadsTo}
@@ -12,20 +11,12 @@ use Rattle.pf_io.specs.Host.{Answer, HostState, Both, IsMore}
 use Rattle.pf_io.specs.Answered.{WereTold}
 use Rattle.pf_tool.specs.World.{World}
 use Rattle.pf_tool.specs.Events.{Event, Puts}
-use Rattle.pf_tool.specs.Endings.{Ending, Done, Refused, Absent, LayoutLine, LayoutSize, LayoutOutOfRange, LayoutRepeated, line}
+use Rattle.pf_tool.specs.Endings.{Ending, Done, Refused, BadLayout, Absent, line}
 use Rattle.pf_tool.specs.Happened.{HostPassed, Passed}
 use Rattle.pf_tool.specs.InputFiles.{asked, InputReads, InputOver}
 use Rattle.pf_tool.specs.declared.fault.Fault.{Fault}
 use Rattle.pf_tool.specs.declared.fault.Fault.TheVariants as faults
 use Rattle.pf_tool.specs.declared.why.Why.TheVariants as whys
-
--- a text that is no layout is refused at the first of its lines that is none
-abbrev pub IsLayoutRefusal : LayoutFault → Ending → Type 0
-IsLayoutRefusal (layouts.BadLine number) ending = ending ≡ Refused (LayoutLine number)
-IsLayoutRefusal (layouts.BadSize number) ending = ending ≡ Refused (LayoutSize number)
-IsLayoutRefusal (layouts.OutOfRange number) ending = ending ≡ Refused (LayoutOutOfRange number)
-IsLayoutRefusal (layouts.Repeated number) ending = ending ≡ Refused (LayoutRepeated number)
-IsLayoutRefusal layouts.Memory ending = ⊥
 
 -- 64 lower-case digits
 abbrev pub sum_line : List ℕ → List ℕ
@@ -42,7 +33,7 @@ pub data PagesLead (layout : Listed) (events : List Event) (ending : Ending) : T
 
 -- what follows the text of a layout
 pub data TextLeads (text : List ℕ) (events : List Event) (ending : Ending) : Type 0 where
-  text_refused : (fault : LayoutFault) → ReadsTo text (Err fault) → IsLayoutRefusal fault ending → events ≡ [] → TextLeads text events ending
+  text_refused : (fault : LayoutFault) → ReadsTo text (Err fault) → events ≡ [] → ending ≡ Refused (BadLayout fault) → TextLeads text events ending
   text_listed : (layout : Listed) → ReadsTo text (Ok layout) → PagesLead layout events ending → TextLeads text events ending
 
 -- the whole command
@@ -53,7 +44,7 @@ pub data MeasureLeads (layout : Name) (events : List Event) (ending : Ending) : 
 -- the line and the ending that files give
 pub data MeasureOver (layout : Name) (files : Files) (pieces : List (List ℕ)) (ending : Ending) : Type 0 where
   over_unread : InputOver files layout (Err ending) → pieces ≡ [] → MeasureOver layout files pieces ending
-  over_refused : (text : List ℕ) (fault : LayoutFault) → InputOver files layout (Ok text) → ReadsTo text (Err fault) → IsLayoutRefusal fault ending → pieces ≡ [] → MeasureOver layout files pieces ending
+  over_refused : (text : List ℕ) (fault : LayoutFault) → InputOver files layout (Ok text) → ReadsTo text (Err fault) → pieces ≡ [] → ending ≡ Refused (BadLayout fault) → MeasureOver layout files pieces ending
   over_absent : (text : List ℕ) (listed : Listed) (page : ℕ) (name : Name) → InputOver files layout (Ok text) → ReadsTo text (Ok listed) → MeasuresFiles files listed (Err (measures.NotFound page)) → IsPageFile listed page name → pieces ≡ []
       → ending ≡ Refused (Absent name) → MeasureOver layout files pieces ending
   over_measured : (text : List ℕ) (listed : Listed) (sum : List ℕ) → InputOver files layout (Ok text) → ReadsTo text (Ok listed) → MeasuresFiles files listed (Ok sum) → pieces ≡ sum_line sum ∷ [] → ending ≡ Done → MeasureOver layout files pieces ending
@@ -85,14 +76,6 @@ pub record PagesMeasured (layout : Listed) (sum : List ℕ) (old new : HostState
   pub these : List Answer
   pub measures : Measures layout these (Ok sum)
   pub passed : HostPassed these old new
-
--- how a layout's fault is said
-abbrev pub layout_fault : LayoutFault → Fault
-layout_fault (layouts.BadLine number) = faults.Refused (whys.LayoutLine number)
-layout_fault (layouts.BadSize number) = faults.Refused (whys.LayoutSize number)
-layout_fault (layouts.OutOfRange number) = faults.Refused (whys.LayoutOutOfRange number)
-layout_fault (layouts.Repeated number) = faults.Refused (whys.LayoutRepeated number)
-layout_fault layouts.Memory = faults.Memory
 
 -- the fault names the file of a page; or there was no room for the name
 pub data NamesFile (layout : Listed) (page : ℕ) (fault : Fault) : Type 0 where

@@ -4,6 +4,7 @@
 mod decrypt;
 #[cfg(test)]
 mod decrypt_tests;
+mod defines;
 mod encrypt;
 #[cfg(test)]
 mod encrypt_tests;
@@ -20,6 +21,7 @@ mod run;
 mod side_file;
 #[cfg(test)]
 mod tests;
+mod text_refusals;
 mod why;
 mod words;
 

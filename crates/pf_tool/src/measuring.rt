@@ -5,36 +5,18 @@ ghost use Rattle.pf_io.specs.Host.{KeepsFiles};
 ghost use Rattle.pf_io.specs.Unchanged.{KeepsDisk};
 ghost use Rattle.pf_tool.specs.World.{World, with_host, with_out};
 ghost use Rattle.pf_tool.specs.Outcomes.{Falls, ComesOut};
-ghost use Rattle.pf_tool.specs.Measuring.{layout_fault, sum_line, LayoutRead, PagesMeasured, NamesFile, PagesLead, MeasureLeads};
+ghost use Rattle.pf_tool.specs.Measuring.{sum_line, LayoutRead, PagesMeasured, NamesFile, PagesLead, MeasureLeads};
 
 use crate::fault::Fault;
 use crate::input_file::read_input;
 use crate::why::Why;
 use crate::words::Measure;
-use enclave_measure::{Layout, LayoutFault, MeasureFault, measure};
+use enclave_measure::{Layout, MeasureFault, measure};
 use pf_io::{Host, Sink, Text};
 use std::alloc::Global;
 
-impl From<LayoutFault> for Fault<'_> {
-    ghost from_gives = { λ fault turned. turned ≡ layout_fault fault };
-
-    fn from(fault: LayoutFault) -> Self {
-        match fault {
-            LayoutFault::BadLine { line } => Fault::Refused(Why::LayoutLine(line)),
-            LayoutFault::BadSize { line } => Fault::Refused(Why::LayoutSize(line)),
-            LayoutFault::OutOfRange { line } => Fault::Refused(Why::LayoutOutOfRange(line)),
-            LayoutFault::Repeated { line } => Fault::Refused(Why::LayoutRepeated(line)),
-            LayoutFault::Memory => Fault::Memory,
-        }
-    }
-}
-
 // Reads a layout from the file that lists it.
-fn read_layout<'a, H: Host>(
-    alloc: Global,
-    host: &mut H,
-    name: &'a str,
-) -> Result<Layout, Fault<'a>>
+fn read_layout<'a, H: Host>(alloc: Global, host: &mut H, name: &'a str) -> Result<Layout, Fault<'a>>
     ensures files { KeepsFiles (H.state host.old) (H.state host.new) }
     ensures disk { KeepsDisk (H.state host.old) (H.state host.new) }
     ensures read { IfOk result (λ layout. (world : World) → LayoutRead name.now layout (with_host world (H.state host.old)) (with_host world (H.state host.new))) }

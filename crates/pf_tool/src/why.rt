@@ -1,19 +1,14 @@
 // Why a command is refused, and what it then says.
-ghost use Rattle.std.specs.Prelude.{◌++◌, codes};
-ghost use Rattle.std.specs.Fmt.{decimal};
 ghost use Rattle.pf_tool.specs.Endings.{line, refusal_text};
 ghost use Rattle.pf_tool.specs.Faults.{refusal_of};
 ghost use Rattle.pf_tool.specs.Reports.{Written};
 
 use crate::lines::{write_name, write_number, write_text};
+use crate::text_refusals::{say_layout, say_manifest, say_template};
+use enclave_measure::LayoutFault;
+use manifest_model::ManifestFault;
 use pf_io::{Sink, StreamFault, Text};
-
-// The line of a layout that is refused, by its number.
-fn write_layout<L: Sink>(log: &mut L, number: u32, rest: &str) -> Result<(), StreamFault>
-    ensures { Written result (line (codes "refused layout line " ++ decimal number ++ rest.now)) (L.state log.old) (L.state log.new) }
-{
-    write_number(log, "refused layout line ", number as u64, rest)
-}
+use template_text::RenderFault;
 
 /// Why a command is refused.
 #[derive(Drop)]
@@ -28,16 +23,16 @@ pub(crate) enum Why<'a> {
     NotProtected,
     /// The file has more bytes than it may have.
     TooLarge,
+    /// The template is no UTF-8.
+    NotUtf8,
+    /// The template is not rendered.
+    BadTemplate(RenderFault),
+    /// The text is no manifest.
+    BadManifest(ManifestFault),
+    /// The text is no layout of an enclave.
+    BadLayout(LayoutFault),
     /// A file that an input lists is absent.
     Absent(Text),
-    /// The line of this number is no line of a layout.
-    LayoutLine(u32),
-    /// The line of this number has no size of an enclave.
-    LayoutSize(u32),
-    /// The page of the line of this number lies past the enclave's end.
-    LayoutOutOfRange(u32),
-    /// The page of the line of this number has the offset of an earlier one.
-    LayoutRepeated(u32),
     /// The case is not built yet.
     Unbuilt,
 }
@@ -53,11 +48,11 @@ impl Why<'_> {
             Why::KeyFile(number) => write_number(log, "refused key file ", *number, ""),
             Why::NotProtected => write_text(log, "refused not protected"),
             Why::TooLarge => write_text(log, "refused too large"),
+            Why::NotUtf8 => write_text(log, "refused template not utf-8"),
+            Why::BadTemplate(fault) => say_template(fault, log),
+            Why::BadManifest(fault) => say_manifest(fault, log),
+            Why::BadLayout(fault) => say_layout(fault, log),
             Why::Absent(name) => write_name(log, "refused not found ", name.as_str()),
-            Why::LayoutLine(number) => write_layout(log, *number, ""),
-            Why::LayoutSize(number) => write_layout(log, *number, " size"),
-            Why::LayoutOutOfRange(number) => write_layout(log, *number, " out of range"),
-            Why::LayoutRepeated(number) => write_layout(log, *number, " repeated"),
             Why::Unbuilt => write_text(log, "refused unbuilt"),
         }
     }

@@ -11,10 +11,10 @@ use Rattle.pf_io.specs.Answered.{Answered, IsAnswerOf}
 use Rattle.pf_io.proofs.Answering.{answered_length, answered_then}
 use Rattle.lru.proofs.Splits.{Contains-nil}
 use Rattle.trusted_chunks.specs.Chunks.{CHUNK, chunk, chunk_count}
-use Rattle.pf_io.specs.Slices.{MOST_BYTES, given_in_turn, AreWhole, IsTaken, CountsSlices}
+use Rattle.pf_io.specs.Slices.{MOST_BYTES, given_in_turn, AreWhole, IsTaken, CountsSlices, IsStopped}
 use Rattle.trusted_chunks.specs.State.{Kept, FileState, IsSound}
 use Rattle.trusted_chunks.specs.Taking.{Takes}
-use Rattle.trusted_chunks.specs.Opening.{IsStopped, IsStarved, OpenEnds, Opens, OpensFile, HonestOpen}
+use Rattle.trusted_chunks.specs.Opening.{IsStarved, OpenEnds, Opens, OpensFile, HonestOpen}
 use Rattle.trusted_chunks.specs.declared.fault.TrustFault.{TrustFault}
 use Rattle.trusted_chunks.specs.declared.fault.TrustFault.TheVariants as faults
 use Rattle.trusted_chunks.specs.declared.slices.Taken.{Taken}

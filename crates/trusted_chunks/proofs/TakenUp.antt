@@ -5,7 +5,7 @@ use Rattle.sha2.specs.Sha256.{sha256}
 use Rattle.sha2.specs.Hashers.{Holds256}
 use Rattle.sha2.specs.declared.Sha256.{Sha256}
 use Rattle.pf_io.specs.Counts.{HasCause}
-use Rattle.pf_io.specs.Host.{Name, Answer, Gave, HostState}
+use Rattle.pf_io.specs.Host.{Name, Answer, HostState}
 use Rattle.pf_io.specs.Answered.{Answered}
 use Rattle.pf_io.specs.Unchanged.{KeepsDisk}
 use Rattle.pf_io.proofs.Answering.{answered_none, answered_then}
@@ -13,13 +13,13 @@ use Rattle.pf_io.proofs.Unchanged.{kept_none, kept_then}
 use Rattle.std.proofs.lemmas.List.{append-nil}
 use Rattle.lru.proofs.Splits.{all_both}
 use Rattle.trusted_chunks.specs.Chunks.{CHUNK, sums_of}
-use Rattle.pf_io.specs.Slices.{MOST_BYTES, given_in_turn, AreWhole, CountsSlices, SliceCame}
+use Rattle.pf_io.specs.Slices.{MOST_BYTES, given_in_turn, AreWhole, CountsSlices}
 use Rattle.trusted_chunks.specs.Opening.{host_part}
 use Rattle.trusted_chunks.specs.Taking.{SliceTaken, SliceEnds, Takes}
 use Rattle.trusted_chunks.specs.declared.fault.TrustFault.{TrustFault}
 use Rattle.trusted_chunks.specs.declared.fault.TrustFault.TheVariants as faults
 use Rattle.trusted_chunks.specs.declared.slices.Taken.{Taken}
-use Rattle.pf_io.proofs.Slices.{counts_none, counts_then, cause_on, whole_length, in_turn_append, concat_last}
+use Rattle.pf_io.proofs.Slices.{counts_none, counts_then, cause_on, whole_length, concat_last, long_last, more_answered, more_counts}
 use Rattle.trusted_chunks.proofs.Summing.{sums_append}
 
 -- after some whole slices
@@ -48,21 +48,6 @@ none_taken name hasher state holds = record {
   hashes_are = refl;
   holds = holds;
 }
-
--- one slice more came
-more_answered : (name : Name) (len : ℕ) (whole : List (List ℕ)) (slice : List ℕ) (old mid new : HostState) → len ≡ length (concat whole) → Answered (given_in_turn name 0 whole) old mid → SliceCame name len slice mid new
-    → Answered (given_in_turn name 0 (whole ++ slice ∷ [])) old new
-more_answered name len whole slice old mid new is first came =
-    let place : 0 + length (concat whole) ≡ len = omega (arith, is) in
-    let all : given_in_turn name 0 (whole ++ slice ∷ []) ≡ given_in_turn name 0 whole ++ Gave name len CHUNK slice ∷ [] =
-    in_turn_append name 0 whole (slice ∷ []) ∙ ap (λ (k : ℕ). given_in_turn name 0 whole ++ Gave name k CHUNK slice ∷ []) place in
-    subst (λ (l : List Answer). Answered l old new) (sym all) (answered_then (given_in_turn name 0 whole) (Gave name len CHUNK slice ∷ []) old mid new first came.answered)
-
-more_counts : (n : ℕ) (whole : List (List ℕ)) (slice : List ℕ) (old mid new : HostState) → CountsSlices (length whole) old mid → CountsSlices 1 mid new → n ≡ 0 → CountsSlices (length (whole ++ slice ∷ []) + n) old new
-more_counts n whole slice old mid new first second is = counts_then (length whole) 1 (length (whole ++ slice ∷ []) + n) old mid new first second (omega (arith, is, length-append whole (slice ∷ [])))
-
-long_last : (whole : List (List ℕ)) (slice : List ℕ) → length (concat (whole ++ slice ∷ [])) ≡ length (concat whole) + length slice
-long_last whole slice = ap (λ (l : List ℕ). length l) (concat_last whole slice) ∙ length-append (concat whole) slice
 
 -- a whole one
 pub taken_more : (name : Name) (len n : ℕ) (hashes hashes' : List (List ℕ)) (hasher hasher' : Sha256) (old mid new : HostState) → TakenTo name len hashes hasher old mid → SliceTaken name len n hashes hashes' hasher hasher' mid new

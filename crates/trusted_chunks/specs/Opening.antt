@@ -4,7 +4,7 @@ use Rattle.std.specs.List.{concat}
 use Rattle.sha2.specs.Sha256.{sha256}
 use Rattle.pf_io.specs.Host.{Name, Answer, LengthWas, HostState, OnHonest}
 use Rattle.pf_io.specs.Answered.{Answered}
-use Rattle.pf_io.specs.Slices.{MOST_BYTES, IsTaken, CameInTurn, CountsSlices}
+use Rattle.pf_io.specs.Slices.{MOST_BYTES, IsTaken, CameInTurn, IsTooLarge, IsStopped, CountsSlices}
 use Rattle.trusted_chunks.specs.State.{FileState, Holds}
 use Rattle.trusted_chunks.specs.declared.fault.TrustFault.{TrustFault}
 use Rattle.trusted_chunks.specs.declared.fault.TrustFault.TheVariants as faults
@@ -28,14 +28,6 @@ pub record IsOpened (file : FileState) (name : Name) (sum : List ℕ) (these : L
   pub name_is : file.name ≡ name
   pub none_kept : file.kept ≡ []
 
--- slices came in turn, and with the last of them more bytes than a file may have
-pub record IsTooLarge (name : Name) (these : List Answer) : Type 0 where
-  pub whole : List (List ℕ)
-  pub last : List ℕ
-  pub came : CameInTurn name whole (last ∷ []) these
-  pub not_before : length (concat whole) ≤ MOST_BYTES
-  pub too_large : MOST_BYTES < length (concat (whole ++ last ∷ []))
-
 -- the file was taken whole and has another sum, which is told
 pub record HasWrongSum (name : Name) (sum found : List ℕ) (these : List Answer) : Type 0 where
   pub bytes : List ℕ
@@ -44,12 +36,7 @@ pub record HasWrongSum (name : Name) (sum found : List ℕ) (these : List Answer
   pub found_is : found ≡ sha256 bytes
   pub other : found ≢ sum
 
--- nothing came, or whole slices of no more bytes than a file may have
-pub data IsStopped (name : Name) (these : List Answer) : Type 0 where
-  at_length : these ≡ [] → IsStopped name these
-  at_slice : (whole : List (List ℕ)) → CameInTurn name whole [] these → length (concat whole) ≤ MOST_BYTES → IsStopped name these
-
--- so too for want of memory, which may also come at a last slice
+-- want of memory came between two calls, or at a last slice
 pub data IsStarved (name : Name) (these : List Answer) : Type 0 where
   between : IsStopped name these → IsStarved name these
   at_last : (whole : List (List ℕ)) (last : List ℕ) → CameInTurn name whole (last ∷ []) these → length (concat (whole ++ last ∷ [])) ≤ MOST_BYTES → IsStarved name these

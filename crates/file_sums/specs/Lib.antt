@@ -1,0 +1,4 @@
+pub mod Summing
+pub mod Taking
+pub mod Collecting
+pub mod Lines

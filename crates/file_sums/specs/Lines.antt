@@ -1,0 +1,7 @@
+-- The line of a sum.
+use Rattle.std.specs.Prelude.{ℕ, List, ◌++◌, codes}
+use Rattle.hex.specs.Hex.{encode_lower}
+
+-- the digits of the sum in lower case, two spaces, the uri and a newline, as `sha256sum` writes them
+abbrev pub sum_line : List ℕ → List ℕ → List ℕ
+sum_line sum uri = encode_lower sum ++ codes "  " ++ uri ++ codes "\n"

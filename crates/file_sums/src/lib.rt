@@ -1,0 +1,14 @@
+//! SHA-256 sums of the files of a host that a manifest trusts.
+#![tactic(auto)]
+
+mod collecting;
+mod fault;
+mod lines;
+mod summing;
+#[cfg(test)]
+mod tests;
+
+pub use collecting::{Sums, sum_all};
+pub use fault::{AllFault, SumFault};
+pub use lines::sum_line;
+pub use summing::sum;
