@@ -34,6 +34,7 @@ pub mod DecryptLaws
 pub mod SheetNodes
 pub mod ContentLaws
 mod LastAnswers
+mod MeasureLaws
 mod RunLaws
 mod RunClauses
 mod RunDisk

@@ -14,7 +14,7 @@ use Rattle.pf_tool.specs.Endings.{Ending, Done, MayStarve, Stop, AtEnd, Failed, 
 use Rattle.pf_tool.specs.Happened.{Happened}
 use Rattle.pf_tool.specs.Outcomes.{IsAhead, StopsAt}
 use Rattle.pf_tool.specs.Reports.{Reports}
-use Rattle.pf_tool.specs.Requests.{Request, Decrypt, Encrypt}
+use Rattle.pf_tool.specs.Requests.{Request, Decrypt, Encrypt, Measure}
 use Rattle.pf_tool.specs.SideFiles.{IsSwapped, SideLeaves, SideEnds, IsNewFile}
 use Rattle.pf_tool.specs.Keys.{KeyRefused, key_unnamed, key_absent, key_length, key_short, key_events}
 use Rattle.pf_tool.specs.Encrypting.{Seals, output_unnamed, input_unfit, input_absent, input_large, published, EncryptLeads, encrypt_key_refused, encrypt_key_read, IsSealed, IsVersion, nonce_in}
@@ -149,3 +149,4 @@ module _ (key input output : Name) where
 pub run_disk : (request : Request) (old new : World) (status : ℕ) → Runs request old new status → OnDisks request old new status
 run_disk (Decrypt key input) old new status run = run.outcome.leaves
 run_disk (Encrypt key input output) old new status run = encrypt_disk key input output old new status run
+run_disk (Measure layout) old new status run = run.outcome.leaves

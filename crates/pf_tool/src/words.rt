@@ -101,7 +101,10 @@ fn encrypt_of(words: &[String]) -> Option<Encrypt<'_>>
 pub(crate) fn is_operand(word: &str) -> bool
     ensures { IsTrue result ↔ IsOperand word.now }
 {
-    !matches!(word.as_bytes(), [b'-', _, ..])
+    match word.as_bytes() {
+        [first, _, ..] => *first != b'-',
+        _ => true,
+    }
 }
 
 fn measure_of(words: &[String]) -> Option<Measure<'_>>
