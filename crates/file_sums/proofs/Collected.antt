@@ -1,6 +1,6 @@
 -- The sums of entries, one after the other.
-use Rattle.std.proofs.Common.{◌≡◌, ℕ, ◌+◌, ◌-◌, ◌≤◌, cond, List, [], ◌∷◌, ◌++◌, length, take, drop, Option, Some, None, IfSome, refl, sym, ap, subst, ◌∙◌, arith, append_assoc, Result, Ok, Err, OnOk}
-use Rattle.std.specs.List.{slice_get, sum_by, count_by, AllByRecursion}
+use Rattle.std.proofs.Common.{◌≡◌, ℕ, ◌+◌, ◌-◌, cond, zero-add, List, [], ◌∷◌, ◌++◌, length, take, drop, Option, Some, None, IfSome, refl, sym, ap, subst, ◌∙◌, arith, append_assoc, Result, Ok, Err, OnOk}
+use Rattle.std.specs.List.{slice_get, count_by, AllByRecursion}
 use Rattle.std.proofs.lemmas.List.{append-nil, take-append-drop, take_more, drop_more}
 use Rattle.std.proofs.lemmas.List.Sums.{sum_by-append}
 use Rattle.std.proofs.lemmas.Option.{IfSome_then, slice_get_within, get_or_from_slice_get}
@@ -11,21 +11,21 @@ use Rattle.pf_io.proofs.Answering.{all_split, answered_none, answered_then}
 use Rattle.pf_io.proofs.Unchanged.{kept_none, kept_then}
 use Rattle.manifest_model.specs.declared.entries.Trusted.{Trusted}
 use Rattle.manifest_model.specs.Summed.{FitSums}
-use Rattle.pf_io.specs.Slices.{SLICE, given_in_turn, IsTaken, IsStopped, CountsSlices}
+use Rattle.pf_io.specs.Slices.{SLICE, given_in_turn, ReadsSlices}
 use Rattle.file_sums.specs.Summing.{SumEnds, slices_asked}
-use Rattle.file_sums.specs.Collecting.{GivesSum, Gives, AllEnd, is_slice, not_given, all_host_part, AreSummed, IsSumIn, AreSumsIn, SumsFiles, AreOfFiles, EntryEnds}
+use Rattle.file_sums.specs.Collecting.{GivesSum, Gives, AllEnd, is_slice, all_host_part, AreSummed, IsSumIn, AreSumsIn, SumsFiles, AreOfFiles, EntryEnds}
 use Rattle.file_sums.specs.declared.fault.SumFault.{SumFault}
 use Rattle.file_sums.specs.declared.fault.SumFault.TheVariants as sum_faults
 use Rattle.file_sums.specs.declared.fault.AllFault.{AllFault}
 use Rattle.file_sums.specs.declared.fault.AllFault.TheVariants as faults
-use Rattle.pf_io.proofs.Slices.{counts_none, counts_then, length_in_turn}
+use Rattle.pf_io.proofs.Slices.{reads_none, reads_then, length_in_turn}
 use Rattle.file_sums.proofs.Summed.{sums_file}
 
 -- after some entries
 pub record SummedTo (entries : List Trusted) (sums : List (List ℕ)) (old new : HostState) : Type 0 where
   pub these : List Answer
   pub answered : Answered these old new
-  pub counts : CountsSlices (count_by is_slice these) old new
+  pub counts : ReadsSlices (count_by is_slice these) old new
   pub untouched : these ≡ [] → new ≡ old
   pub faults : new.faults ≡ old.faults
   pub disk : KeepsDisk old new
@@ -35,7 +35,7 @@ pub none_summed : (state : HostState) → SummedTo [] [] state state
 none_summed state = record {
   these = [];
   answered = answered_none state;
-  counts = counts_none 0 state;
+  counts = reads_none state;
   untouched = λ none. refl;
   faults = refl;
   disk = kept_none state;
@@ -46,7 +46,7 @@ none_summed state = record {
 record EntryGave (sum : List ℕ) (entry : Trusted) (old new : HostState) : Type 0 where
   these : List Answer
   answered : Answered these old new
-  counts : CountsSlices (count_by is_slice these) old new
+  counts : ReadsSlices (count_by is_slice these) old new
   untouched : these ≡ [] → new ≡ old
   gives : GivesSum entry.sum entry.name these sum
 
@@ -61,14 +61,14 @@ counts_in_turn name at (slice ∷ slices) =
     let on = counts_in_turn name (at + length slice) slices in
     omega (arith, split, on)
 
--- the slices that were asked for, and those that came
-few_given : (these : List Answer) (first : Answer) (name : Name) (slices : List (List ℕ)) → these ≡ first ∷ given_in_turn name 0 slices → length these ≤ count_by is_slice these + 1
-few_given these first name slices is =
+-- of a file's answers all but the length are slices
+pub slices_given : (these : List Answer) (size : Option ℕ) (name : Name) (slices : List (List ℕ)) → these ≡ LengthWas name size ∷ given_in_turn name 0 slices → length these - 1 ≡ count_by is_slice these
+slices_given these size name slices is =
     let rest = given_in_turn name 0 slices in
-    let split : count_by is_slice (first ∷ rest) ≡ sum_by one_of (first ∷ []) + count_by is_slice rest = sum_by-append one_of (first ∷ []) rest in
+    let split : count_by is_slice (LengthWas name size ∷ rest) ≡ count_by is_slice rest = sum_by-append one_of (LengthWas name size ∷ []) rest ∙ zero-add (count_by is_slice rest) in
     let on = counts_in_turn name 0 slices in
-    let few : length (first ∷ rest) ≤ count_by is_slice (first ∷ rest) + 1 = omega (arith, split, on, length_in_turn name 0 slices) in
-    subst (λ (l : List Answer). length l ≤ count_by is_slice l + 1) (sym is) few
+    let all : length (LengthWas name size ∷ rest) - 1 ≡ count_by is_slice (LengthWas name size ∷ rest) = omega (arith, split, on, length_in_turn name 0 slices) in
+    subst (λ (l : List Answer). length l - 1 ≡ count_by is_slice l) (sym is) all
 
 not_empty : (these : List Answer) (first : Answer) (rest : List Answer) → these ≡ first ∷ rest → these ≡ [] → ⊥
 not_empty these first rest is none = let e : first ∷ rest ≡ [] = sym is ∙ none in absurd (cc)
@@ -79,22 +79,22 @@ entry_gave sum entry old new (EntryEnds.Listed listed is ok same) =
     record {
       these = [];
       answered = subst (λ (s : HostState). Answered [] old s) (sym same) (answered_none old);
-      counts = subst (λ (s : HostState). CountsSlices 0 old s) (sym same) (counts_none 0 old);
+      counts = subst (λ (s : HostState). ReadsSlices 0 old s) (sym same) (reads_none old);
       untouched = λ none. same;
       gives = subst (λ (o : Option (List ℕ)). GivesSum o entry.name [] sum) (sym is) (refl, sum_is);
     }
 entry_gave sum entry old new (EntryEnds.Unlisted is summed) =
     let taken = summed.ends.taken in
-    let few = few_given summed.these (LengthWas entry.name (Some taken.size)) entry.name (taken.whole ++ taken.last ∷ []) taken.asked in
+    let all = slices_given summed.these (Some taken.size) entry.name (taken.whole ++ taken.last ∷ []) taken.asked in
     record {
       these = summed.these;
       answered = summed.answered;
-      counts = counts_then 0 (length summed.these - 1) (count_by is_slice summed.these) old old new (counts_none 0 old) summed.counts (omega (arith, few));
+      counts = subst (λ (n : ℕ). ReadsSlices n old new) all summed.counts;
       untouched = λ none. absurd (not_empty summed.these (LengthWas entry.name (Some taken.size)) (given_in_turn entry.name 0 (taken.whole ++ taken.last ∷ [])) taken.asked none);
       gives = subst (λ (o : Option (List ℕ)). GivesSum o entry.name summed.these sum) (sym is) summed.ends;
     }
 
-gives_push : (entries : List Trusted) (entry : Trusted) (these last : List Answer) (sums : List (List ℕ)) (sum : List ℕ) → Gives entries these sums → GivesSum entry.sum entry.name last sum → Gives (entries ++ entry ∷ []) (these ++ last) (sums ++ sum ∷ [])
+pub gives_push : (entries : List Trusted) (entry : Trusted) (these last : List Answer) (sums : List (List ℕ)) (sum : List ℕ) → Gives entries these sums → GivesSum entry.sum entry.name last sum → Gives (entries ++ entry ∷ []) (these ++ last) (sums ++ sum ∷ [])
 gives_push [] entry these last sums sum so_far gives =
     (last, [], sum, [], gives, (refl, refl), ap (λ (l : List Answer). l ++ last) so_far.0 ∙ sym (append-nil last), ap (λ (l : List (List ℕ)). l ++ sum ∷ []) so_far.1)
 gives_push (e ∷ entries) entry these last sums sum so_far gives =
@@ -105,7 +105,7 @@ both_none : (xs ys : List Answer) → xs ++ ys ≡ [] → (xs ≡ []) × (ys ≡
 both_none [] ys none = (refl, none)
 both_none (x ∷ xs) ys none = absurd (cc)
 
-count_both : (xs ys : List Answer) → count_by is_slice (xs ++ ys) ≡ count_by is_slice xs + count_by is_slice ys
+pub count_both : (xs ys : List Answer) → count_by is_slice (xs ++ ys) ≡ count_by is_slice xs + count_by is_slice ys
 count_both xs ys = sum_by-append one_of xs ys
 
 -- one entry more
@@ -116,7 +116,7 @@ summed_more entries entry sums sum old mid new so_far ends faults disk =
     record {
       these = so_far.these ++ this.these;
       answered = answered_then so_far.these this.these old mid new so_far.answered this.answered;
-      counts = counts_then (count_by is_slice so_far.these) (count_by is_slice this.these) (count_by is_slice (so_far.these ++ this.these)) old mid new so_far.counts this.counts (let both = count_both so_far.these this.these in omega (arith, both));
+      counts = reads_then (count_by is_slice so_far.these) (count_by is_slice this.these) (count_by is_slice (so_far.these ++ this.these)) old mid new so_far.counts this.counts (sym (count_both so_far.these this.these));
       untouched = λ none. let parts = both_none so_far.these this.these none in this.untouched parts.1 ∙ so_far.untouched parts.0;
       faults = faults ∙ so_far.faults;
       disk = kept_then old mid new so_far.disk disk;
@@ -141,9 +141,10 @@ pub all_summed : (entries : List Trusted) (sums : List (List ℕ)) (old new : Ho
 all_summed entries sums old new so_far = record {
   these = so_far.these;
   answered = so_far.answered;
-  counts = counts_then (count_by is_slice so_far.these) 0 (count_by is_slice so_far.these + 0) old new new so_far.counts (counts_none 0 new) (omega arith);
+  slices = count_by is_slice so_far.these;
+  counts = so_far.counts;
   untouched = so_far.untouched;
-  ends = AllEnd.Whole sums so_far.gives refl;
+  ends = AllEnd.Whole sums so_far.gives refl refl;
 }
 
 -- memory was wanting after some
@@ -151,18 +152,11 @@ pub all_starved : (entries front others : List Trusted) (sums : List (List ℕ))
 all_starved entries front others sums old new whole so_far = record {
   these = so_far.these;
   answered = so_far.answered;
-  counts = counts_then (count_by is_slice so_far.these) 0 (count_by is_slice so_far.these + 0) old new new so_far.counts (counts_none 0 new) (omega arith);
+  slices = count_by is_slice so_far.these;
+  counts = so_far.counts;
   untouched = so_far.untouched;
-  ends = AllEnd.Starved front others sums whole so_far.gives refl;
+  ends = AllEnd.Starved front others sums whole so_far.gives refl refl;
 }
-
--- as many slices were asked for as came, and one more at a fault of the host
-few_refused : (why : SumFault) (name : Name) (these : List Answer) → SumEnds (Err why) name these → slices_asked {T = List ℕ} (Err why) these ≤ count_by is_slice these + not_given {T = List (List ℕ)} (Err (faults.At name why))
-few_refused sum_faults.NotFound name these is = let long : length these ≡ 1 = ap (λ (l : List Answer). length l) is in omega (arith, long)
-few_refused sum_faults.TooLarge name these large =
-    let few = few_given these (LengthWas name (Some large.came.1.0)) name (large.whole ++ large.last ∷ []) large.came.1.1 in omega (arith, few)
-few_refused sum_faults.Host name these (IsStopped.at_length none) = let long : length these ≡ 0 = ap (λ (l : List Answer). length l) none in omega (arith, long)
-few_refused sum_faults.Host name these (IsStopped.at_slice whole came small) = few_given these (LengthWas name (Some came.1.0)) name (whole ++ []) came.1.1
 
 -- a refusal that is no fault has answers
 refused_told : (why : SumFault) (name : Name) (asked last : List Answer) (old new : HostState) → SumEnds (Err why) name last → OnOk (all_host_part {T = List (List ℕ)} (Err (faults.At name why))) (asked ++ last ≡ [] → new ≡ old)
@@ -175,15 +169,13 @@ pub all_refused : (entries front : List Trusted) (entry : Trusted) (others : Lis
     → EntryEnds (Err why) entry mid new → AreSummed (Err (faults.At entry.name why)) entries old new
 all_refused entries front entry others sums why old mid new whole so_far (EntryEnds.Listed listed is ok same) = absurd (cc)
 all_refused entries front entry others sums why old mid new whole so_far (EntryEnds.Unlisted is summed) =
-    let few = few_refused why entry.name summed.these summed.ends in
-    let both = count_both so_far.these summed.these in
     record {
       these = so_far.these ++ summed.these;
       answered = answered_then so_far.these summed.these old mid new so_far.answered summed.answered;
-      counts = counts_then (count_by is_slice so_far.these) (slices_asked {T = List ℕ} (Err why) summed.these) (count_by is_slice (so_far.these ++ summed.these) + not_given {T = List (List ℕ)} (Err (faults.At entry.name why))) old mid new
-          so_far.counts summed.counts (omega (arith, few, both));
+      slices = count_by is_slice so_far.these + slices_asked {T = List ℕ} (Err why) summed.these;
+      counts = reads_then (count_by is_slice so_far.these) (slices_asked {T = List ℕ} (Err why) summed.these) (count_by is_slice so_far.these + slices_asked {T = List ℕ} (Err why) summed.these) old mid new so_far.counts summed.counts refl;
       untouched = refused_told why entry.name so_far.these summed.these old new summed.ends;
-      ends = AllEnd.Refused front entry others so_far.these summed.these sums why whole so_far.gives is summed.ends refl refl;
+      ends = AllEnd.Refused front entry others so_far.these summed.these sums why whole so_far.gives is summed.ends refl refl refl;
     }
 
 -- the sums are one for each entry, and the listed ones
@@ -199,10 +191,10 @@ gives_fit (entry ∷ entries) these sums gives =
 pub sums_fit : (entries : List Trusted) (sums : List (List ℕ)) (old new : HostState) → AreSummed (Ok sums) entries old new → FitSums entries sums
 sums_fit entries sums old new summed = by_end summed.ends
   where
-    by_end : AllEnd entries summed.these (Ok sums) → FitSums entries sums
-    by_end (AllEnd.Whole came gives is) = let same : came ≡ sums = cc in subst (λ (l : List (List ℕ)). FitSums entries l) same (gives_fit entries summed.these came gives)
-    by_end (AllEnd.Refused front entry others asked last some why whole gives unlisted ends told is) = absurd (cc)
-    by_end (AllEnd.Starved front others some whole gives is) = absurd (cc)
+    by_end : AllEnd entries summed.these summed.slices (Ok sums) → FitSums entries sums
+    by_end (AllEnd.Whole came gives slices is) = let same : came ≡ sums = cc in subst (λ (l : List (List ℕ)). FitSums entries l) same (gives_fit entries summed.these came gives)
+    by_end (AllEnd.Refused front entry others asked last some why whole gives unlisted ends told slices is) = absurd (cc)
+    by_end (AllEnd.Starved front others some whole gives slices is) = absurd (cc)
 
 -- what the answers of an honest host give is of its files
 gives_in : (files : Files) (entries : List Trusted) (these : List Answer) (sums : List (List ℕ)) → Gives entries these sums → AllByRecursion (IsAnswerOf files) these → AreSumsIn files entries sums
@@ -215,9 +207,9 @@ gives_in files (entry ∷ entries) these sums gives all =
     by_sum (Some listed) given all = given.1
     by_sum None given all = sums_file (Ok gives.2) entry.name gives.0 files given all
 
-all_in : (files : Files) (entries : List Trusted) (these : List Answer) (r : Result (List (List ℕ)) AllFault) → AllEnd entries these r → AllByRecursion (IsAnswerOf files) these → SumsFiles files entries r
-all_in files entries these r (AllEnd.Whole sums gives is) all = rw is (gives_in files entries these sums gives all)
-all_in files entries these r (AllEnd.Refused front entry others asked last sums why whole gives unlisted ends told is) all =
+all_in : (files : Files) (entries : List Trusted) (these : List Answer) (n : ℕ) (r : Result (List (List ℕ)) AllFault) → AllEnd entries these n r → AllByRecursion (IsAnswerOf files) these → SumsFiles files entries r
+all_in files entries these n r (AllEnd.Whole sums gives slices is) all = rw is (gives_in files entries these sums gives all)
+all_in files entries these n r (AllEnd.Refused front entry others asked last sums why whole gives unlisted ends told slices is) all =
     let parts = all_split (IsAnswerOf files) asked last (subst (λ (l : List Answer). AllByRecursion (IsAnswerOf files) l) told all) in
     rw is (record {
       front = front;
@@ -230,10 +222,10 @@ all_in files entries these r (AllEnd.Refused front entry others asked last sums 
       refused = sums_file (Err why) entry.name last files ends parts.1;
       name_is = refl;
     })
-all_in files entries these r (AllEnd.Starved front others sums whole gives is) all = rw is tt
+all_in files entries these n r (AllEnd.Starved front others sums whole gives slices is) all = rw is tt
 
 pub honest_sums : (r : Result (List (List ℕ)) AllFault) (entries : List Trusted) (old new : HostState) → AreSummed r entries old new → AreOfFiles r entries old
-honest_sums r entries old new summed = IfSome_then (files_of old) summed.answered.honest (λ files all. all_in files entries summed.these r summed.ends all)
+honest_sums r entries old new summed = IfSome_then (files_of old) summed.answered.honest (λ files all. all_in files entries summed.these summed.slices r summed.ends all)
 
 -- a name that was copied into an empty text
 pub name_copied : (made now was copy name : List ℕ) → made ≡ now → now ≡ was ++ copy → was ≡ [] → copy ≡ name → made ≡ name

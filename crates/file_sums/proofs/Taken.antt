@@ -11,23 +11,26 @@ use Rattle.pf_io.specs.Answered.{Answered}
 use Rattle.pf_io.specs.Unchanged.{KeepsDisk}
 use Rattle.pf_io.proofs.Answering.{answered_none, answered_then}
 use Rattle.pf_io.proofs.Unchanged.{kept_none, kept_then}
-use Rattle.pf_io.specs.Slices.{SLICE, MOST_BYTES, given_in_turn, AreWhole, CountsSlices}
+use Rattle.pf_io.specs.Slices.{SLICE, MOST_BYTES, given_in_turn, AreWhole, ReadsSlices}
 use Rattle.file_sums.specs.Summing.{host_part}
 use Rattle.file_sums.specs.Taking.{SliceTaken, SliceEnds, Takes}
 use Rattle.file_sums.specs.declared.fault.SumFault.{SumFault}
 use Rattle.file_sums.specs.declared.fault.SumFault.TheVariants as faults
-use Rattle.pf_io.proofs.Slices.{counts_none, counts_then, cause_on, concat_last, long_last, more_answered, more_counts}
+use Rattle.pf_io.proofs.Slices.{reads_none, reads_then, cause_on, concat_last, long_last, more_answered}
 
 whole_more : (whole : List (List ℕ)) (slice : List ℕ) → AreWhole whole → length slice ≡ SLICE → AreWhole (whole ++ slice ∷ [])
 whole_more [] slice are is = (is, tt)
 whole_more (first ∷ whole) slice are is = (are.0, whole_more whole slice are.1 is)
+
+more_reads : (whole : List (List ℕ)) (slice : List ℕ) (old mid new : HostState) → ReadsSlices (length whole) old mid → ReadsSlices 1 mid new → ReadsSlices (length (whole ++ slice ∷ []) + 0) old new
+more_reads whole slice old mid new first second = reads_then (length whole) 1 (length (whole ++ slice ∷ []) + 0) old mid new first second (omega (arith, length-append whole (slice ∷ [])))
 
 -- after some whole slices
 pub record TakenTo (name : Name) (len : ℕ) (hasher : Sha256) (old new : HostState) : Type 0 where
   pub whole : List (List ℕ)
   pub are_whole : AreWhole whole
   pub answered : Answered (given_in_turn name 0 whole) old new
-  pub counts : CountsSlices (length whole) old new
+  pub counts : ReadsSlices (length whole) old new
   pub faults : new.faults ≡ old.faults
   pub disk : KeepsDisk old new
   pub len_is : len ≡ length (concat whole)
@@ -39,7 +42,7 @@ none_taken name hasher state holds = record {
   whole = [];
   are_whole = tt;
   answered = answered_none state;
-  counts = counts_none 0 state;
+  counts = reads_none state;
   faults = refl;
   disk = kept_none state;
   len_is = refl;
@@ -57,7 +60,7 @@ taken_more name len n hasher hasher' old mid new was taken is_whole faults disk 
       whole = was.whole ++ slice ∷ [];
       are_whole = whole_more was.whole slice was.are_whole (sym taken.length_is ∙ is_whole);
       answered = more_answered name len was.whole slice old mid new was.len_is was.answered taken.came;
-      counts = counts_then (length was.whole) 1 (length (was.whole ++ slice ∷ [])) old mid new was.counts taken.came.counts (omega (arith, length-append was.whole (slice ∷ [])));
+      counts = reads_then (length was.whole) 1 (length (was.whole ++ slice ∷ [])) old mid new was.counts taken.came.counts (omega (arith, length-append was.whole (slice ∷ [])));
       faults = faults ∙ was.faults;
       disk = kept_then old mid new was.disk disk;
       len_is = let a = was.len_is in let b = taken.length_is in omega (arith, a, b, long);
@@ -76,7 +79,7 @@ taken_last name len n hasher hasher' old mid new sum was last short sum_is =
       more = slice ∷ [];
       are_whole = was.are_whole;
       answered = more_answered name len was.whole slice old mid new was.len_is was.answered last.came;
-      counts = more_counts 0 was.whole slice old mid new was.counts last.came.counts refl;
+      counts = more_reads was.whole slice old mid new was.counts last.came.counts;
       ends = (
         slice,
         refl,
@@ -95,7 +98,7 @@ taken_failed faults.TooLarge name len hasher hasher' old mid new was (slice, cam
   more = slice ∷ [];
   are_whole = was.are_whole;
   answered = more_answered name len was.whole slice old mid new was.len_is was.answered came;
-  counts = more_counts 0 was.whole slice old mid new was.counts came.counts refl;
+  counts = more_reads was.whole slice old mid new was.counts came.counts;
   ends = (slice, refl, was.within, let a = was.len_is in omega (arith, a, large, long_last was.whole slice));
 }
 taken_failed faults.Host name len hasher hasher' old mid new was none =
@@ -105,7 +108,7 @@ taken_failed faults.Host name len hasher hasher' old mid new was none =
       more = [];
       are_whole = was.are_whole;
       answered = subst (λ (l : List Answer). Answered l old new) (append-nil (given_in_turn name 0 was.whole) ∙ ap (λ (l : List (List ℕ)). given_in_turn name 0 l) (sym all)) (answered_then (given_in_turn name 0 was.whole) [] old mid new was.answered none.answered);
-      counts = counts_then (length was.whole) 1 (length (was.whole ++ []) + 1) old mid new was.counts none.counts (omega (arith, length-append {A = List ℕ} was.whole []));
+      counts = reads_then (length was.whole) 1 (length (was.whole ++ []) + 1) old mid new was.counts none.counts (omega (arith, length-append {A = List ℕ} was.whole []));
       ends = (refl, was.within);
     }
 

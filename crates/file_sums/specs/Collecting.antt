@@ -4,8 +4,8 @@ use Rattle.std.specs.List.{count_by}
 use Rattle.pf_io.specs.Host.{Name, Files, Answer, LengthWas, Gave, Wrote, WasCut, Synced, Made, Swapped, Removed, HostState, OnHonest}
 use Rattle.pf_io.specs.Answered.{Answered}
 use Rattle.manifest_model.specs.declared.entries.Trusted.{Trusted}
-use Rattle.pf_io.specs.Slices.{CountsSlices}
-use Rattle.file_sums.specs.Summing.{IsSumOf, SumEnds, IsSummed, SumsFile}
+use Rattle.pf_io.specs.Slices.{ReadsSlices}
+use Rattle.file_sums.specs.Summing.{IsSumOf, SumEnds, slices_asked, IsSummed, SumsFile}
 use Rattle.file_sums.specs.declared.fault.SumFault.{SumFault}
 use Rattle.file_sums.specs.declared.fault.SumFault.TheVariants as sum_faults
 use Rattle.file_sums.specs.declared.fault.AllFault.{AllFault}
@@ -30,15 +30,6 @@ Gives [] these sums = (these ≡ []) × (sums ≡ [])
 Gives (entry ∷ entries) these sums =
     (first others : List Answer) × (sum : List ℕ) × (rest : List (List ℕ)) × GivesSum entry.sum entry.name first sum × Gives entries others rest × (these ≡ first ++ others) × (sums ≡ sum ∷ rest)
 
--- The answers give all sums; or those before the first file that is refused, after which nothing is asked; or those of
--- some first entries, where memory is wanting.
-pub data AllEnd (entries : List Trusted) (these : List Answer) (outcome : Result (List (List ℕ)) AllFault) : Type 0 where
-  Whole : (sums : List (List ℕ)) → Gives entries these sums → outcome ≡ Ok sums → AllEnd entries these outcome
-  Refused : (front : List Trusted) (entry : Trusted) (others : List Trusted) (asked last : List Answer) (sums : List (List ℕ)) (why : SumFault)
-      → entries ≡ front ++ entry ∷ others → Gives front asked sums → entry.sum ≡ None → SumEnds (Err why) entry.name last
-      → these ≡ asked ++ last → outcome ≡ Err (faults.At entry.name why) → AllEnd entries these outcome
-  Starved : (front others : List Trusted) (sums : List (List ℕ)) → entries ≡ front ++ others → Gives front these sums → outcome ≡ Err faults.Memory → AllEnd entries these outcome
-
 -- the host gave bytes of a file
 abbrev pub is_slice : Answer → Bool
 is_slice (LengthWas name length) = false
@@ -50,21 +41,23 @@ is_slice (Made name) = false
 is_slice (Swapped from to) = false
 is_slice (Removed name) = false
 
--- at a fault of the host one slice more was asked for than came, at most
-abbrev pub not_given : {T : Type 0} → Result T AllFault → ℕ
-not_given (Ok value) = 0
-not_given (Err (faults.At name sum_faults.NotFound)) = 0
-not_given (Err (faults.At name sum_faults.TooLarge)) = 0
-not_given (Err (faults.At name sum_faults.Host)) = 1
-not_given (Err faults.Memory) = 0
+-- The answers give all sums; or those before the first file that is refused, after which nothing is asked; or those of
+-- some first entries, where memory is wanting. So many slices are asked for.
+pub data AllEnd (entries : List Trusted) (these : List Answer) (slices : ℕ) (outcome : Result (List (List ℕ)) AllFault) : Type 0 where
+  Whole : (sums : List (List ℕ)) → Gives entries these sums → slices ≡ count_by is_slice these → outcome ≡ Ok sums → AllEnd entries these slices outcome
+  Refused : (front : List Trusted) (entry : Trusted) (others : List Trusted) (asked last : List Answer) (sums : List (List ℕ)) (why : SumFault)
+      → entries ≡ front ++ entry ∷ others → Gives front asked sums → entry.sum ≡ None → SumEnds (Err why) entry.name last
+      → these ≡ asked ++ last → slices ≡ count_by is_slice asked + slices_asked {T = List ℕ} (Err why) last → outcome ≡ Err (faults.At entry.name why) → AllEnd entries these slices outcome
+  Starved : (front others : List Trusted) (sums : List (List ℕ)) → entries ≡ front ++ others → Gives front these sums → slices ≡ count_by is_slice these → outcome ≡ Err faults.Memory → AllEnd entries these slices outcome
 
 -- Some answers came, and by them the summing ends. Where there are none and no call failed, none was made.
 pub record AreSummed (result : Result (List (List ℕ)) AllFault) (entries : List Trusted) (before after : HostState) : Type 0 where
   pub these : List Answer
   pub answered : Answered these before after
-  pub counts : CountsSlices (count_by is_slice these + not_given result) before after
+  pub slices : ℕ
+  pub counts : ReadsSlices slices before after
   pub untouched : OnOk (all_host_part result) (these ≡ [] → after ≡ before)
-  pub ends : AllEnd entries these result
+  pub ends : AllEnd entries these slices result
 
 -- over files: the listed sum, or else that of the file
 abbrev pub IsSumIn : Option (List ℕ) → Option (List ℕ) → List ℕ → Type 0

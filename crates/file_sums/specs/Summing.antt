@@ -3,7 +3,7 @@ use Rattle.std.specs.Prelude.{◌≡◌, ℕ, ◌-◌, ◌<◌, ◌≤◌, List,
 use Rattle.sha2.specs.Sha256.{sha256}
 use Rattle.pf_io.specs.Host.{Name, Answer, LengthWas, HostState, OnHonest}
 use Rattle.pf_io.specs.Answered.{Answered}
-use Rattle.pf_io.specs.Slices.{MOST_BYTES, IsTaken, IsTooLarge, IsStopped, CountsSlices}
+use Rattle.pf_io.specs.Slices.{MOST_BYTES, IsTaken, IsTooLarge, IsStopped, ReadsSlices}
 use Rattle.file_sums.specs.declared.fault.SumFault.{SumFault}
 use Rattle.file_sums.specs.declared.fault.SumFault.TheVariants as faults
 
@@ -39,7 +39,7 @@ slices_asked (Err faults.Host) these = length these
 pub record IsSummed (result : Result (List ℕ) SumFault) (name : Name) (before after : HostState) : Type 0 where
   pub these : List Answer
   pub answered : Answered these before after
-  pub counts : CountsSlices (slices_asked result these) before after
+  pub counts : ReadsSlices (slices_asked result these) before after
   pub ends : SumEnds result name these
 
 -- over the bytes of a file, or none where it is absent

@@ -6,7 +6,7 @@ use Rattle.sha2.specs.Hashers.{Holds256}
 use Rattle.sha2.specs.declared.Sha256.{Sha256}
 use Rattle.pf_io.specs.Host.{Name, HostState}
 use Rattle.pf_io.specs.Answered.{Answered}
-use Rattle.pf_io.specs.Slices.{SLICE, MOST_BYTES, given_in_turn, AreWhole, CountsSlices, SliceCame, NoSliceCame}
+use Rattle.pf_io.specs.Slices.{SLICE, MOST_BYTES, given_in_turn, AreWhole, ReadsSlices, SliceCame, NoSliceCame}
 use Rattle.file_sums.specs.declared.fault.SumFault.{SumFault}
 use Rattle.file_sums.specs.declared.fault.SumFault.TheVariants as faults
 
@@ -32,7 +32,7 @@ pub record Takes (result : Result (List ℕ) SumFault) (name : Name) (before aft
   pub more : List (List ℕ)
   pub are_whole : AreWhole whole
   pub answered : Answered (given_in_turn name 0 (whole ++ more)) before after
-  pub counts : CountsSlices (length (whole ++ more) + not_come result) before after
+  pub counts : ReadsSlices (length (whole ++ more) + not_come result) before after
   pub ends : TakeEnds result whole more
 
 -- the hasher took the slice behind what it had taken

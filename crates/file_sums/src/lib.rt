@@ -3,6 +3,7 @@
 
 mod collecting;
 mod fault;
+mod laws;
 mod lines;
 mod summing;
 #[cfg(test)]
@@ -10,5 +11,6 @@ mod tests;
 
 pub use collecting::{Sums, sum_all};
 pub use fault::{AllFault, SumFault};
+pub use laws::sums_are_decided;
 pub use lines::sum_line;
 pub use summing::sum;

@@ -81,12 +81,11 @@ fn files_of_whole_slices_are_summed_whole(rt: HostRuntime) -> Result<(), Fail> {
     Ok(())
 }
 
-fn script(alloc: Global, len: Option<u64>, slices: &[&[u8]]) -> Result<ScriptHost, Fail> {
+// A host that answers a length, and then a slice.
+fn script(alloc: Global, len: Option<u64>, slice: &[u8]) -> Result<ScriptHost, Fail> {
     let mut host = ScriptHost::new(alloc);
     host.answer(Answer::Len(len))?;
-    for slice in slices {
-        host.answer(Answer::Given(Bytes::copy(alloc, slice)?))?;
-    }
+    host.answer(Answer::Given(Bytes::copy(alloc, slice)?))?;
     Ok(host)
 }
 
@@ -94,19 +93,27 @@ fn script(alloc: Global, len: Option<u64>, slices: &[&[u8]]) -> Result<ScriptHos
 fn the_bytes_given_are_summed_whatever_the_length(rt: HostRuntime) -> Result<(), Fail> {
     let alloc = rt.alloc();
     let whole = vec![in alloc; 0; 16384]?;
-    let mut long = script(alloc, Some(2), &[&whole[..], &b"abc"[..]])?;
+    let mut long = script(alloc, Some(2), &whole)?;
+    long.answer(Answer::Given(Bytes::copy(alloc, b"abc")?))?;
     let sum = summed(alloc, &mut long)?;
     assert_eq!(rt;
         sum.as_str(),
         "0bfc7c7fd07627d2e9ab2582cdf2f078e77a02e722a2c6ecbd00950e2a9fbc42"
     );
-    let mut short = script(alloc, Some(50_000), &[&b"abc"[..], &b"def"[..]])?;
+    let mut short = script(alloc, Some(50_000), b"abc")?;
     let sum = summed(alloc, &mut short)?;
     assert_eq!(rt; sum.as_str(), ABC);
-    let mut absent = script(alloc, None, &[])?;
+    Ok(())
+}
+
+#[test]
+fn answers_that_end_it_are_told_apart(rt: HostRuntime) -> Result<(), Fail> {
+    let alloc = rt.alloc();
+    let mut absent = script(alloc, None, b"abc")?;
     let sum = summed(alloc, &mut absent)?;
     assert_eq!(rt; sum.as_str(), "not found");
-    let mut failing = script(alloc, Some(3), &[&whole[..]])?;
+    let whole = vec![in alloc; 0; 16384]?;
+    let mut failing = script(alloc, Some(3), &whole)?;
     let sum = summed(alloc, &mut failing)?;
     assert_eq!(rt; sum.as_str(), "host fault");
     Ok(())

@@ -1,6 +1,11 @@
 -- A table, and a text, has one outcome.
 use Rattle.std.proofs.Common.{◌≡◌, ◌∙◌, ◌⊎◌, inl, inr, ℕ, List, Option, Some, None, Result, Ok, Err, refl, sym, ap, subst}
+use Rattle.std.specs.Prelude.{IsUtf8}
+use Rattle.std.specs.Str.{is_utf8}
+use Rattle.std.proofs.lemmas.Bool.{cases_Bool}
+use Rattle.std.proofs.lemmas.Str.{IsUtf8-from_is_utf8, is_utf8-from_IsUtf8}
 use Rattle.toml.specs.Data.{Members}
+use Rattle.toml.specs.Parse.{parse_document}
 use Rattle.manifest_model.specs.declared.fault.ManifestFault.{ManifestFault}
 use Rattle.manifest_model.specs.declared.fault.ManifestFault.TheVariants as faults
 use Rattle.manifest_model.specs.Listed.{Lists, Seen, Listed, Accepted, Refused, refusal, lists_of, IsTextOf, ReadsAs, NoText, IsListed, IsRefused}
@@ -17,6 +22,23 @@ one_outcome ms outcome other (Accepted none is) (Accepted none' is') = is ∙ sy
 one_outcome ms outcome other (Accepted none is) (Refused fault some is') = let e : None ≡ Some fault = sym none ∙ some in cc
 one_outcome ms outcome other (Refused fault some is) (Accepted none is') = let e : None ≡ Some fault = sym none ∙ some in cc
 one_outcome ms outcome other (Refused fault some is) (Refused fault' some' is') = let e : Some fault ≡ Some fault' = sym some ∙ some' in let same : fault ≡ fault' = cc in is ∙ ap (λ f. Err f) same ∙ sym is'
+
+-- a text is read as something
+
+found_reading : (bytes : List ℕ) (ms : Members) → IsTextOf bytes ms → (r : Result Lists ManifestFault) → Listed ms r → (outcome : Result Seen ManifestFault) × ReadsAs bytes outcome
+found_reading bytes ms text (Ok lists) listed = (Ok (record { «table» = ms; lists = lists }), IsListed ms lists text listed refl)
+found_reading bytes ms text (Err fault) listed = (Err fault, IsRefused ms fault text listed refl)
+
+parsed_reading : (bytes : List ℕ) → IsUtf8 bytes → (parsed : Option Members) → parse_document bytes ≡ parsed → (outcome : Result Seen ManifestFault) × ReadsAs bytes outcome
+parsed_reading bytes utf8 (Some ms) is = let listed = an_outcome ms in found_reading bytes ms (record { utf8 = utf8; toml = is }) listed.0 listed.1
+parsed_reading bytes utf8 None is = (Err faults.NotToml, NoText (λ ms text. let other = text.toml in absurd (cc)) refl)
+
+pub a_reading : (bytes : List ℕ) → (outcome : Result Seen ManifestFault) × ReadsAs bytes outcome
+a_reading bytes =
+    elim (cases_Bool (is_utf8 bytes)) [
+      | inl is ↦ parsed_reading bytes (IsUtf8-from_is_utf8 bytes is) (parse_document bytes) refl
+      | inr other ↦ (Err faults.NotToml, NoText (λ ms text. let is = is_utf8-from_IsUtf8 bytes text.utf8 in absurd (cc)) refl)
+    ]
 
 one_table : (bytes : List ℕ) (ms ms' : Members) → IsTextOf bytes ms → IsTextOf bytes ms' → ms ≡ ms'
 one_table bytes ms ms' t t' = let e : Some ms ≡ Some ms' = sym t.toml ∙ t'.toml in cc

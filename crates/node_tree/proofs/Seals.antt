@@ -14,7 +14,7 @@ use Rattle.node_tree.specs.Sealing.{seal_for, InBlocks, HasSeals, SealedFile, Le
 use Rattle.node_tree.proofs.Placed.{first_or_rest, with_key}
 
 -- the block that was written is read again
-written : (at : ℕ) (b old : List ℕ) → length b ≡ 4096 → take 4096 (drop at (overwrite at b old)) ≡ b
+pub written : (at : ℕ) (b old : List ℕ) → length b ≡ 4096 → take 4096 (drop at (overwrite at b old)) ≡ b
 written at [] old long = absurd (omega arith)
 written at (c ∷ cs) old long =
     let b = c ∷ cs in

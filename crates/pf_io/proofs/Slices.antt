@@ -1,21 +1,18 @@
 -- A file that is taken in slices, one after the other.
-use Rattle.std.proofs.Common.{◌≡◌, ℕ, ◌+◌, ◌-◌, ◌*◌, ◌<◌, ◌≤◌, true, List, [], ◌∷◌, ◌++◌, length, take, drop, Option, Some, None, refl, sym, ap, subst, ◌∙◌, arith, length-append, length-drop, length-take, Result}
+use Rattle.std.proofs.Common.{◌≡◌, ℕ, zero, suc, ◌+◌, ◌-◌, ◌*◌, ◌<◌, ◌≤◌, true, List, [], ◌∷◌, ◌++◌, length, take, drop, Option, Some, None, refl, sym, ap, subst, ◌∙◌, arith, length-append, length-drop, length-take, Result}
 use Rattle.std.specs.Prelude.{is_some}
 use Rattle.std.specs.List.{concat, AllByRecursion}
 use Rattle.std.proofs.lemmas.List.{take_all, take-append-drop, drop-drop, append-nil, length-take-le}
 use Rattle.std.proofs.lemmas.List.Folds.{concat-append}
-use Rattle.pf_io.specs.Counts.{HasCause}
+use Rattle.pf_io.specs.Counts.{HasCause, counted, counted_times}
 use Rattle.pf_io.specs.Disk.{Name, Files}
 use Rattle.pf_io.specs.Host.{Answer, LengthWas, Gave, HostState, Both, IsMore, KeepsFiles, KeepsRest, ReadsFrom, OnHonest, CountsRead, CountsNeither, length_of, contents}
 use Rattle.pf_io.specs.Answered.{Answered, IsAnswerOf}
-use Rattle.pf_io.specs.Slices.{SLICE, given_in_turn, AreWhole, IsTaken, CountsSlices, SliceCame, NoSliceCame}
+use Rattle.pf_io.specs.Slices.{SLICE, given_in_turn, AreWhole, IsTaken, ReadsSlices, CountsSlices, SliceCame, NoSliceCame}
 use Rattle.pf_io.proofs.Answering.{answered_none, answered_bytes, answered_fault, answered_length, answered_then}
 
 pub counts_none : (n : ℕ) (state : HostState) → CountsSlices n state state
 counts_none n state = record { reads = omega arith; writes = refl; widest = omega arith }
-
-pub counts_once : (room : ℕ) (old new : HostState) → room ≡ SLICE → CountsRead room old new → CountsSlices 1 old new
-counts_once room old new is counts = record { reads = let e = counts.reads in omega (arith, e); writes = counts.writes; widest = let e = counts.widest in omega (arith, e, is) }
 
 pub counts_then : (m n most : ℕ) (old mid new : HostState) → CountsSlices m old mid → CountsSlices n mid new → m + n ≤ most → CountsSlices most old new
 counts_then m n most old mid new first second le = record {
@@ -24,19 +21,52 @@ counts_then m n most old mid new first second le = record {
   widest = let a = first.widest in let b = second.widest in omega (arith, a, b);
 }
 
+-- counts of reads, one after another
+pub times_then : (m n count : ℕ) → counted_times n (counted_times m count) ≡ counted_times (m + n) count
+times_then zero n count = let e : n ≡ zero + n = omega arith in ap (λ (k : ℕ). counted_times k count) e
+times_then (suc m) n count = let e : suc (m + n) ≡ suc m + n = omega arith in times_then m n (counted count) ∙ ap (λ (k : ℕ). counted_times k count) e
+
+times_few : (n count : ℕ) → counted_times n count ≤ count + n
+times_few zero count = omega arith
+times_few (suc n) count = let on = times_few n (counted count) in omega (arith, on)
+
+pub reads_none : (state : HostState) → ReadsSlices 0 state state
+reads_none state = record { reads = refl; writes = refl; widest = omega arith }
+
+pub reads_neither : (old new : HostState) → CountsNeither old new → ReadsSlices 0 old new
+reads_neither old new counts = record { reads = counts.reads; writes = counts.writes; widest = let e = counts.widest in omega (arith, e) }
+
+pub reads_once : (room : ℕ) (old new : HostState) → room ≡ SLICE → CountsRead room old new → ReadsSlices 1 old new
+reads_once room old new is counts = record { reads = counts.reads; writes = counts.writes; widest = let e = counts.widest in omega (arith, e, is) }
+
+pub reads_then : (m n all : ℕ) (old mid new : HostState) → ReadsSlices m old mid → ReadsSlices n mid new → m + n ≡ all → ReadsSlices all old new
+reads_then m n all old mid new first second is = record {
+  reads = second.reads ∙ ap (λ (count : ℕ). counted_times n count) first.reads ∙ times_then m n old.reads ∙ ap (λ (k : ℕ). counted_times k old.reads) is;
+  writes = second.writes ∙ first.writes;
+  widest = let a = first.widest in let b = second.widest in omega (arith, a, b);
+}
+
+-- as many reads are at most as many
+pub counts_few : (n : ℕ) (old new : HostState) → ReadsSlices n old new → CountsSlices n old new
+counts_few n old new reads = record {
+  reads = let e = reads.reads in let few = times_few n old.reads in omega (arith, e, few);
+  writes = reads.writes;
+  widest = reads.widest;
+}
+
 pub slice_came : (name : Name) (at n : ℕ) (before buffer : List ℕ) (old new : HostState) → length before ≡ SLICE → KeepsRest n before buffer → Both old.given new.given (IsMore (Gave name at (length before) (take n buffer) ∷ []))
     → KeepsFiles old new → OnHonest old (λ files. ReadsFrom at n buffer (contents (files name))) → CountsRead (length before) old new → SliceCame name at (take n buffer) old new
 slice_came name at n before buffer old new long rest told files honest counts = record {
   short = let a = rest.within in omega (arith, long, a, length-take-le n buffer (omega (arith, a, rest.same_length)));
   answered = answered_bytes name at n SLICE before buffer old new rest long (subst (λ (r : ℕ). Both old.given new.given (IsMore (Gave name at r (take n buffer) ∷ []))) long told) files honest;
-  counts = counts_once (length before) old new long counts;
+  counts = reads_once (length before) old new long counts;
 }
 
 pub no_slice_came : (room : ℕ) (old new : HostState) → room ≡ SLICE → new.given ≡ old.given → KeepsFiles old new → CountsRead room old new → NoSliceCame 1 old new
-no_slice_came room old new is same files counts = record { answered = answered_fault old new same files; counts = counts_once room old new is counts }
+no_slice_came room old new is same files counts = record { answered = answered_fault old new same files; counts = reads_once room old new is counts }
 
 pub none_asked : (state : HostState) → NoSliceCame 0 state state
-none_asked state = record { answered = answered_none state; counts = counts_none 0 state }
+none_asked state = record { answered = answered_none state; counts = reads_none state }
 
 -- a cause after calls that were no fault
 pub cause_on : (a b c : ℕ) (r : Result (Unit {0}) (Unit {0})) → b ≡ a → HasCause b c r → HasCause a c r
@@ -69,8 +99,8 @@ more_answered name len whole slice old mid new is first came =
     in_turn_append name 0 whole (slice ∷ []) ∙ ap (λ (k : ℕ). given_in_turn name 0 whole ++ Gave name k SLICE slice ∷ []) place in
     subst (λ (l : List Answer). Answered l old new) (sym all) (answered_then (given_in_turn name 0 whole) (Gave name len SLICE slice ∷ []) old mid new first came.answered)
 
-pub more_counts : (n : ℕ) (whole : List (List ℕ)) (slice : List ℕ) (old mid new : HostState) → CountsSlices (length whole) old mid → CountsSlices 1 mid new → n ≡ 0 → CountsSlices (length (whole ++ slice ∷ []) + n) old new
-more_counts n whole slice old mid new first second is = counts_then (length whole) 1 (length (whole ++ slice ∷ []) + n) old mid new first second (omega (arith, is, length-append whole (slice ∷ [])))
+pub more_counts : (n : ℕ) (whole : List (List ℕ)) (slice : List ℕ) (old mid new : HostState) → CountsSlices (length whole) old mid → ReadsSlices 1 mid new → n ≡ 0 → CountsSlices (length (whole ++ slice ∷ []) + n) old new
+more_counts n whole slice old mid new first second is = counts_then (length whole) 1 (length (whole ++ slice ∷ []) + n) old mid new first (counts_few 1 mid new second) (omega (arith, is, length-append whole (slice ∷ [])))
 
 pub long_last : (whole : List (List ℕ)) (slice : List ℕ) → length (concat (whole ++ slice ∷ [])) ≡ length (concat whole) + length slice
 long_last whole slice = ap (λ (l : List ℕ). length l) (concat_last whole slice) ∙ length-append (concat whole) slice

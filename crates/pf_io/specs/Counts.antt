@@ -1,5 +1,5 @@
 -- Counts that rise and stand still at their last value, and the causes that rest on them.
-use Rattle.std.specs.Prelude.{◌≡◌, ℕ, ◌+◌, ◌-◌, ◌^◌, ◌≤◌, min, Result, OnOk, OnErr}
+use Rattle.std.specs.Prelude.{◌≡◌, ℕ, zero, suc, ◌+◌, ◌-◌, ◌^◌, ◌≤◌, min, Result, OnOk, OnErr}
 
 -- the last value of a count, at which it stands still
 abbrev pub LAST : ℕ
@@ -13,17 +13,13 @@ counted_by n count = min (count + n) LAST
 abbrev pub counted : ℕ → ℕ
 counted count = counted_by 1 count
 
--- the count rose, or stands at its last value
-abbrev pub Rose : ℕ → ℕ → Type 0
-Rose before now = counted before ≤ now
+-- a count after n more, one after another
+abbrev pub counted_times : ℕ → ℕ → ℕ
+counted_times zero count = count
+counted_times (suc n) count = counted_times n (counted count)
 
 -- The count of faults never falls. At Ok it is as before, so no fault was passed over, and one that is answered is counted once, so none was passed over before it.
 pub record HasCause {T E : Type 0} (before now : ℕ) (result : Result T E) : Type 0 where
   pub later : before ≤ now
-  pub still : OnOk result (now ≡ before)
-  pub once : OnErr result (now ≡ counted before)
-
--- a want of memory is counted once, and at Ok the count is as before
-pub record CountsFault {T E : Type 0} (before now : ℕ) (result : Result T E) : Type 0 where
   pub still : OnOk result (now ≡ before)
   pub once : OnErr result (now ≡ counted before)

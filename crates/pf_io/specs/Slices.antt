@@ -1,6 +1,7 @@
 -- The slices that a host gives of a file that is taken whole.
 use Rattle.std.specs.Prelude.{◌≡◌, ℕ, ◌+◌, ◌^◌, ◌<◌, ◌≤◌, max, List, [], ◌∷◌, ◌++◌, length, Some}
 use Rattle.std.specs.List.{concat, AllByRecursion}
+use Rattle.pf_io.specs.Counts.{counted_times}
 use Rattle.pf_io.specs.Disk.{Name}
 use Rattle.pf_io.specs.Host.{Answer, LengthWas, Gave, HostState}
 use Rattle.pf_io.specs.Answered.{Answered}
@@ -48,6 +49,12 @@ pub data IsStopped (name : Name) (these : List Answer) : Type 0 where
   at_length : these ≡ [] → IsStopped name these
   at_slice : (whole : List (List ℕ)) → CameInTurn name whole [] these → length (concat whole) ≤ MOST_BYTES → IsStopped name these
 
+-- the counts after n reads of a slice
+pub record ReadsSlices (n : ℕ) (old new : HostState) : Type 0 where
+  pub reads : new.reads ≡ counted_times n old.reads
+  pub writes : new.writes ≡ old.writes
+  pub widest : new.widest ≤ max old.widest SLICE
+
 -- the counts after at most n reads of a slice
 pub record CountsSlices (n : ℕ) (old new : HostState) : Type 0 where
   pub reads : new.reads ≤ old.reads + n
@@ -58,9 +65,9 @@ pub record CountsSlices (n : ℕ) (old new : HostState) : Type 0 where
 pub record SliceCame (name : Name) (at : ℕ) (slice : List ℕ) (before after : HostState) : Type 0 where
   pub short : length slice ≤ SLICE
   pub answered : Answered (Gave name at SLICE slice ∷ []) before after
-  pub counts : CountsSlices 1 before after
+  pub counts : ReadsSlices 1 before after
 
 -- no slice came; n reads failed
 pub record NoSliceCame (n : ℕ) (before after : HostState) : Type 0 where
   pub answered : Answered [] before after
-  pub counts : CountsSlices n before after
+  pub counts : ReadsSlices n before after

@@ -15,7 +15,7 @@ use Rattle.trusted_chunks.specs.Reading.{host_part, NextIs, NoMemory, FetchEnds,
 use Rattle.trusted_chunks.specs.Fetching.{ChunkEnds}
 use Rattle.trusted_chunks.specs.declared.fault.ChunkFault.{ChunkFault}
 use Rattle.trusted_chunks.specs.declared.fault.ChunkFault.TheVariants as faults
-use Rattle.pf_io.proofs.Slices.{counts_none, counts_then, cause_on}
+use Rattle.pf_io.proofs.Slices.{counts_none, counts_then, cause_on, counts_few}
 
 pub kept_with_append : (xs ys : List (ℕ × List ℕ)) (kept : Kept) → kept_with (xs ++ ys) kept ≡ kept_with ys (kept_with xs kept)
 kept_with_append [] ys kept = refl
@@ -95,7 +95,7 @@ pub fetched_one : (name : Name) (hash : ℕ → List ℕ) (c : ℕ) (slice : Lis
 fetched_one name hash c slice old new s0 s1 (came, right) put = record {
   these = chunk_answer name (c, slice) ∷ [];
   answered = came.answered;
-  counts = came.counts;
+  counts = counts_few 1 s0 s1 came.counts;
   came = (c, slice) ∷ [];
   right = (right, tt);
   kept = put;
@@ -106,7 +106,7 @@ pub unkept_one : (name : Name) (hash : ℕ → List ℕ) (c : ℕ) (slice : List
 unkept_one name hash c slice old new s0 s1 (came, right) same = record {
   these = chunk_answer name (c, slice) ∷ [];
   answered = came.answered;
-  counts = came.counts;
+  counts = counts_few 1 s0 s1 came.counts;
   came = [];
   right = tt;
   kept = same;
@@ -118,14 +118,14 @@ pub failed_one : (fault : ChunkFault) (name : Name) (hash : ℕ → List ℕ) (c
 failed_one (faults.Damaged d) name hash c kept s0 s1 (is, (slice, came, wrong)) = rw is (record {
   these = chunk_answer name (c, slice) ∷ [];
   answered = came.answered;
-  counts = came.counts;
+  counts = counts_few 1 s0 s1 came.counts;
   came = [];
   right = tt;
   kept = refl;
   ends = record { slice = slice; next = ([], refl); asked = refl; wrong = wrong };
 })
-failed_one faults.Host name hash c kept s0 s1 none = record { these = []; answered = none.answered; counts = none.counts; came = []; right = tt; kept = refl; ends = record { c = c; next = ([], refl); asked = refl } }
-failed_one faults.Memory name hash c kept s0 s1 none = record { these = []; answered = none.answered; counts = none.counts; came = []; right = tt; kept = refl; ends = NoMemory.unasked (record { c = c; next = ([], refl); asked = refl }) }
+failed_one faults.Host name hash c kept s0 s1 none = record { these = []; answered = none.answered; counts = counts_few 1 s0 s1 none.counts; came = []; right = tt; kept = refl; ends = record { c = c; next = ([], refl); asked = refl } }
+failed_one faults.Memory name hash c kept s0 s1 none = record { these = []; answered = none.answered; counts = counts_few 0 s0 s1 none.counts; came = []; right = tt; kept = refl; ends = NoMemory.unasked (record { c = c; next = ([], refl); asked = refl }) }
 
 -- a fault is one of the host or not, whatever was to come
 pub same_part : (T U : Type 0) (fault : ChunkFault) → host_part {T = T} (Err fault) ≡ host_part {T = U} (Err fault)

@@ -1,17 +1,15 @@
 -- How an opening ends, by the length that came and the slices that were taken.
-use Rattle.std.proofs.Common.{Contains, ◌≡◌, ◌≢◌, ℕ, ◌+◌, ◌-◌, ◌<◌, ◌≤◌, true, List, [], ◌∷◌, ◌++◌, length, take, drop, Option, Some, None, refl, sym, ap, subst, ◌∙◌, arith, length-append, length-drop, length-take, Result, Ok, Err}
-use Rattle.std.specs.Prelude.{is_some}
+use Rattle.std.proofs.Common.{Contains, ◌≡◌, ◌≢◌, ℕ, ◌+◌, ◌<◌, ◌≤◌, List, [], ◌∷◌, ◌++◌, length, Some, refl, sym, ap, subst, ◌∙◌, arith, Result, Ok, Err}
 use Rattle.std.specs.List.{concat, AllByRecursion}
-use Rattle.std.proofs.lemmas.List.{take_all, take-append-drop, drop-drop, append-nil}
 use Rattle.std.proofs.lemmas.Option.{IfSome_then}
 use Rattle.std.proofs.lemmas.List.FromFn.{length-map-range_with_len}
 use Rattle.sha2.specs.Sha256.{sha256}
-use Rattle.pf_io.specs.Host.{Name, Files, Answer, LengthWas, HostState, Both, IsMore, KeepsFiles, OnHonest, CountsNeither, length_of, contents, files_of}
-use Rattle.pf_io.specs.Answered.{Answered, IsAnswerOf}
-use Rattle.pf_io.proofs.Answering.{answered_length, answered_then}
+use Rattle.pf_io.specs.Host.{Name, Files, Answer, LengthWas, HostState, files_of}
+use Rattle.pf_io.specs.Answered.{IsAnswerOf}
+use Rattle.pf_io.proofs.Answering.{answered_then}
 use Rattle.lru.proofs.Splits.{Contains-nil}
-use Rattle.trusted_chunks.specs.Chunks.{CHUNK, chunk, chunk_count}
-use Rattle.pf_io.specs.Slices.{MOST_BYTES, given_in_turn, AreWhole, IsTaken, CountsSlices, IsStopped}
+use Rattle.trusted_chunks.specs.Chunks.{chunk, chunk_count}
+use Rattle.pf_io.specs.Slices.{MOST_BYTES, given_in_turn, IsTaken, IsStopped}
 use Rattle.trusted_chunks.specs.State.{Kept, FileState, IsSound}
 use Rattle.trusted_chunks.specs.Taking.{Takes}
 use Rattle.trusted_chunks.specs.Opening.{IsStarved, OpenEnds, Opens, OpensFile, HonestOpen}

@@ -1,9 +1,8 @@
 -- The sums of chunks, of bytes that are taken slice by slice.
 use Rattle.std.proofs.Common.{◌≡◌, ℕ, zero, suc, ◌+◌, ◌-◌, ◌*◌, ◌<◌, ◌≤◌, List, [], ◌∷◌, ◌++◌, length, take, drop, map, refl, ap, ◌∙◌, arith, length-append, length-drop}
 use Rattle.std.proofs.Math.Seq.{drop-append-add}
-use Rattle.std.proofs.lemmas.List.{take_all, take-append-le, map-append, append-nil}
-use Rattle.std.proofs.lemmas.List.Folds.{concat-append}
-use Rattle.std.specs.List.{range_with_len, concat}
+use Rattle.std.proofs.lemmas.List.{take_all, take-append-le, map-append}
+use Rattle.std.specs.List.{range_with_len}
 use Rattle.sha2.specs.Sha256.{sha256}
 use Rattle.trusted_chunks.specs.Chunks.{CHUNK, chunk, chunk_count, sums_of}
 use Rattle.trusted_chunks.proofs.Lists.{drop_join}

@@ -19,7 +19,7 @@ use Rattle.trusted_chunks.specs.Taking.{SliceTaken, SliceEnds, Takes}
 use Rattle.trusted_chunks.specs.declared.fault.TrustFault.{TrustFault}
 use Rattle.trusted_chunks.specs.declared.fault.TrustFault.TheVariants as faults
 use Rattle.trusted_chunks.specs.declared.slices.Taken.{Taken}
-use Rattle.pf_io.proofs.Slices.{counts_none, counts_then, cause_on, whole_length, concat_last, long_last, more_answered, more_counts}
+use Rattle.pf_io.proofs.Slices.{counts_none, counts_then, counts_few, cause_on, whole_length, concat_last, long_last, more_answered, more_counts}
 use Rattle.trusted_chunks.proofs.Summing.{sums_append}
 
 -- after some whole slices
@@ -60,7 +60,7 @@ taken_more name len n hashes hashes' hasher hasher' old mid new was taken is_who
       whole = was.whole ++ slice ∷ [];
       are_whole = all_both (λ s. length s ≡ CHUNK) was.whole (slice ∷ []) was.are_whole (sym taken.length_is ∙ is_whole, tt);
       answered = more_answered name len was.whole slice old mid new was.len_is was.answered taken.came;
-      counts = counts_then (length was.whole) 1 (length (was.whole ++ slice ∷ [])) old mid new was.counts taken.came.counts (omega (arith, length-append was.whole (slice ∷ [])));
+      counts = counts_then (length was.whole) 1 (length (was.whole ++ slice ∷ [])) old mid new was.counts (counts_few 1 mid new taken.came.counts) (omega (arith, length-append was.whole (slice ∷ [])));
       faults = faults ∙ was.faults;
       disk = kept_then old mid new was.disk disk;
       len_is = let a = was.len_is in let b = taken.length_is in omega (arith, a, b, long);
@@ -115,7 +115,7 @@ taken_failed faults.Host name len hashes hashes' hasher hasher' old mid new was 
       more = [];
       are_whole = was.are_whole;
       answered = subst (λ (l : List Answer). Answered l old new) (append-nil (given_in_turn name 0 was.whole) ∙ ap (λ (l : List (List ℕ)). given_in_turn name 0 l) (sym all)) (answered_then (given_in_turn name 0 was.whole) [] old mid new was.answered none.answered);
-      counts = counts_then (length was.whole) 1 (length (was.whole ++ []) + 1) old mid new was.counts none.counts (omega (arith, length-append {A = List ℕ} was.whole []));
+      counts = counts_then (length was.whole) 1 (length (was.whole ++ []) + 1) old mid new was.counts (counts_few 1 mid new none.counts) (omega (arith, length-append {A = List ℕ} was.whole []));
       ends = (refl, was.within);
     }
 taken_failed faults.Memory name len hashes hashes' hasher hasher' old mid new was (slice, came, small) = record {

@@ -1,4 +1,4 @@
-use Rattle.std.proofs.Common.{◌≡◌, ◌∙◌, List, None, ap, sym, subst}
+use Rattle.std.proofs.Common.{◌≡◌, ◌∙◌, List, ap, sym, subst}
 use Rattle.toml.specs.View.{table_view}
 use Rattle.manifest_model.specs.declared.entries.Trusted.{Trusted}
 use Rattle.manifest_model.specs.Listed.{refusal, sgx, trusted_of}
