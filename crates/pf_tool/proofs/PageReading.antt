@@ -31,6 +31,7 @@ use Rattle.pf_tool.specs.declared.fault.Fault.TheVariants as faults
 use Rattle.pf_tool.specs.declared.why.Why.TheVariants as whys
 use Rattle.pf_tool.proofs.Asking.{asked_then, passed_asked}
 use Rattle.pf_tool.proofs.Composing.{reads_then, writes_then, failed_host}
+use Rattle.pf_tool.proofs.PieceRuns.{same_given}
 use Rattle.pf_tool.proofs.Stopping.{refused, host_fails, starves_at}
 
 abbrev Kept : List Event → Stop → HostState → HostState → Type 0
@@ -67,8 +68,8 @@ absent_counted : (name : Name) → Counted (LengthWas name None ∷ [])
 absent_counted name = record { reads = λ n. refl; writes = λ n. refl }
 
 -- these answers came, and no call failed
-all_passed : (these : List Answer) (old new : HostState) → Answered these old new → CountsReads these old new → Counted these → new.faults ≡ old.faults → (these ≡ [] → new ≡ old) → HostPassed these old new
-all_passed these old new answered counts agree calm untouched = record {
+came_passed : (these : List Answer) (old new : HostState) → Answered these old new → CountsReads these old new → Counted these → new.faults ≡ old.faults → (these ≡ [] → new ≡ old) → HostPassed these old new
+came_passed these old new answered counts agree calm untouched = record {
   told = answered.told;
   calm = calm;
   reads = counts.reads ∙ agree.reads old.reads;
@@ -122,12 +123,6 @@ page_at (first ∷ front) page others = page_at front page others
 file_is : (pages front : List Page) (page : Page) (others : List Page) (name : Name) (at : ℕ) → pages ≡ front ++ page ∷ others → IsOfFile page name at → file_at (slice_get pages (length front)) ≡ Some name
 file_is pages front page others name at whole of =
     ap (λ (l : List Page). file_at (slice_get l (length front))) whole ∙ ap (λ (p : Option Page). file_at p) (page_at front page others) ∙ ap (λ (s : Source). measuring.file_of s) of.source
-
-same_given : (o p : Option (List Answer)) → Both o p (IsMore []) → p ≡ o
-same_given (Some a) (Some b) more = ap (λ (l : List Answer). Some l) (more ∙ append-nil a)
-same_given None None more = refl
-same_given (Some a) None more = absurd more
-same_given None (Some b) more = absurd more
 
 module _ (layout : Listed) (old new : HostState) where
   -- a state of the host between two calls, by what it told
@@ -242,7 +237,7 @@ module _ (layout : Listed) (old new : HostState) where
           name = name;
           measured = Ended front here others before last contents name at fault whole gives of ends said is;
           named = subst (λ (k : ℕ). IsPageFile layout k name) (sym at_end.0) (file_is layout.pages front here others name at whole of);
-          passed = all_passed these old new answered counts (subst Counted (sym all) agree) calm (λ none. absurd (not_none before (LengthWas name None) (sym all ∙ none)));
+          passed = came_passed these old new answered counts (subst Counted (sym all) agree) calm (λ none. absurd (not_none before (LengthWas name None) (sym all ∙ none)));
         }
       where
         not_none : (xs : List Answer) (x : Answer) → xs ++ x ∷ [] ≡ [] → ⊥
@@ -264,14 +259,6 @@ module _ (layout : Listed) (old new : HostState) where
     by_end (Whole contents gives is) = record {
       these = came.these;
       measures = Whole contents gives is;
-      passed = all_passed came.these old new came.answered came.counted (pages_counted layout.pages came.these contents gives) calm came.untouched;
+      passed = came_passed came.these old new came.answered came.counted (pages_counted layout.pages came.these contents gives) calm came.untouched;
     }
     by_end (Ended front page others before last contents name at fault whole gives of ends said is) = absurd (cc)
-
--- a page that is named has a file
-pub page_named : (layout : Listed) (these : List Answer) (page : ℕ) → Measures layout these (Err (measures.NotFound page)) → (name : Name) × IsPageFile layout page name
-page_named layout these page (Whole contents gives is) = absurd (cc)
-page_named layout these page (Ended front here others before last contents name at fault whole gives of ends said is) =
-    let same : fault ≡ measures.NotFound page = cc in
-    let at_end : (page ≡ length front) × (last ≡ LengthWas name None ∷ []) = subst (λ (f : MeasureFault). EndsAt (length front) name last f) same ends in
-    (name, subst (λ (k : ℕ). IsPageFile layout k name) (sym at_end.0) (file_is layout.pages front here others name at whole of))

@@ -2,7 +2,7 @@ use Rattle.std.proofs.Common.{◌≡◌, List, ℕ, subst, sym, Result, Ok, Err}
 use Rattle.pf_io.specs.Counts.{HasCause}
 use Rattle.enclave_measure.specs.declared.fault.MeasureFault.{MeasureFault}
 use Rattle.enclave_measure.specs.Measuring.{IsMeasured, host_part}
-use Rattle.pf_tool.proofs.PageReading.{host_failed, file_absent_at, absent_falls, all_measured, page_named}
+use Rattle.pf_tool.proofs.PageReading.{host_failed, file_absent_at, absent_falls, all_measured}
 use Rattle.pf_tool.proofs.measuring.measure_pages.Goals as goal
 
 pub returns-in-Ok-clause-measured : goal.returns-in-Ok-clause-measured
