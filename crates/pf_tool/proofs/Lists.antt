@@ -23,6 +23,13 @@ one_more (v ∷ xs) a least p =
     let n : length xs ≤ length (v ∷ xs) - 1 = omega arith in
     ap (λ c. c ∷ xs) (sym p) ∙ ap (λ l. a ∷ l) (sym (take_all (length (v ∷ xs) - 1) xs n))
 
+-- the items of a list of two
+pub two : {A : Type 0} → (xs : List A) (a b : A) → 2 ≤ length xs → length xs < 3 → a ≡ slice_index_or xs 0 a → b ≡ slice_index_or xs 1 b → xs ≡ a ∷ b ∷ []
+two [] a b least most p q = absurd (omega arith)
+two (v ∷ []) a b least most p q = absurd (omega arith)
+two (v ∷ w ∷ []) a b least most p q = cc
+two (v ∷ w ∷ x ∷ more) a b least most p q = absurd (omega arith)
+
 -- a list of at least two
 pub two_more : {A : Type 0} → (xs : List A) (a b : A) → 2 ≤ length xs → a ≡ slice_index_or xs 0 a → b ≡ slice_index_or xs 1 b → xs ≡ a ∷ b ∷ take (length xs - 2) (drop 2 xs)
 two_more [] a b least p q = absurd (omega arith)
@@ -47,14 +54,16 @@ pub operand_told : (bytes word : List ℕ) → bytes ≡ word → 2 ≤ length w
 operand_told bytes [] same least = absurd (omega arith)
 operand_told bytes (a ∷ []) same least = absurd (omega arith)
 operand_told bytes (a ∷ b ∷ rest) same least =
-    let first : slice_index_or bytes 0 0 ≡ a = ap (λ (l : List ℕ). slice_index_or l 0 0) same in
-    (λ other c more is.
-    let dash : nat_eq (slice_index_or bytes 0 0) 45 ≡ true = eq-eqb (slice_index_or bytes 0 0) 45 (first ∙ the_first a b rest c more is) in
-    never_true (subst (λ (t : Bool). IsTrue (not t)) dash other), λ operand.
-    elim (cases_Bool (nat_eq (slice_index_or bytes 0 0) 45)) [
-      | inl is ↦ absurd (operand b rest (ap (λ (n : ℕ). n ∷ b ∷ rest) (sym first ∙ eqb-true (slice_index_or bytes 0 0) 45 is)))
-      | inr other ↦ subst (λ (t : Bool). IsTrue (not t)) (sym other) refl
-    ])
+    let first : slice_index_or bytes 0 0 ≡ a = ap (λ (l : List ℕ). slice_index_or l 0 0) same in (
+      λ other c more is.
+          let dash : nat_eq (slice_index_or bytes 0 0) 45 ≡ true = eq-eqb (slice_index_or bytes 0 0) 45 (first ∙ the_first a b rest c more is) in
+          never_true (subst (λ (t : Bool). IsTrue (not t)) dash other),
+      λ operand.
+          elim (cases_Bool (nat_eq (slice_index_or bytes 0 0) 45)) [
+            | inl is ↦ absurd (operand b rest (ap (λ (n : ℕ). n ∷ b ∷ rest) (sym first ∙ eqb-true (slice_index_or bytes 0 0) 45 is)))
+            | inr other ↦ subst (λ (t : Bool). IsTrue (not t)) (sym other) refl
+          ],
+    )
   where
     the_first : (a b : ℕ) (rest : List ℕ) (c : ℕ) (more : List ℕ) → a ∷ b ∷ rest ≡ 45 ∷ c ∷ more → a ≡ 45
     the_first a b rest c more is = cc
