@@ -47,14 +47,16 @@ pub operand_told : (bytes word : List ℕ) → bytes ≡ word → 2 ≤ length w
 operand_told bytes [] same least = absurd (omega arith)
 operand_told bytes (a ∷ []) same least = absurd (omega arith)
 operand_told bytes (a ∷ b ∷ rest) same least =
-    let first : slice_index_or bytes 0 0 ≡ a = ap (λ (l : List ℕ). slice_index_or l 0 0) same in
-    (λ other c more is.
-    let dash : nat_eq (slice_index_or bytes 0 0) 45 ≡ true = eq-eqb (slice_index_or bytes 0 0) 45 (first ∙ the_first a b rest c more is) in
-    never_true (subst (λ (t : Bool). IsTrue (not t)) dash other), λ operand.
-    elim (cases_Bool (nat_eq (slice_index_or bytes 0 0) 45)) [
-      | inl is ↦ absurd (operand b rest (ap (λ (n : ℕ). n ∷ b ∷ rest) (sym first ∙ eqb-true (slice_index_or bytes 0 0) 45 is)))
-      | inr other ↦ subst (λ (t : Bool). IsTrue (not t)) (sym other) refl
-    ])
+    let first : slice_index_or bytes 0 0 ≡ a = ap (λ (l : List ℕ). slice_index_or l 0 0) same in (
+      λ other c more is.
+          let dash : nat_eq (slice_index_or bytes 0 0) 45 ≡ true = eq-eqb (slice_index_or bytes 0 0) 45 (first ∙ the_first a b rest c more is) in
+          never_true (subst (λ (t : Bool). IsTrue (not t)) dash other),
+      λ operand.
+          elim (cases_Bool (nat_eq (slice_index_or bytes 0 0) 45)) [
+            | inl is ↦ absurd (operand b rest (ap (λ (n : ℕ). n ∷ b ∷ rest) (sym first ∙ eqb-true (slice_index_or bytes 0 0) 45 is)))
+            | inr other ↦ subst (λ (t : Bool). IsTrue (not t)) (sym other) refl
+          ],
+    )
   where
     the_first : (a b : ℕ) (rest : List ℕ) (c : ℕ) (more : List ℕ) → a ∷ b ∷ rest ≡ 45 ∷ c ∷ more → a ≡ 45
     the_first a b rest c more is = cc

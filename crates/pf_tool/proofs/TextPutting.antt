@@ -47,6 +47,7 @@ parted f a zero n lt =
   where
     the_same : (a : ℕ) → a ≡ a + 0
     the_same a = omega arith
+
     the_rest : (n : ℕ) → n - 1 ≡ n - 0 - 1
     the_rest n = omega arith
 parted f a (suc k) n lt =
@@ -94,7 +95,7 @@ module _ (text : List ℕ) where
   split_events k lt =
       let rest = map (piece_at text) (range_with_len (k + 1) (count_of text - k - 1)) in
       let whole : first_pieces k ++ piece_at text k ∷ rest ≡ pieces_of text =
-          ap (λ (b : ℕ). first_pieces k ++ piece_at text b ∷ map (piece_at text) (range_with_len (b + 1) (count_of text - k - 1))) (omega arith) ∙ sym (parted (piece_at text) 0 k (count_of text) lt) in
+      ap (λ (b : ℕ). first_pieces k ++ piece_at text b ∷ map (piece_at text) (range_with_len (b + 1) (count_of text - k - 1))) (omega arith) ∙ sym (parted (piece_at text) 0 k (count_of text) lt) in
       sym (map-append Puts (first_pieces k) (piece_at text k ∷ rest)) ∙ ap (map Puts) whole
 
   pub piece_fails : (world : World) (k : ℕ) (piece : List ℕ) (fault : Fault) (old mid new : SinkState) → fault ≡ faults.Stream → k < count_of text → piece ≡ piece_at text k → OutPassed (first_pieces k) old mid

@@ -8,8 +8,7 @@ const HELLO: &[u8] = b"# {# note #}hello\nloader.entrypoint = \"file:{{ gramine.
 
 const RENDERED: &[u8] = b"# hello\nloader.entrypoint = \"file:/b/libsysdb.so\"\n";
 
-const TO_OUT: &str =
-    "manifest -D gramine.libos=/a -Dgramine.libos=/b/libsysdb.so hello.template m";
+const TO_OUT: &str = "manifest -D gramine.libos=/a -Dgramine.libos=/b/libsysdb.so hello.template m";
 
 fn host_with(alloc: Global, name: &str, content: &[u8]) -> Result<MemHost, Memory> {
     let mut host = MemHost::new(alloc);
@@ -22,7 +21,14 @@ fn a_template_is_rendered_with_the_last_of_two_values(rt: HostRuntime) -> Result
     let alloc = rt.alloc();
     let mut host = host_with(alloc, "hello.template", HELLO)?;
     let line = "manifest -D gramine.libos=/a -Dgramine.libos=/b/libsysdb.so hello.template";
-    expect(&rt, &ran(alloc, &mut host, line)?, 0, RENDERED, b"", "output");
+    expect(
+        &rt,
+        &ran(alloc, &mut host, line)?,
+        0,
+        RENDERED,
+        b"",
+        "output",
+    );
     expect(&rt, &ran(alloc, &mut host, TO_OUT)?, 0, b"", b"", "file");
     assert_eq!(rt; host.bytes("m"), Some(RENDERED));
     assert_eq!(rt; host.bytes("m.new"), None::<&[u8]>);
@@ -31,12 +37,7 @@ fn a_template_is_rendered_with_the_last_of_two_values(rt: HostRuntime) -> Result
 }
 
 // A template, run without values, is refused so.
-fn expect_refused(
-    rt: &impl Abort,
-    alloc: Global,
-    template: &[u8],
-    log: &[u8],
-) -> Result<(), Fail> {
+fn expect_refused(rt: &impl Abort, alloc: Global, template: &[u8], log: &[u8]) -> Result<(), Fail> {
     let mut host = host_with(alloc, "t", template)?;
     let refused = ran(alloc, &mut host, "manifest t")?;
     expect(rt, &refused, 3, b"", log, "refused");
@@ -46,8 +47,18 @@ fn expect_refused(
 #[test]
 fn templates_are_refused_at_their_place(rt: HostRuntime) -> Result<(), Fail> {
     let alloc = rt.alloc();
-    expect_refused(&rt, alloc, b"a {{ x }}", b"refused template unknown x at 2\n")?;
-    expect_refused(&rt, alloc, b"{% for i in x %}", b"refused template statement at 0\n")?;
+    expect_refused(
+        &rt,
+        alloc,
+        b"a {{ x }}",
+        b"refused template unknown x at 2\n",
+    )?;
+    expect_refused(
+        &rt,
+        alloc,
+        b"{% for i in x %}",
+        b"refused template statement at 0\n",
+    )?;
     expect_refused(&rt, alloc, b"{{ a", b"refused template unclosed at 0\n")?;
     expect_refused(&rt, alloc, b"{{ a + b }}", b"refused template name at 0\n")?;
     expect_refused(&rt, alloc, b"\xff", b"refused template not utf-8\n")

@@ -24,9 +24,7 @@ fn operands_of(words: &[String]) -> Option<(&str, Option<&str>)>
 {
     match words {
         [template] if is_operand(template.as_str()) => Some((template.as_str(), None)),
-        [template, output]
-            if is_operand(template.as_str()) && is_operand(output.as_str()) =>
-        {
+        [template, output] if is_operand(template.as_str()) && is_operand(output.as_str()) => {
             Some((template.as_str(), Some(output.as_str())))
         }
         _ => None,
