@@ -107,8 +107,11 @@ def test_script_gives_an_unproved_build_whole_names():
     here = os.getcwd()
     is_tried(script("decrypt", "-w", "key", "-i", "/in"), f"decrypt|-w|{here}/key|-i|/in|")
     is_tried(script("encrypt", "-w", "", "-i", "a b", "-o", "/out"), f"encrypt|-w||-i|{here}/a b|-o|/out|")
-    ran = script("encrypt", "-w", "key", "-i", "in", "-o", "out")
-    same((ran.status, ran.out, ran.log), (126, b"", f"{NONE}, and an unproved build takes no OUT that does not begin with /\n"), "OUT")
+    is_tried(script("manifest", "-D", "a=b", "-Dc=d", "t"), f"manifest|-D|a=b|-Dc=d|{here}/t|")
+    is_tried(script("manifest", "", "/out"), "manifest||/out|")
+    for words in (("encrypt", "-w", "key", "-i", "in", "-o", "out"), ("manifest", "t", "out")):
+        ran = script(*words)
+        same((ran.status, ran.out, ran.log), (126, b"", f"{NONE}, and an unproved build takes no OUT that does not begin with /\n"), "OUT")
 
 
 def test_script_says_that_a_build_failed():

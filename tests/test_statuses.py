@@ -24,6 +24,19 @@ def test_status_0_what_was_encrypted_is_decrypted():
         holds(got("in"))
 
 
+def test_status_0_a_template_is_rendered():
+    words = ["manifest", "-D", "gramine.libos=/a", "-Dgramine.libos=/b", os.path.join(TOP, "examples/hello.template")]
+    text = b'# hello\nloader.entrypoint = "file:/b"\n'
+    ran = tool(*words)
+    same((ran.status, ran.out, ran.log), (0, text, ""), str(ran))
+    put("m", b"old", 0o644)
+    ends(tool(*words, "m"), 0)
+    same((got("m"), os.stat("m").st_mode & 0o777, os.path.exists("m.new")), (text, 0o644, False), "OUT")
+    put("t", b"a {{ x }}")
+    ends(tool("manifest", "t", "m"), 3, "refused template unknown x at 2")
+    same(got("m"), text, "OUT")
+
+
 def test_status_1_damage():
     encrypt()
     node = got("out.pf")
