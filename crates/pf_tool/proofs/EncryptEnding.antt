@@ -1,23 +1,17 @@
 -- `encrypt` from its parts: the reading of the key, and then the sealing of the input.
-use Rattle.std.proofs.Common.{◌≡◌, ◌⊎◌, inl, inr, ⊎_elim, ℕ, List, [], ◌++◌, take, refl, subst, ap, ◌∙◌, Option, Some, None, Result, Ok, Err, IfSome}
-use Rattle.std.specs.Prelude.{option_map}
-use Rattle.std.proofs.lemmas.List.Elements.{Contains-append_right}
+use Rattle.std.proofs.Common.{◌≡◌, ◌⊎◌, inl, inr, ℕ, List, [], ◌++◌, take, refl, subst, ap, ◌∙◌, Result, Ok, Err}
 use Rattle.std.proofs.lemmas.Option.{IfSome_then}
-use Rattle.pf_io.specs.Disk.{Name, Files, File, Disk, Image, IsImage, reading}
-use Rattle.pf_io.specs.Host.{Made, Swapped, HostState, Both, KeepsFiles, OnHonest, files_of, contents}
-use Rattle.pf_io.specs.Moments.{Honest, Ran}
-use Rattle.pf_io.specs.Names.{IsTarget, side_of}
-use Rattle.pf_io.specs.Steps.{Stays}
+use Rattle.pf_io.specs.Disk.{Name, Files}
+use Rattle.pf_io.specs.Host.{HostState, KeepsFiles, OnHonest, files_of, contents}
+use Rattle.pf_io.specs.Names.{IsTarget}
 use Rattle.pf_io.specs.Unchanged.{KeepsDisk}
-use Rattle.pf_io.proofs.Runs.{started, goes_on_ran}
 use Rattle.pf_tool.specs.World.{World}
-use Rattle.pf_tool.specs.Events.{Event, Answers}
+use Rattle.pf_tool.specs.Events.{Event}
 use Rattle.pf_tool.specs.Endings.{Ending, Done, Refused, BadName, Stop, AtEnd, tried, stop_status}
 use Rattle.pf_tool.specs.Happened.{Passed}
 use Rattle.pf_tool.specs.Outcomes.{Outcome, Falls, ComesOut}
-use Rattle.pf_tool.specs.SideFiles.{IsMade, IsSwapped, SideLeaves, SideEnds, IsNewFile}
 use Rattle.pf_tool.specs.Keys.{IsKeyOf, KeyRefused, key_events}
-use Rattle.pf_tool.specs.Encrypting.{IsInput, Seals, output_unnamed, input_unfit, EncryptLeads, encrypt_key_refused, encrypt_key_read, EncryptLeaves, IsSealed, user_on, StandsFor, content_on, nonce_in}
+use Rattle.pf_tool.specs.Encrypting.{IsInput, Seals, output_unnamed, input_unfit, EncryptLeads, encrypt_key_refused, encrypt_key_read, EncryptLeaves, IsSealed, StandsFor, content_on, nonce_in}
 use Rattle.pf_tool.specs.Making.{IsSealedUnder, LeavesSealed}
 use Rattle.pf_tool.specs.declared.fault.Fault.{Fault}
 use Rattle.pf_tool.specs.declared.fault.Fault.TheVariants as faults

@@ -1,6 +1,6 @@
 -- `manifest` from its parts: the reading of the template, its rendering, and the text that goes out.
-use Rattle.std.proofs.Common.{◌≡◌, inl, inr, ℕ, zero, suc, ◌-◌, List, [], ◌∷◌, ◌++◌, map, refl, subst, ap, ◌∙◌, sym, arith, Option, Some, None, Result, Ok, Err, IfSome}
-use Rattle.std.specs.List.{AllByRecursion, range_with_len}
+use Rattle.std.proofs.Common.{◌≡◌, inl, inr, ℕ, suc, ◌-◌, List, [], ◌++◌, map, refl, subst, ap, ◌∙◌, sym, arith, Option, Some, None, Result, Ok, Err}
+use Rattle.std.specs.List.{range_with_len}
 use Rattle.std.proofs.lemmas.List.{append-nil}
 use Rattle.std.proofs.lemmas.Option.{IfSome_then}
 use Rattle.template_text.specs.Rendering.{Values}
@@ -9,15 +9,14 @@ use Rattle.pf_io.specs.Host.{HostState, KeepsFiles, OnHonest, files_of, contents
 use Rattle.pf_io.specs.Unchanged.{KeepsDisk}
 use Rattle.pf_io.proofs.Unchanged.{kept_none, kept_then}
 use Rattle.pf_tool.specs.World.{World}
-use Rattle.pf_tool.specs.Events.{Event, Answers, Puts, answers_in}
-use Rattle.pf_tool.specs.Endings.{Ending, Done, Refused, BadName, MayStarve, Stop, AtEnd, Failed, Starved, tried, stop_status}
-use Rattle.pf_tool.specs.Happened.{Passed}
-use Rattle.pf_tool.specs.InputFiles.{InputReads, file_taken, file_unnamed, file_absent, file_large, InputLeads, InputRead, InputOver, over_unnamed, over_absent, over_large, over_taken}
-use Rattle.pf_tool.specs.Manifests.{FitsOutput, out_events, WritesText, LeavesText, WritesManifest, text_refused, text_written, ManifestLeads, output_unfit, template_unread, template_read, IsRendered, ManifestLeaves}
+use Rattle.pf_tool.specs.Events.{Event, Puts, answers_in}
+use Rattle.pf_tool.specs.Endings.{Ending, Done, Refused, BadName, Stop, AtEnd, Starved, tried, stop_status}
+use Rattle.pf_tool.specs.InputFiles.{InputReads, InputLeads, InputRead, InputOver, over_unnamed, over_absent, over_large, over_taken}
+use Rattle.pf_tool.specs.Manifests.{FitsOutput, out_events, WritesText, LeavesText, text_refused, text_written, ManifestLeads, output_unfit, template_unread, template_read, IsRendered, ManifestLeaves}
 use Rattle.pf_tool.specs.Outcomes.{IsAhead, Outcome, Falls, ComesOut}
 use Rattle.pf_tool.specs.PlainFiles.{IsExactly}
 use Rattle.pf_tool.specs.Rendering.{Renders, RenderFails, is_refused, is_starved}
-use Rattle.pf_tool.specs.TextOutput.{piece_at, count_of, pieces_of}
+use Rattle.pf_tool.specs.TextOutput.{piece_at, count_of}
 use Rattle.pf_tool.specs.declared.fault.Fault.{Fault}
 use Rattle.pf_tool.specs.declared.fault.Fault.TheVariants as faults
 use Rattle.pf_tool.specs.declared.why.Why.TheVariants as whys

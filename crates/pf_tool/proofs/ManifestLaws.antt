@@ -10,7 +10,6 @@ use Rattle.pf_io.specs.Answered.{IsAnswerOf}
 use Rattle.pf_io.specs.Names.{IsName, side_of}
 use Rattle.pf_io.specs.SideFile.{file_steps}
 use Rattle.pf_io.specs.Slices.{IsTaken}
-use Rattle.pf_io.proofs.Answering.{all_append}
 use Rattle.pf_tool.specs.Events.{Event, Answers, Draws, Puts, answers_in, words_in, pieces_in, bytes_in}
 use Rattle.pf_tool.specs.Endings.{Ending, Done, Refused, BadName}
 use Rattle.pf_tool.specs.InputFiles.{asked, InputReads, file_unnamed, file_absent, file_large, file_taken, InputOver}

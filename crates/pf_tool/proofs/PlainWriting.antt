@@ -25,28 +25,11 @@ use Rattle.pf_tool.specs.SideFiles.{IsMade, IsSwapped, SideLeaves, SideEnds, IsN
 use Rattle.pf_tool.specs.PlainFiles.{written_events, WritesWhole, IsExactly, LeavesWhole}
 use Rattle.pf_tool.specs.declared.fault.Fault.{Fault}
 use Rattle.pf_tool.specs.declared.fault.Fault.TheVariants as faults
-use Rattle.pf_tool.proofs.Composing.{host_none, passed_none, passed_host, failed_host}
+use Rattle.pf_tool.proofs.Asking.{asked_then, passed_asked}
+use Rattle.pf_tool.proofs.Composing.{host_none, passed_none, failed_host}
 use Rattle.pf_tool.proofs.Following.{all_split}
 use Rattle.pf_tool.proofs.SealDisk.{not_side}
 use Rattle.pf_tool.proofs.Stopping.{host_fails, starves}
-
--- events of the host alone
-
-pub answers_of : (these : List Answer) → answers_in (map Answers these) ≡ these
-answers_of [] = refl
-answers_of (a ∷ these) = ap (λ (l : List Answer). a ∷ l) (answers_of these)
-
-pub no_words : (these : List Answer) → words_in (map Answers these) ≡ []
-no_words [] = refl
-no_words (a ∷ these) = no_words these
-
-pub no_pieces : (these : List Answer) → pieces_in (map Answers these) ≡ []
-no_pieces [] = refl
-no_pieces (a ∷ these) = no_pieces these
-
-pub map_append : (xs ys : List Answer) → map Answers (xs ++ ys) ≡ map Answers xs ++ map Answers ys
-map_append [] ys = refl
-map_append (x ∷ xs) ys = ap (λ (l : List Event). Answers x ∷ l) (map_append xs ys)
 
 -- A call that changes the disk: it is neither a question for a length nor a read. A swap gives the side file the output's name.
 abbrev IsStep : Name → Answer → Type 0
@@ -192,7 +175,7 @@ module _ (output : Name) (bytes : List ℕ) where
 
   whole_swapped : IsSwapped (written_events output bytes) output
   whole_swapped =
-      subst (λ (l : List Event). Contains l (Answers (Swapped Side output))) (sym (map_append (side_steps Side bytes) (Swapped Side output ∷ [])))
+      subst (λ (l : List Event). Contains l (Answers (Swapped Side output))) (sym (asked_then (side_steps Side bytes) (Swapped Side output ∷ [])))
       (Contains-append_right (map Answers (side_steps Side bytes)) (Answers (Swapped Side output) ∷ []) (Answers (Swapped Side output)) (0, omega arith, refl))
 
   whole_made : IsMade (written_events output bytes) output
@@ -275,7 +258,7 @@ module _ (output : Name) (bytes : List ℕ) where
       record {
         events = events;
         stands = record { are = refl; done = refl };
-        happened = passed_host events world old new (no_words these) (no_pieces these) (subst (λ (l : List Answer). HostPassed l old new) (sym (answers_of these)) passed);
+        happened = passed_asked these world old new passed;
         leaves = whole_left old new wrote;
       }
 
@@ -289,8 +272,8 @@ module _ (output : Name) (bytes : List ℕ) where
       let mid = after answered old new in
       let passed : HostPassed answered old mid = answered_passed output answered old new all.0 stopped.steps.told in
       let asked : Passed (map Answers answered) (with_host world old) (with_host world mid) =
-      passed_host (map Answers answered) world old mid (no_words answered) (no_pieces answered) (subst (λ (l : List Answer). HostPassed l old mid) (sym (answers_of answered)) passed) in
-      let order : map Answers answered ++ Answers failed ∷ map Answers stopped.left ≡ written_events output bytes = sym (map_append answered (failed ∷ stopped.left)) ∙ ap (map Answers) (sym stopped.steps.in_order) in
+      passed_asked answered world old mid passed in
+      let order : map Answers answered ++ Answers failed ∷ map Answers stopped.left ≡ written_events output bytes = sym (asked_then answered (failed ∷ stopped.left)) ∙ ap (map Answers) (sym stopped.steps.in_order) in
       host_fails (WritesWhole output bytes) (LeavesWhole output bytes) (map Answers answered) (map Answers stopped.left) Done fault (with_host world old) (with_host world mid) (with_host world new) failed is
       (record { are = order; done = refl }) asked (failed_host failed world mid new (last_failed output answered failed old new all.1.0 stopped.steps.told once stopped.steps.counts))
       (failed_left old new answered failed all.1.0 (made_first output bytes answered failed stopped.left stopped.steps.in_order) stopped.before_the_swap stopped.at_most_swapped)

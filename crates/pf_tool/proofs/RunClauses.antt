@@ -14,7 +14,7 @@ use Rattle.pf_tool.specs.Endings.{Ending, Done, MayStarve, Stop, AtEnd, Failed, 
 use Rattle.pf_tool.specs.declared.fault.Fault.{Fault}
 use Rattle.pf_tool.proofs.Stopping.{not_done}
 use Rattle.pf_tool.specs.Happened.{OutPassed, Passed, Happened}
-use Rattle.pf_tool.specs.Manifests.{out_pieces, TookText, ManifestLeads, GaveRendered}
+use Rattle.pf_tool.specs.Manifests.{out_pieces, TookText, ManifestLeads}
 use Rattle.template_text.specs.Rendering.{Values}
 use Rattle.pf_tool.proofs.ManifestLaws.{GivenText, manifest_given, manifest_undrawn, manifest_unput}
 use Rattle.pf_tool.proofs.TextPutting.{concat_pieces}

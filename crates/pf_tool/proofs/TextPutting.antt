@@ -1,5 +1,5 @@
 -- A text that is put out in pieces, piece by piece.
-use Rattle.std.proofs.Common.{◌≡◌, ℕ, zero, suc, ◌+◌, ◌-◌, ◌*◌, ◌<◌, ◌≤◌, min, max, List, [], ◌∷◌, ◌++◌, length, take, drop, map, refl, subst, ap, ap₂, ◌∙◌, sym, arith, length-drop}
+use Rattle.std.proofs.Common.{◌≡◌, ℕ, zero, suc, ◌+◌, ◌-◌, ◌*◌, ◌<◌, min, List, [], ◌∷◌, ◌++◌, length, take, drop, map, refl, subst, ap, ap₂, ◌∙◌, sym, arith, length-drop}
 use Rattle.std.specs.List.{range_with_len, concat}
 use Rattle.std.proofs.lemmas.Grind.{div_ceil_times}
 use Rattle.std.proofs.lemmas.List.Folds.{concat-append}
@@ -7,21 +7,21 @@ use Rattle.std.proofs.Math.Seq.{take-add}
 use Rattle.std.proofs.lemmas.List.{append-nil, map-append, take_min, take_all}
 use Rattle.std.proofs.lemmas.List.FromFn.{map-range_with_len_more}
 use Rattle.pf_io.specs.Counts.{counted}
-use Rattle.pf_io.specs.Host.{Both, IsMore, HostState}
-use Rattle.pf_io.specs.SideFile.{PIECE, pieces}
+use Rattle.pf_io.specs.Host.{Both, IsMore}
+use Rattle.pf_io.specs.SideFile.{PIECE}
 use Rattle.pf_io.specs.Streams.{SinkState, TakesFront}
 use Rattle.pf_io.specs.Unchanged.{KeepsDisk}
 use Rattle.pf_io.proofs.Unchanged.{kept_none}
 use Rattle.pf_tool.specs.World.{World, with_out}
-use Rattle.pf_tool.specs.Events.{Event, Puts, answers_in, words_in, pieces_in}
-use Rattle.pf_tool.specs.Endings.{Ending, Done, Stop, AtEnd}
+use Rattle.pf_tool.specs.Events.{Puts, answers_in, words_in, pieces_in}
+use Rattle.pf_tool.specs.Endings.{Done, AtEnd}
 use Rattle.pf_tool.specs.Happened.{OutPassed}
 use Rattle.pf_tool.specs.Outcomes.{Outcome, Falls}
 use Rattle.pf_tool.specs.TextOutput.{piece_at, count_of, pieces_of, PutsText}
 use Rattle.pf_tool.specs.declared.fault.Fault.{Fault}
 use Rattle.pf_tool.specs.declared.fault.Fault.TheVariants as faults
 use Rattle.pf_tool.proofs.Calls.{piece_passed, piece_failed}
-use Rattle.pf_tool.proofs.Composing.{out_none, out_then, passed_pieces, failed_piece}
+use Rattle.pf_tool.proofs.Composing.{out_then, passed_pieces, failed_piece}
 use Rattle.pf_tool.proofs.Stopping.{out_fails}
 
 -- pieces as events

@@ -1,5 +1,5 @@
 -- What `manifest TEMPLATE [OUT]` comes to, with values of names.
-use Rattle.std.specs.Prelude.{◌≡◌, ◌≢◌, ℕ, List, [], ◌∷◌, ◌++◌, map, Option, Some, None, Result, Ok, Err}
+use Rattle.std.specs.Prelude.{◌≡◌, ℕ, List, [], ◌++◌, map, Option, Some, None, Ok, Err}
 use Rattle.template_text.specs.Rendering.{Values}
 use Rattle.pf_io.specs.Disk.{Name, Disk, Files, reading}
 use Rattle.pf_io.specs.Host.{HostState, Answer, Both, IsMore, contents}

@@ -1,4 +1,4 @@
-use Rattle.std.proofs.Common.{List, ℕ, sym, subst, Option, Some, None}
+use Rattle.std.proofs.Common.{List, ℕ, sym, subst, Option}
 use Rattle.std.specs.Prelude.{option_map}
 use Rattle.pf_tool.specs.World.{with_host, with_out}
 use Rattle.pf_tool.specs.Outcomes.{ComesOut}

@@ -1,4 +1,4 @@
-use Rattle.std.proofs.Common.{arith, ◌*◌, ◌≤◌}
+use Rattle.std.proofs.Common.{arith}
 use Rattle.std.proofs.lemmas.Result.{err_from_is_err_and}
 use Rattle.pf_tool.proofs.Composing.{out_none}
 use Rattle.pf_tool.proofs.TextPutting.{piece_is, piece_more, piece_fails, pieces_done}

@@ -1,4 +1,4 @@
-use Rattle.std.proofs.Common.{◌≡◌, Result, List, ℕ, ◌++◌, subst, sym, ap}
+use Rattle.std.proofs.Common.{◌≡◌, Result, List, ℕ, ◌++◌, subst, sym}
 use Rattle.std.specs.Prelude.{codes}
 use Rattle.pf_io.specs.Streams.{SinkState}
 use Rattle.pf_tool.specs.Endings.{line, manifest_text}

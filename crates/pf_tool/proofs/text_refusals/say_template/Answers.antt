@@ -1,4 +1,4 @@
-use Rattle.std.proofs.Common.{◌≡◌, Result, List, ℕ, ◌++◌, subst, sym, ap}
+use Rattle.std.proofs.Common.{◌≡◌, Result, List, ℕ, ◌++◌, subst, sym}
 use Rattle.std.specs.Prelude.{codes}
 use Rattle.std.specs.Fmt.{decimal}
 use Rattle.std.proofs.lemmas.List.{append-nil}

@@ -1,4 +1,4 @@
-use Rattle.std.proofs.Common.{arith, ap, length, List, ℕ}
+use Rattle.std.proofs.Common.{arith}
 use Rattle.pf_tool.proofs.Lists.{operand_told}
 use Rattle.pf_tool.proofs.words.is_operand.Goals as goal
 
