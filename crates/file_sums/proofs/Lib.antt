@@ -1,4 +1,4 @@
 mod Taken
-mod Summed
-mod Collected
+pub mod Summed
+pub mod Collected
 mod Deciding

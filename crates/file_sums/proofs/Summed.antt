@@ -1,16 +1,18 @@
 -- How the summing of a file ends, by the length that came and the slices that were hashed.
-use Rattle.std.proofs.Common.{◌≡◌, ℕ, ◌+◌, ◌<◌, List, [], ◌∷◌, ◌++◌, length, Some, ap, subst, arith, Result, Ok, Err}
+use Rattle.std.proofs.Common.{◌≡◌, ℕ, ◌+◌, ◌<◌, ◌≤◌, List, [], ◌∷◌, ◌++◌, length, Some, refl, sym, ap, subst, ◌∙◌, arith, Result, Ok, Err}
 use Rattle.std.specs.List.{concat, AllByRecursion}
+use Rattle.std.proofs.lemmas.List.{append-nil}
 use Rattle.std.proofs.lemmas.Option.{IfSome_then}
-use Rattle.pf_io.specs.Host.{Name, Files, Answer, LengthWas, HostState, CountsNeither, files_of}
+use Rattle.sha2.specs.Sha256.{sha256}
+use Rattle.pf_io.specs.Host.{Name, Files, Answer, LengthWas, Gave, HostState, CountsNeither, files_of}
 use Rattle.pf_io.specs.Answered.{Answered, IsAnswerOf}
 use Rattle.pf_io.proofs.Answering.{answered_then}
-use Rattle.pf_io.specs.Slices.{MOST_BYTES, given_in_turn, IsStopped}
-use Rattle.file_sums.specs.Summing.{SumEnds, slices_asked, IsSummed, SumsFile, IsOfFile}
+use Rattle.pf_io.specs.Slices.{SLICE, MOST_BYTES, given_in_turn, AreWhole, IsStopped}
+use Rattle.file_sums.specs.Summing.{IsSumOf, SumEnds, slices_asked, IsSummed, SumsFile, IsOfFile}
 use Rattle.file_sums.specs.Taking.{Takes, not_come}
 use Rattle.file_sums.specs.declared.fault.SumFault.{SumFault}
 use Rattle.file_sums.specs.declared.fault.SumFault.TheVariants as faults
-use Rattle.pf_io.proofs.Slices.{reads_neither, reads_then, length_in_turn, few_in_turn, there, not_there, taken_all}
+use Rattle.pf_io.proofs.Slices.{reads_neither, reads_then, length_in_turn, few_in_turn, there, not_there, taken_all, in_turn_append, long_last}
 
 abbrev these_of : Name → ℕ → List (List ℕ) → List Answer
 these_of name size slices = LengthWas name (Some size) ∷ given_in_turn name 0 slices
@@ -78,3 +80,23 @@ sums_file (Err faults.Host) name these files stopped all = tt
 
 pub honest_sum : (r : Result (List ℕ) SumFault) (name : Name) (old new : HostState) → IsSummed r name old new → IsOfFile r name old
 honest_sum r name old new summed = IfSome_then (files_of old) summed.answered.honest (λ files all. sums_file r name summed.these files summed.ends all)
+
+-- where a slice did not come, an empty one would have ended the file
+pub empty_ends : (name : Name) (size : ℕ) (slices : List (List ℕ)) (last : List Answer) → AreWhole slices → last ≡ LengthWas name (Some size) ∷ given_in_turn name 0 (slices ++ []) → length (concat slices) ≤ MOST_BYTES
+    → (sum : List ℕ) × IsSumOf sum name (last ++ Gave name (length (concat slices)) SLICE [] ∷ [])
+empty_ends name size slices last are came small =
+    let failed = Gave name (length (concat slices)) SLICE [] in
+    let place : 0 + length (concat slices) ≡ length (concat slices) = omega arith in
+    let turn : given_in_turn name 0 (slices ++ [] ∷ []) ≡ given_in_turn name 0 (slices ++ []) ++ failed ∷ [] =
+    in_turn_append name 0 slices ([] ∷ []) ∙ ap (λ (k : ℕ). given_in_turn name 0 slices ++ Gave name k SLICE [] ∷ []) place ∙ ap (λ (l : List (List ℕ)). given_in_turn name 0 l ++ failed ∷ []) (sym (append-nil slices)) in
+    let all_asked : last ++ failed ∷ [] ≡ LengthWas name (Some size) ∷ given_in_turn name 0 (slices ++ [] ∷ []) = ap (λ (l : List Answer). l ++ failed ∷ []) came ∙ ap (λ (l : List Answer). LengthWas name (Some size) ∷ l) (sym turn) in
+    let bytes = concat (slices ++ [] ∷ []) in
+    let long : length bytes ≡ length (concat slices) = let both = long_last slices [] in omega (arith, both) in (
+      sha256 bytes,
+      record {
+        bytes = bytes;
+        taken = record { size = size; whole = slices; last = []; are_whole = are; ended = omega arith; asked = all_asked; bytes_are = refl };
+        not_large = omega (arith, long, small);
+        sum_is = refl;
+      },
+    )
