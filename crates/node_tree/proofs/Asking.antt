@@ -1,11 +1,12 @@
 -- Calls of a host that only read.
-use Rattle.std.proofs.Common.{◌≡◌, ℕ, zero, suc, ◌+◌, ◌≤◌, refl, ap, ◌∙◌, sym, arith, subst, Result, Ok, Err, IfErr}
-use Rattle.pf_io.specs.Counts.{HasCause, counted}
+use Rattle.std.proofs.Common.{◌≡◌, ℕ, ◌+◌, ◌≤◌, refl, ap, ◌∙◌, sym, arith, subst, Result, Ok, Err, IfErr}
+use Rattle.pf_io.specs.Counts.{HasCause, counted, counted_times}
 use Rattle.pf_io.specs.Moments.{Does}
 use Rattle.pf_io.specs.Steps.{Stays}
 use Rattle.pf_io.specs.Host.{HostState, Both, CountsRead}
+use Rattle.pf_io.proofs.Slices.{times_then}
 use Rattle.pf_io.proofs.Unchanged.{kept_none, kept_once, kept_then}
-use Rattle.node_tree.specs.Fetching.{host_part, CountsReads, CountsCalls, counted_times, calls_of, Asking}
+use Rattle.node_tree.specs.Fetching.{host_part, CountsReads, CountsCalls, calls_of, Asking}
 use Rattle.node_tree.specs.declared.fault.TreeFault.{TreeFault}
 use Rattle.node_tree.specs.declared.fault.TreeFault.TheVariants as faults
 
@@ -26,13 +27,9 @@ counts_none state = record { reads = refl; writes = refl; untouched = λ none. r
 pub counts_one : (old new : HostState) → CountsRead 4096 old new → CountsCalls 1 old new
 counts_one old new counts = record { reads = counts.reads; writes = counts.writes; untouched = λ none. absurd (omega (arith, none)) }
 
-pub counted_sum : (m n count : ℕ) → counted_times (m + n) count ≡ counted_times n (counted_times m count)
-counted_sum zero n count = ap (λ (j : ℕ). counted_times j count) (let e : zero + n ≡ n = omega arith in e)
-counted_sum (suc m) n count = let e : suc m + n ≡ suc (m + n) = omega arith in ap (λ (j : ℕ). counted_times j count) e ∙ counted_sum m n (counted count)
-
 pub counts_then : (m n : ℕ) (old mid new : HostState) → CountsCalls m old mid → CountsCalls n mid new → CountsCalls (m + n) old new
 counts_then m n old mid new first second = record {
-  reads = second.reads ∙ ap (counted_times n) first.reads ∙ sym (counted_sum m n old.reads);
+  reads = second.reads ∙ ap (counted_times n) first.reads ∙ times_then m n old.reads;
   writes = second.writes ∙ first.writes;
   untouched = λ none. second.untouched (omega (arith, none)) ∙ first.untouched (omega (arith, none));
 }

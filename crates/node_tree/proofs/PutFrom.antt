@@ -16,7 +16,7 @@ use Rattle.node_layout.specs.Places.{parent_of}
 use Rattle.node_tree.specs.State.{plain_or}
 use Rattle.node_tree.specs.Opened.{Entry, IsAt}
 use Rattle.node_tree.specs.Sealing.{CountsPuts, CountsWrites, IsEntryPut, ArePut, SealedFile, LeavesOutside, PutsAll, PutsFront, entry_for, seal_for, writes_of}
-use Rattle.node_tree.proofs.Asking.{counted_sum}
+use Rattle.pf_io.proofs.Slices.{times_then}
 use Rattle.node_tree.proofs.Keyed.{any_default, in_list}
 use Rattle.node_tree.proofs.Placed.{to_rest, put_none, put_more, behind}
 use Rattle.node_tree.proofs.Seals.{OutsideFile, outside_none, outside_image, puts_none, puts_then, sealed_none, sealed_more, any_write}
@@ -114,7 +114,7 @@ module _ (j : ℕ) (name numbers : List ℕ) (keys : List (List ℕ)) (held mid 
       let a = so_far.calls in
       record {
         reads = counts.reads ∙ a.reads;
-        writes = counts.writes ∙ ap counted a.writes ∙ sym (counted_sum (length numbers - suc j) 1 before.writes);
+        writes = counts.writes ∙ ap counted a.writes ∙ times_then (length numbers - suc j) 1 before.writes;
         untouched = λ none. absurd (omega (arith, none));
       }
 

@@ -1,12 +1,12 @@
 -- Nodes that are fetched of a host, opened and kept.
-use Rattle.std.specs.Prelude.{◌≡◌, ◌⊎◌, ℕ, zero, suc, ◌+◌, ◌*◌, ◌<◌, ◌≤◌, max, List, [], ◌∷◌, ◌++◌, length, filter, slice_index, Contains, Result, Ok, Err, Option, is_none}
+use Rattle.std.specs.Prelude.{◌≡◌, ◌⊎◌, ℕ, suc, ◌+◌, ◌*◌, ◌<◌, ◌≤◌, max, List, [], ◌∷◌, ◌++◌, length, filter, slice_index, Contains, Result, Ok, Err, Option, is_none}
 use Rattle.std.specs.List.{AllZip}
 use Rattle.node_layout.specs.declared.damage.Damage.{Damage}
 use Rattle.node_layout.specs.declared.damage.Kind.{Kind}
 use Rattle.node_layout.specs.declared.damage.Kind.TheVariants.{Short, Tag}
 use Rattle.node_layout.specs.Places.{parent_of, slot_of}
 use Rattle.node_layout.specs.Entries.{entry_at}
-use Rattle.pf_io.specs.Counts.{HasCause, counted}
+use Rattle.pf_io.specs.Counts.{HasCause, counted_times}
 use Rattle.pf_io.specs.Host.{Name, Answer, Gave, HostState}
 use Rattle.pf_io.specs.Answered.{Answered}
 use Rattle.pf_io.specs.Unchanged.{KeepsDisk}
@@ -32,11 +32,6 @@ pub record Asking {T : Type 0} (result : Result T TreeFault) (n : ℕ) (old new 
   pub cause : HasCause old.faults new.faults (host_part result)
   pub counts : CountsReads n old new
   pub disk : KeepsDisk old new
-
--- a count after some calls, each counted
-abbrev pub counted_times : ℕ → ℕ → ℕ
-counted_times zero count = count
-counted_times (suc n) count = counted_times n (counted count)
 
 -- n calls were made, each a read, and no other
 pub record CountsCalls (n : ℕ) (old new : HostState) : Type 0 where

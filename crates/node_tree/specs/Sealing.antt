@@ -9,7 +9,7 @@ use Rattle.node_layout.specs.Entries.{entry_at}
 use Rattle.node_tree.specs.Sheet.{Node, Sheet, HasNode, sealed, tag_of}
 use Rattle.node_tree.specs.Opened.{Entry, IsAt, block_of}
 use Rattle.node_tree.specs.Nodes.{Keeps}
-use Rattle.node_tree.specs.Fetching.{counted_times}
+use Rattle.pf_io.specs.Counts.{counted_times}
 use Rattle.node_tree.specs.Marks.{KeepsMarks}
 use Rattle.node_tree.specs.State.{AreBlocks, plain_or}
 use Rattle.node_tree.specs.declared.nodes.HeldNode.{HeldNode}

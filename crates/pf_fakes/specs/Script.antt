@@ -1,6 +1,6 @@
 -- A host that answers by a script: each call takes the next answer.
 use Rattle.std.specs.Prelude.{◌≡◌, ℕ, min, List, [], ◌∷◌, length, take, drop, Option, Some, None, Result, Ok, Err}
-use Rattle.pf_io.specs.Counts.{counted, CountsFault}
+use Rattle.pf_io.specs.Counts.{counted}
 use Rattle.pf_io.specs.Host.{Answer, HostState}
 use Rattle.pf_fakes.specs.Recording.{answers_of}
 use Rattle.pf_fakes.specs.declared.answer.Answer.{Answer as Scripted}
@@ -67,7 +67,6 @@ AnswersBy None P (Err fault) starved starved' = starved' ≡ starved
 pub record TakesNext {A T E : Type 0} (said : Scripted → Option A) (P : A → T → Type 0) (result : Result T E) (old new : ScriptState) : Type 0 where
   pub left : new.left ≡ drop 1 old.left
   pub answers : AnswersBy (said (next old.left)) P result old.starved new.starved
-  pub faults : CountsFault old.faults new.faults result
 
 -- the bytes that were said, as far as there is room, stand at the front of the buffer
 pub record Gives (buffer bytes : List ℕ) (n : ℕ) : Type 0 where

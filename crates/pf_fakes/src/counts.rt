@@ -1,6 +1,6 @@
 // Counts that stand still at their last value.
 ghost use Rattle.std.specs.Prelude.{◌≡◌, ◌≤◌, IfOk, OnErr, Ok, Err, alloc_error};
-ghost use Rattle.pf_io.specs.Counts.{counted, HasCause, CountsFault};
+ghost use Rattle.pf_io.specs.Counts.{counted, HasCause};
 
 use pf_io::HostFault;
 use std::alloc::AllocError;
@@ -19,8 +19,7 @@ pub(crate) fn count_starved<T>(
     outcome: Result<T, AllocError>,
 ) -> Result<T, HostFault>
     ensures cause { HasCause faults.old faults.new result }
-    ensures fault { CountsFault faults.old faults.new result }
-    ensures starves { CountsFault starved.old starved.new result }
+    ensures starves { HasCause starved.old starved.new result }
     ensures value { IfOk result (λ value. outcome ≡ Ok value) }
     ensures error { OnErr result (outcome ≡ Err alloc_error) }
 {

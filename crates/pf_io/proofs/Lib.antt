@@ -1,4 +1,5 @@
 pub mod Telling
+pub mod Writing
 pub mod Answering
 pub mod Loans
 pub mod Runs

@@ -22,7 +22,7 @@ counts_then m n most old mid new first second le = record {
 }
 
 -- counts of reads, one after another
-times_then : (m n count : ℕ) → counted_times n (counted_times m count) ≡ counted_times (m + n) count
+pub times_then : (m n count : ℕ) → counted_times n (counted_times m count) ≡ counted_times (m + n) count
 times_then zero n count = let e : n ≡ zero + n = omega arith in ap (λ (k : ℕ). counted_times k count) e
 times_then (suc m) n count = let e : suc (m + n) ≡ suc m + n = omega arith in times_then m n (counted count) ∙ ap (λ (k : ℕ). counted_times k count) e
 

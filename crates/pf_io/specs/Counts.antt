@@ -18,17 +18,8 @@ abbrev pub counted_times : ℕ → ℕ → ℕ
 counted_times zero count = count
 counted_times (suc n) count = counted_times n (counted count)
 
--- the count rose, or stands at its last value
-abbrev pub Rose : ℕ → ℕ → Type 0
-Rose before now = counted before ≤ now
-
 -- The count of faults never falls. At Ok it is as before, so no fault was passed over, and one that is answered is counted once, so none was passed over before it.
 pub record HasCause {T E : Type 0} (before now : ℕ) (result : Result T E) : Type 0 where
   pub later : before ≤ now
-  pub still : OnOk result (now ≡ before)
-  pub once : OnErr result (now ≡ counted before)
-
--- a want of memory is counted once, and at Ok the count is as before
-pub record CountsFault {T E : Type 0} (before now : ℕ) (result : Result T E) : Type 0 where
   pub still : OnOk result (now ≡ before)
   pub once : OnErr result (now ≡ counted before)

@@ -11,6 +11,7 @@ pub mod Unchanged
 pub mod Slices
 pub mod Replay
 pub mod Streams
+pub mod Writing
 pub mod Words
 pub mod SideFile
 pub mod SideSteps

@@ -67,7 +67,6 @@ fn is_failing(calls: &mut u64, failing: Option<u64>) -> bool
     failing == Some(call)
 }
 
-// Adds to a count that stands still at its last value.
 impl Source for MemSource {
     ghost state = { source_of };
 

@@ -20,6 +20,8 @@ const LONGEST: u64 = (1 << 63) - 1;
 // A file is read through a buffer of one of these sizes.
 const PAGE: usize = 4096;
 
+const SLICE: usize = 16_384;
+
 const PIECE: usize = 32_768;
 
 /// Real files by name, which tell their counts alone. A file is read and changed through one handle, which keeps other
@@ -113,6 +115,8 @@ fn read_some(file: &File, at: u64, to: &mut [u8]) -> io::Result<usize>
 {
     if to.len() <= PAGE {
         read_once(file, at, to, &mut [0; PAGE])
+    } else if to.len() <= SLICE {
+        read_once(file, at, to, &mut [0; SLICE])
     } else {
         read_once(file, at, to, &mut [0; PIECE])
     }

@@ -1,6 +1,6 @@
 // A host in memory: its own calls, and those of the trait.
 ghost use Rattle.std.specs.Prelude.{◌≡◌, ◌≤◌, ◌⊎◌, ◌↔◌, IsTrue, IfOk, OnOk, OnErr, IsSomeAnd, Some, None, List, ℕ, [], option_map, length, take, Contains, alloc_error};
-ghost use Rattle.pf_io.specs.Counts.{HasCause, CountsFault, counted};
+ghost use Rattle.pf_io.specs.Counts.{HasCause, counted};
 ghost use Rattle.pf_io.specs.Disk.{reading};
 ghost use Rattle.pf_io.specs.Moments.{Does};
 ghost use Rattle.pf_io.specs.Steps.{Stays, Changes, Writes, Cuts, Syncs, Makes, Swaps, Removes, AtOnce};
@@ -142,7 +142,7 @@ fn count_starved<T>(
     outcome: Result<T, AllocError>,
 ) -> Result<T, HostFault>
     ensures cause { HasCause faults.old faults.new result }
-    ensures starves { CountsFault starved.old starved.new result }
+    ensures starves { HasCause starved.old starved.new result }
     ensures value { IfOk result (λ value. outcome ≡ Ok value) }
     ensures error { OnErr result (outcome ≡ Err alloc_error) }
 {

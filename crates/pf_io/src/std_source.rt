@@ -1,6 +1,6 @@
 // A reader of std as a source.
-ghost use Rattle.std.specs.Prelude.{◌≡◌, ◌<◌, length, take, IfOk, None};
-ghost use Rattle.std.specs.Io.KnownBytes.{Consumes, IsAtEnd};
+ghost use Rattle.std.specs.Prelude.{◌≡◌, ◌<◌, length, take, IfOk, OnErr, None};
+ghost use Rattle.std.specs.Io.KnownBytes.{Consumes, IsAtEnd, Keeps};
 ghost use Rattle.pf_io.specs.Counts.{HasCause};
 ghost use Rattle.pf_io.specs.Host.{KeepsRest};
 ghost use Rattle.pf_io.specs.Streams.{CountsTaken, Gives};
@@ -47,6 +47,7 @@ fn read_once<R: Read>(reader: &mut R, to: &mut [u8]) -> io::Result<usize>
     ensures rest { IfOk result (λ n. KeepsRest n to.old to.new) }
     ensures known { IfOk result (λ n. Consumes (R.remaining reader.old) (R.remaining reader.new) (take n to.new)) }
     ensures end { IfOk result (λ n. n ≡ 0 → 0 < length to.old → IsAtEnd (R.remaining reader.new)) }
+    ensures kept { OnErr result (Keeps (R.remaining reader.old) (R.remaining reader.new)) }
 {
     let mut chunk = [0; CHUNK];
     let room = CHUNK.min(to.len());
@@ -73,6 +74,7 @@ impl<R: Read + Drop> Source for StdSource<R> {
         ensures left { Gives result to.new None None }
         ensures known { IfOk result (λ n. Consumes self.old.remaining self.new.remaining (take n to.new)) }
         ensures end { IfOk result (λ n. n ≡ 0 → 0 < length to.old → IsAtEnd self.new.remaining) }
+        ensures kept { OnErr result (Keeps self.old.remaining self.new.remaining) }
     {
         match read_once(&mut self.reader, to) {
             Ok(n) => {

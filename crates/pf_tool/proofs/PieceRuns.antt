@@ -8,12 +8,12 @@ use Rattle.node_layout.specs.Places.{node_count}
 use Rattle.node_tree.specs.Opened.{NothingHeld, BlockOf}
 use Rattle.node_tree.specs.Parts.{PIECE}
 use Rattle.node_tree.specs.State.{TreeState}
-use Rattle.node_tree.specs.Fetching.{AsksInTurn, CountsCalls, counted_times, host_part}
+use Rattle.node_tree.specs.Fetching.{AsksInTurn, CountsCalls, host_part}
 use Rattle.node_tree.specs.Reading.{Reads}
 use Rattle.node_tree.specs.declared.fault.TreeFault.{TreeFault}
 use Rattle.node_tree.specs.declared.fault.TreeFault.TheVariants as trees
 use Rattle.node_tree.proofs.Fresh.{fresh, fresh_of_file}
-use Rattle.pf_io.specs.Counts.{HasCause, counted}
+use Rattle.pf_io.specs.Counts.{HasCause, counted, counted_times}
 use Rattle.pf_io.specs.Host.{Name, Answer, Gave, HostState, KeepsFiles, Both, IsMore}
 use Rattle.pf_io.specs.Answered.{Answered}
 use Rattle.pf_io.specs.Streams.{SinkState}

@@ -11,7 +11,7 @@ use Rattle.pf_tool.specs.Endings.{Ending, Done, Damaged, Refused, Stop, AtEnd, F
 use Rattle.pf_tool.specs.Happened.{Passed, CallFailed, Happened}
 use Rattle.pf_tool.specs.Outcomes.{StopsAt}
 use Rattle.pf_tool.specs.Reports.{WroteAll, Reported, line_written, log_failed, Reports}
-use Rattle.pf_tool.proofs.Writing.{once_after}
+use Rattle.pf_io.proofs.Writing.{once_after}
 use Rattle.pf_tool.proofs.Composing.{words_then, pieces_then}
 
 ending_low : (ending : Ending) → ending_status ending ≤ 3

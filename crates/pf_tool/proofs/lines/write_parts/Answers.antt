@@ -1,6 +1,7 @@
 use Rattle.std.proofs.lemmas.Result.{err_from_is_err_and}
 use Rattle.pf_tool.specs.Reports.{WroteAll}
-use Rattle.pf_tool.proofs.Writing.{written_by, line_fails_first, line_fails_second, line_fails_third, line_fails_fourth, line_ends}
+use Rattle.pf_io.proofs.Writing.{written_by}
+use Rattle.pf_tool.proofs.Writing.{line_fails_first, line_fails_second, line_fails_third, line_fails_fourth, line_ends}
 use Rattle.pf_tool.proofs.lines.write_parts.Goals as goal
 
 pub returns-in_err-write : goal.returns-in_err-write
