@@ -5,7 +5,7 @@ use Rattle.std.proofs.lemmas.List.{append-nil}
 use Rattle.std.proofs.lemmas.Option.{IfSome_then}
 use Rattle.template_text.specs.Rendering.{Values}
 use Rattle.pf_io.specs.Disk.{Name, Files, Disk, reading}
-use Rattle.pf_io.specs.Host.{HostState, KeepsFiles, OnHonest, files_of, contents}
+use Rattle.pf_io.specs.Host.{HostState, KeepsFiles, OnHonest, files_of}
 use Rattle.pf_io.specs.Unchanged.{KeepsDisk}
 use Rattle.pf_io.proofs.Unchanged.{kept_none, kept_then}
 use Rattle.pf_tool.specs.World.{World}
@@ -123,7 +123,7 @@ module _ (values : Values) (template : Name) where
           known = IfSome_then (files_of old.host) read.passed.host.honest (λ (f : Files) all. taken_of f template bytes (input_over f template read.events (Ok bytes) read.reads all))
 
           rendered_there : (d : Disk) (file : Option (List ℕ)) → Known (reading d) → file ≡ Some text → IsRendered values template d file
-          rendered_there d file same is = (text, subst (λ (o : Option (List ℕ)). Renders values (contents o) (Ok text)) (sym same) renders, is)
+          rendered_there d file same is = (bytes, text, same, renders, is)
 
           text_left : (to : Option Name) (last : List Event) (stop : Stop) → LeavesText to text last stop mid.host new.host → ManifestLeaves values template to (read.events ++ last) stop old.host new.host
           text_left None last stop left = kept_then old.host mid.host new.host kept left

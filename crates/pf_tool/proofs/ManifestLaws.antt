@@ -1,5 +1,5 @@
 -- What answers, and what files, decide of `manifest`.
-use Rattle.std.proofs.Common.{◌≡◌, ◌≢◌, ◌⊎◌, inl, inr, ⊎_elim, ℕ, List, [], ◌∷◌, ◌++◌, map, refl, subst, ap, ◌∙◌, sym, Option, Some, None, Result, Ok, Err}
+use Rattle.std.proofs.Common.{◌≡◌, ◌≢◌, ◌⊎◌, inl, inr, ⊎_elim, ℕ, ◌≤◌, List, [], ◌∷◌, ◌++◌, length, map, refl, subst, ap, ◌∙◌, sym, Option, Some, None, Result, Ok, Err}
 use Rattle.std.specs.List.{AllByRecursion, concat}
 use Rattle.std.proofs.lemmas.List.{append-nil}
 use Rattle.std.proofs.lemmas.List.Folds.{concat-append}
@@ -12,7 +12,7 @@ use Rattle.pf_io.specs.SideFile.{file_steps}
 use Rattle.pf_io.specs.Slices.{IsTaken}
 use Rattle.pf_tool.specs.Events.{Event, Answers, Draws, Puts, answers_in, words_in, pieces_in, bytes_in}
 use Rattle.pf_tool.specs.Endings.{Ending, Done, Refused, BadName}
-use Rattle.pf_tool.specs.InputFiles.{asked, InputReads, file_unnamed, file_absent, file_large, file_taken, InputOver}
+use Rattle.pf_tool.specs.InputFiles.{MOST_INPUT, asked, InputReads, file_unnamed, file_absent, file_large, file_taken, InputOver}
 use Rattle.pf_tool.specs.Manifests.{FitsOutput, out_events, out_pieces, out_answers, WritesManifest, text_refused, text_written, ManifestLeads, output_unfit, template_unread, template_read, ManifestOver, over_unfit, over_unread, over_refused, over_written}
 use Rattle.pf_tool.specs.Rendering.{Renders, no_text, no_template, no_manifest, manifest_text}
 use Rattle.pf_tool.specs.TextOutput.{pieces_of}
@@ -284,6 +284,7 @@ pub record GivenText (values : Values) (template : Name) (output : Option Name) 
   pub text : List ℕ
   pub first : List Answer
   pub taken : IsTaken template first bytes
+  pub small : length bytes ≤ MOST_INPUT
   pub rendered : Renders values bytes (Ok text)
   pub answered : answers_in es ≡ first ++ out_answers output text
   pub pieces : pieces_in es ≡ out_pieces output text
@@ -292,12 +293,12 @@ out_answered : (output : Option Name) (text : List ℕ) → answers_in (out_even
 out_answered None text = puts_answers (pieces_of text)
 out_answered (Some output) text = asked_answers (file_steps output (side_of output) text)
 
-reading_taken : (name : Name) (es : List Event) (bytes : List ℕ) → InputReads name es (Ok bytes) → (these : List Answer) × IsTaken name these bytes × (answers_in es ≡ these)
+reading_taken : (name : Name) (es : List Event) (bytes : List ℕ) → InputReads name es (Ok bytes) → (these : List Answer) × IsTaken name these bytes × (answers_in es ≡ these) × (length bytes ≤ MOST_INPUT)
 reading_taken name es bytes (file_unnamed u is ends) = absurd (cc)
 reading_taken name es bytes (file_absent named is ends) = absurd (cc)
 reading_taken name es bytes (file_large whole last these named came few many is ends) = absurd (cc)
 reading_taken name es bytes (file_taken text these named taken few is ends) =
-    (these, subst (λ (b : List ℕ). IsTaken name these b) (sym (same_bytes bytes text ends)) taken, ap (λ (l : List Event). answers_in l) is ∙ asked_answers these)
+    (these, subst (λ (b : List ℕ). IsTaken name these b) (sym (same_bytes bytes text ends)) taken, ap (λ (l : List Event). answers_in l) is ∙ asked_answers these, subst (λ (b : List ℕ). length b ≤ MOST_INPUT) (sym (same_bytes bytes text ends)) few)
 
 -- no refusal is the work done
 not_refused_done : (name : Name) (es : List Event) → InputReads name es (Err Done) → ⊥
@@ -324,6 +325,7 @@ module _ (values : Values) (template : Name) (output : Option Name) where
         text = text;
         first = by.0;
         taken = by.1;
+        small = by.3;
         rendered = renders;
         answered = answers_behind values template output es first rest is ∙ ap (λ (l : List Answer). l ++ answers_in rest) by.2 ∙ ap (λ (l : List Event). by.0 ++ answers_in l) are ∙ ap (λ (l : List Answer). by.0 ++ l) (out_answered output text);
         pieces = pieces_behind values template output es first rest bytes is reads ∙ ap (λ (l : List Event). pieces_in l) are ∙ out_pieces_in output text;

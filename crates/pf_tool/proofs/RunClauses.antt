@@ -199,6 +199,7 @@ run_content (Manifest values template output) old new status run = λ these told
       text = given.text;
       first = given.first;
       taken = given.taken;
+      small = given.small;
       rendered = given.rendered;
       answered = sym same ∙ given.answered;
       took = took_text output given.text (pieces_in es) old.out new.out passed.out given.pieces;

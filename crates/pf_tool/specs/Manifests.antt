@@ -1,8 +1,8 @@
 -- What `manifest TEMPLATE [OUT]` comes to, with values of names.
-use Rattle.std.specs.Prelude.{◌≡◌, ℕ, List, [], ◌++◌, map, Option, Some, None, Ok, Err}
+use Rattle.std.specs.Prelude.{◌≡◌, ℕ, ◌≤◌, List, [], ◌++◌, length, map, Option, Some, None, Ok, Err}
 use Rattle.template_text.specs.Rendering.{Values}
 use Rattle.pf_io.specs.Disk.{Name, Disk, Files, reading}
-use Rattle.pf_io.specs.Host.{HostState, Answer, Both, IsMore, contents}
+use Rattle.pf_io.specs.Host.{HostState, Answer, Both, IsMore}
 use Rattle.pf_io.specs.Names.{IsTarget, side_of}
 use Rattle.pf_io.specs.SideFile.{file_steps}
 use Rattle.pf_io.specs.Slices.{IsTaken}
@@ -10,7 +10,7 @@ use Rattle.pf_io.specs.Streams.{SinkState}
 use Rattle.pf_io.specs.Unchanged.{KeepsDisk}
 use Rattle.pf_tool.specs.Events.{Event, Puts}
 use Rattle.pf_tool.specs.Endings.{Ending, Done, Refused, BadName, Stop}
-use Rattle.pf_tool.specs.InputFiles.{InputReads, InputOver}
+use Rattle.pf_tool.specs.InputFiles.{MOST_INPUT, InputReads, InputOver}
 use Rattle.pf_tool.specs.PlainFiles.{written_events, WritesWhole, LeavesWhole}
 use Rattle.pf_tool.specs.Rendering.{Renders}
 use Rattle.pf_tool.specs.SideFiles.{LeavesBySide}
@@ -52,9 +52,9 @@ pub data ManifestLeads (values : Values) (template : Name) (output : Option Name
   template_read : (bytes : List ℕ) (first rest : List Event) → FitsOutput output → InputReads template first (Ok bytes) → WritesManifest values output bytes rest ending → events ≡ first ++ rest
       → ManifestLeads values template output events ending
 
--- the file has the text that the template on the disk is rendered to
+-- the template is on the disk, and the file has the text that it is rendered to
 abbrev pub IsRendered : Values → Name → Disk → Option (List ℕ) → Type 0
-IsRendered values template disk file = (text : List ℕ) × Renders values (contents (reading disk template)) (Ok text) × (file ≡ Some text)
+IsRendered values template disk file = (bytes text : List ℕ) × (reading disk template ≡ Some bytes) × Renders values bytes (Ok text) × (file ≡ Some text)
 
 abbrev pub ManifestLeaves : Values → Name → Option Name → List Event → Stop → HostState → HostState → Type 0
 ManifestLeaves values template None tried stop old new = KeepsDisk old new
@@ -84,6 +84,7 @@ pub record GaveRendered (values : Values) (template : Name) (output : Option Nam
   pub text : List ℕ
   pub first : List Answer
   pub taken : IsTaken template first bytes
+  pub small : length bytes ≤ MOST_INPUT
   pub rendered : Renders values bytes (Ok text)
   pub answered : these ≡ first ++ out_answers output text
   pub took : TookText output text old new
