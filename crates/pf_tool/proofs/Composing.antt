@@ -34,12 +34,12 @@ pieces_then (Answers answer ∷ xs) ys = pieces_then xs ys
 pieces_then (Draws word ∷ xs) ys = pieces_then xs ys
 pieces_then (Puts bytes ∷ xs) ys = ap (λ (l : List (List ℕ)). bytes ∷ l) (pieces_then xs ys)
 
-reads_then : (xs ys : List Answer) (count : ℕ) → reads_after (xs ++ ys) count ≡ reads_after ys (reads_after xs count)
+pub reads_then : (xs ys : List Answer) (count : ℕ) → reads_after (xs ++ ys) count ≡ reads_after ys (reads_after xs count)
 reads_then [] ys count = refl
 reads_then (Gave name place room bytes ∷ xs) ys count = reads_then xs ys (counted count)
 reads_then (answer ∷ xs) ys count = reads_then xs ys count
 
-writes_then : (xs ys : List Answer) (count : ℕ) → writes_after (xs ++ ys) count ≡ writes_after ys (writes_after xs count)
+pub writes_then : (xs ys : List Answer) (count : ℕ) → writes_after (xs ++ ys) count ≡ writes_after ys (writes_after xs count)
 writes_then [] ys count = refl
 writes_then (Wrote name place bytes ∷ xs) ys count = writes_then xs ys (counted count)
 writes_then (answer ∷ xs) ys count = writes_then xs ys count
@@ -53,7 +53,7 @@ no_second : {A : Type 0} (xs ys : List A) → xs ++ ys ≡ [] → ys ≡ []
 no_second [] ys none = none
 no_second (x ∷ xs) ys none = absurd (cc)
 
-none_honest : (files : Option Files) → IfSome files (λ f. AllByRecursion (IsAnswerOf f) [])
+pub none_honest : (files : Option Files) → IfSome files (λ f. AllByRecursion (IsAnswerOf f) [])
 none_honest (Some f) = tt
 none_honest None = tt
 

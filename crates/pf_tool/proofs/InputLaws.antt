@@ -243,3 +243,24 @@ input_over_one files name r s (over_taken text named some few is) (over_unnamed 
 input_over_one files name r s (over_taken text named some few is) (over_absent named2 none is2) = no_text (files name) text none some
 input_over_one files name r s (over_taken text named some few is) (over_large text2 named2 some2 many is2) = absurd (omega (arith, many, few, ap (λ (l : List ℕ). length l) (one_text (files name) text text2 some some2)))
 input_over_one files name r s (over_taken text named some few is) (over_taken text2 named2 some2 few2 is2) = is ∙ ap (λ (t : List ℕ). Ok t) (one_text (files name) text text2 some some2) ∙ sym is2
+
+-- a name that is none is refused before anything is asked
+pub input_unnamed : (name : Name) (es : List Event) (r : Result (List ℕ) Ending) → ¬ (IsName name) → InputReads name es r → (es ≡ []) × (r ≡ Err (Refused BadName))
+input_unnamed name es r never (file_unnamed u is ends) = (is, ends)
+input_unnamed name es r never (file_absent named is ends) = absurd (never named)
+input_unnamed name es r never (file_large whole last these named came few many is ends) = absurd (never named)
+input_unnamed name es r never (file_taken text these named taken few is ends) = absurd (never named)
+
+-- all its events are answers
+pub input_asked : (name : Name) (es : List Event) (r : Result (List ℕ) Ending) → InputReads name es r → (these : List Answer) × (es ≡ asked these)
+input_asked name es r (file_unnamed u is ends) = ([], is)
+input_asked name es r (file_absent named is ends) = (LengthWas name None ∷ [], is)
+input_asked name es r (file_large whole last these named came few many is ends) = (these, is)
+input_asked name es r (file_taken text these named taken few is ends) = (these, is)
+
+-- it is done with its bytes alone
+pub input_refuses : (name : Name) (es : List Event) (ending : Ending) → InputReads name es (Err ending) → ending ≡ Done → ⊥
+input_refuses name es ending (file_unnamed u is ends) done = absurd (cc)
+input_refuses name es ending (file_absent named is ends) done = absurd (cc)
+input_refuses name es ending (file_large whole last these named came few many is ends) done = absurd (cc)
+input_refuses name es ending (file_taken text these named taken few is ends) done = absurd (cc)

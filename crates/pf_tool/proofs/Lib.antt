@@ -6,6 +6,8 @@ pub mod KeyReading
 pub mod Asking
 pub mod InputReading
 pub mod InputLaws
+pub mod PageReading
+pub mod LayoutReading
 mod Lists
 mod Drawing
 mod SideDisk
@@ -37,6 +39,7 @@ pub mod DecryptLaws
 pub mod SheetNodes
 pub mod ContentLaws
 mod LastAnswers
+mod MeasureLaws
 mod RunLaws
 mod RunClauses
 mod RunDisk

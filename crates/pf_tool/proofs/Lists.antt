@@ -23,6 +23,13 @@ one_more (v ∷ xs) a least p =
     let n : length xs ≤ length (v ∷ xs) - 1 = omega arith in
     ap (λ c. c ∷ xs) (sym p) ∙ ap (λ l. a ∷ l) (sym (take_all (length (v ∷ xs) - 1) xs n))
 
+-- the items of a list of two
+pub two : {A : Type 0} → (xs : List A) (a b : A) → 2 ≤ length xs → length xs < 3 → a ≡ slice_index_or xs 0 a → b ≡ slice_index_or xs 1 b → xs ≡ a ∷ b ∷ []
+two [] a b least most p q = absurd (omega arith)
+two (v ∷ []) a b least most p q = absurd (omega arith)
+two (v ∷ w ∷ []) a b least most p q = cc
+two (v ∷ w ∷ x ∷ more) a b least most p q = absurd (omega arith)
+
 -- a list of at least two
 pub two_more : {A : Type 0} → (xs : List A) (a b : A) → 2 ≤ length xs → a ≡ slice_index_or xs 0 a → b ≡ slice_index_or xs 1 b → xs ≡ a ∷ b ∷ take (length xs - 2) (drop 2 xs)
 two_more [] a b least p q = absurd (omega arith)

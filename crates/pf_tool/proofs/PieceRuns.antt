@@ -73,7 +73,7 @@ one_later : (n count : ℕ) → counted_times n (counted count) ≡ counted (cou
 one_later zero count = refl
 one_later (suc n) count = one_later n (counted count)
 
-same_given : (old new : Option (List Answer)) → Both old new (IsMore []) → new ≡ old
+pub same_given : (old new : Option (List Answer)) → Both old new (IsMore []) → new ≡ old
 same_given (Some before) (Some now) both = ap (λ (l : List Answer). Some l) (both ∙ append-nil before)
 same_given None None both = refl
 same_given (Some before) None both = absurd both

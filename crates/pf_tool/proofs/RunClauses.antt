@@ -1,5 +1,5 @@
 -- The clauses of a run, each from what the whole run came to.
-use Rattle.std.proofs.Common.{◌≡◌, ◌≢◌, ◌⊎◌, inl, inr, ⊎_elim, ℕ, ◌≤◌, List, [], ◌∷◌, ◌++◌, subst, ap, ◌∙◌, sym, arith, Option, Some, None, Result, Ok, Err, IfSome}
+use Rattle.std.proofs.Common.{◌≡◌, ◌≢◌, ◌⊎◌, inl, inr, ⊎_elim, ℕ, ◌≤◌, List, [], ◌∷◌, ◌++◌, refl, subst, ap, ◌∙◌, sym, arith, Option, Some, None, Result, Ok, Err, IfSome}
 use Rattle.std.specs.List.{AllByRecursion, concat}
 use Rattle.std.proofs.lemmas.List.{append-nil}
 use Rattle.pf_io.specs.Disk.{Name, Files}
@@ -21,14 +21,16 @@ use Rattle.pf_tool.proofs.TextPutting.{concat_pieces}
 use Rattle.pf_tool.specs.Faults.{fault_status}
 use Rattle.pf_tool.specs.Outcomes.{IsAhead, StopsAt, ComesOut, Concludes}
 use Rattle.pf_tool.specs.Reports.{Reported, Reports}
-use Rattle.pf_tool.specs.Requests.{Request, Decrypt, Encrypt, Manifest}
+use Rattle.pf_tool.specs.Requests.{Request, Decrypt, Encrypt, Manifest, Measure}
 use Rattle.pf_tool.specs.Runs.{Leads, LeavesHost, Runs, Usage, Causes, ByWords, Content, Decided, NoneCounted, Honestly, as_files_give, starved, Honest, Stays}
 use Rattle.pf_tool.proofs.RunStops.{not_two, reports_of, stop_low, reported_said, said, status_of, host_counted, random_counted, out_counted, all_passed, none_failed, input_kept, undrawn, unput, done_at_zero}
 use Rattle.pf_tool.proofs.RunLaws.{silent, spoken, decided, none_left, over, over_front}
 use Rattle.pf_tool.proofs.DecryptLaws.{decrypt_undrawn}
 use Rattle.pf_tool.proofs.EncryptLaws.{encrypt_unput, encrypt_given}
+use Rattle.pf_tool.proofs.MeasureLaws.{measure_undrawn, measure_put}
 use Rattle.pf_tool.proofs.ContentRuns.{told_of, these_told, front_taken, took_content}
 use Rattle.pf_tool.specs.Encrypting.{EncryptLeads, GaveSealed}
+use Rattle.pf_tool.specs.Measuring.{MeasureLeads}
 
 -- a command, and what was said of it
 pub concluded : {T : Type 0} (request : Request) (r : Result T Fault) (h0 h1 : HostState) (input : SourceState) (o0 o1 l0 l1 : SinkState) (r0 r1 : WordsState) (status : ℕ) → ComesOut (Leads request) (LeavesHost request) r (world_of h0 input o0 l0 r0) (world_of h1 input o1 l0 r1)
@@ -201,6 +203,12 @@ run_content (Manifest values template output) old new status run = λ these told
       answered = sym same ∙ given.answered;
       took = took_text output given.text (pieces_in es) old.out new.out passed.out given.pieces;
     }
+run_content (Measure layout) old new status run = λ these told zero_is.
+    let es = run.outcome.events in
+    let done = done_at_zero run.stop old.log new.log status run.reports zero_is in
+    let passed : Passed es old (with_log new old.log) = subst (λ (s : Stop). Happened es s old (with_log new old.log)) done run.outcome.happened in
+    let same : answers_in es ≡ these = these_told old.host new.host (answers_in es) these passed.host.told told in
+    measure_put layout es Done these old new (subst (λ (s : Stop). StopsAt (MeasureLeads layout) es s) done run.outcome.stands) refl same passed.out.told
 
 pub run_stays : (request : Request) (old new : World) (status : ℕ) → Runs request old new status → Stays request old new
 run_stays (Decrypt key input) old new status run = undrawn (Leads (Decrypt key input)) run.outcome.events run.stop old (with_log new old.log) (decrypt_undrawn key input) run.outcome.stands run.outcome.happened
@@ -211,3 +219,4 @@ run_stays (Manifest values template (Some output)) old new status run = (
   undrawn (Leads (Manifest values template (Some output))) run.outcome.events run.stop old (with_log new old.log) (manifest_undrawn values template (Some output)) run.outcome.stands run.outcome.happened,
   unput (Leads (Manifest values template (Some output))) run.outcome.events run.stop old (with_log new old.log) (manifest_unput values template output) run.outcome.stands run.outcome.happened,
 )
+run_stays (Measure layout) old new status run = undrawn (Leads (Measure layout)) run.outcome.events run.stop old (with_log new old.log) (measure_undrawn layout) run.outcome.stands run.outcome.happened

@@ -14,7 +14,7 @@ use Rattle.pf_tool.specs.Endings.{Ending, Done, MayStarve, Stop, AtEnd, Failed, 
 use Rattle.pf_tool.specs.Happened.{Happened}
 use Rattle.pf_tool.specs.Outcomes.{IsAhead, StopsAt}
 use Rattle.pf_tool.specs.Reports.{Reports}
-use Rattle.pf_tool.specs.Requests.{Request, Decrypt, Encrypt, Manifest}
+use Rattle.pf_tool.specs.Requests.{Request, Decrypt, Encrypt, Manifest, Measure}
 use Rattle.pf_tool.specs.SideFiles.{IsSwapped, SideLeaves, SideEnds, IsNewFile, LeavesBySide}
 use Rattle.template_text.specs.Rendering.{Values}
 use Rattle.pf_tool.specs.InputFiles.{asked, InputReads, file_unnamed, file_absent, file_large, file_taken}
@@ -205,3 +205,4 @@ run_disk (Manifest values template None) old new status run = run.outcome.leaves
 run_disk (Manifest values template (Some output)) old new status run =
     side_disk output (ManifestLeads values template (Some output)) (manifest_swaps values template output) old new status run.outcome.events run.stop run.outcome.stands run.outcome.happened run.reports
     (λ disk _. IsRendered values template disk) (IsRendered values template) (λ d file rendered. rendered) run.outcome.leaves
+run_disk (Measure layout) old new status run = run.outcome.leaves

@@ -9,13 +9,14 @@ use Rattle.pf_io.specs.Host.{Answer}
 use Rattle.pf_io.specs.Answered.{IsAnswerOf}
 use Rattle.pf_tool.specs.Events.{Event, answers_in, pieces_in, bytes_in}
 use Rattle.pf_tool.specs.Endings.{Ending, Done, Refused, BadName}
-use Rattle.pf_tool.specs.Requests.{Request, Decrypt, Encrypt, Manifest, AskFor}
+use Rattle.pf_tool.specs.Requests.{Request, Decrypt, Encrypt, Manifest, Measure, AskFor}
 use Rattle.pf_tool.specs.Runs.{Leads, Over}
 use Rattle.pf_tool.proofs.Composing.{answers_then, pieces_then, no_first}
 use Rattle.pf_tool.proofs.Defining.{one_manifest}
 use Rattle.pf_tool.proofs.ManifestLaws.{manifest_silent, manifest_spoken, manifest_one, manifest_answered, manifest_no_more, manifest_over, manifest_front, manifest_over_one}
 use Rattle.pf_tool.proofs.EncryptLaws.{encrypt_spoken, encrypt_unput, encrypt_silent, encrypt_one, encrypt_over, encrypt_over_one}
 use Rattle.pf_tool.proofs.LastAnswers.{EndsAnswered, has_answer, decrypt_answered, encrypt_answered, decrypt_no_more, encrypt_no_more}
+use Rattle.pf_tool.proofs.MeasureLaws.{measure_spoken, measure_silent, measure_one, measure_answered, measure_no_more, measure_over, measure_front, measure_over_one}
 use Rattle.pf_tool.proofs.DecryptLaws.{decrypt_spoken, decrypt_silent, decrypt_one, decrypt_over, decrypt_front, decrypt_over_one}
 
 -- words ask for one thing
@@ -31,34 +32,46 @@ one_request words (Manifest values template output) (Encrypt key input other) fi
 one_request words (Manifest values template output) (Manifest values2 template2 output2) first second =
     let same = one_manifest words values values2 template template2 output output2 first second in
     ap (λ (v : Values). Manifest v template output) same.values_are ∙ ap (λ (t : Name). Manifest values2 t output) same.template_is ∙ ap (λ (o : Option Name). Manifest values2 template2 o) same.output_is
+one_request words (Encrypt key input output) (Measure layout) first second = absurd (cc)
+one_request words (Decrypt key input) (Measure layout) first second = absurd (cc)
+one_request words (Measure layout) (Decrypt key input) first second = absurd (cc)
+one_request words (Measure layout) (Encrypt key input output) first second = absurd (cc)
+one_request words (Manifest values template output) (Measure layout) first second = let begins = first.begins in absurd (cc)
+one_request words (Measure layout) (Manifest values template output) first second = let begins = second.begins in absurd (cc)
+one_request words (Measure layout) (Measure layout2) first second = cc
 
 -- where the words alone lead to an ending, nothing else does
 pub silent : (request : Request) (ending other : Ending) (es : List Event) → Leads request [] ending → Leads request es other → (es ≡ []) × (ending ≡ other)
 silent (Decrypt key input) ending other es first second = decrypt_silent key input ending other es first second
 silent (Encrypt key input output) ending other es first second = encrypt_silent key input output ending other es first second
 silent (Manifest values template output) ending other es first second = manifest_silent values template output ending other es first second
+silent (Measure layout) ending other es first second = measure_silent layout ending other es first second
 
 -- and it is that a name is none
 pub spoken : (request : Request) (ending : Ending) → Leads request [] ending → ending ≡ Refused BadName
 spoken (Decrypt key input) ending leads = decrypt_spoken key input ending leads
 spoken (Encrypt key input output) ending leads = encrypt_spoken key input output ending leads
 spoken (Manifest values template output) ending leads = manifest_spoken values template output ending leads
+spoken (Measure layout) ending leads = measure_spoken layout ending leads
 
 -- the same answers lead to one ending
 pub decided : (request : Request) (es others : List Event) (ending other : Ending) → Leads request es ending → Leads request others other → answers_in es ≡ answers_in others → ending ≡ other
 decided (Decrypt key input) es others ending other first second same = decrypt_one key input es others ending other first second same
 decided (Encrypt key input output) es others ending other first second same = encrypt_one key input output es others ending other first second same
 decided (Manifest values template output) es others ending other first second same = manifest_one values template output es others ending other first second same
+decided (Measure layout) es others ending other first second same = measure_one layout es others ending other first second same
 
 answered : (request : Request) (es : List Event) (ending : Ending) → Leads request es ending → ending ≢ Done → EndsAnswered es
 answered (Decrypt key input) es ending leads refused = decrypt_answered key input es ending leads refused
 answered (Encrypt key input output) es ending leads refused = encrypt_answered key input output es ending leads refused
 answered (Manifest values template output) es ending leads refused = manifest_answered values template output es ending leads refused
+answered (Measure layout) es ending leads refused = measure_answered layout es ending leads refused
 
 no_more : (request : Request) (es others : List Event) (more : List Answer) (ending other : Ending) → ending ≢ Done → Leads request es ending → Leads request others other → answers_in es ++ more ≡ answers_in others → more ≡ []
 no_more (Decrypt key input) es others more ending other refused first second same = decrypt_no_more key input es others more ending other first second same
 no_more (Encrypt key input output) es others more ending other refused first second same = encrypt_no_more key input output es others more ending other refused first second same
 no_more (Manifest values template output) es others more ending other refused first second same = manifest_no_more values template output es others more ending other refused first second same
+no_more (Measure layout) es others more ending other refused first second same = measure_no_more layout es others more ending other refused first second same
 
 -- behind all answers of a refusal or a damage no event comes
 pub none_left : (request : Request) (es front : List Event) (event : Event) (rest : List Event) (ending other : Ending) → ending ≢ Done → Leads request es ending → Leads request (front ++ event ∷ rest) other → answers_in front ≡ answers_in es → ⊥
@@ -74,6 +87,7 @@ pub over : (request : Request) (files : Files) (es : List Event) (ending : Endin
 over (Decrypt key input) files es ending leads all = decrypt_over key input files es ending leads all
 over (Encrypt key input output) files es ending leads all = (encrypt_unput key input output es ending leads, encrypt_over key input output files es ending leads all)
 over (Manifest values template output) files es ending leads all = manifest_over values template output files es ending leads all
+over (Measure layout) files es ending leads all = measure_over layout files es ending leads all
 
 -- so far the output took a front of it
 pub over_front : (request : Request) (files : Files) (es more : List Event) (ending given : Ending) (pieces : List (List ℕ)) → Leads request (es ++ more) ending → AllByRecursion (IsAnswerOf files) (answers_in es) → Over request files pieces given
@@ -83,9 +97,11 @@ over_front (Encrypt key input output) files es more ending given pieces leads al
     let none : pieces_in es ≡ [] = no_first (pieces_in es) (pieces_in more) (sym (pieces_then es more) ∙ encrypt_unput key input output (es ++ more) ending leads) in
     ([], ap (λ (l : List (List ℕ)). concat l) gives.0 ∙ ap (λ (l : List (List ℕ)). concat l ++ []) (sym none))
 over_front (Manifest values template output) files es more ending given pieces leads all gives = manifest_front values template files es more given pieces all output ending leads gives
+over_front (Measure layout) files es more ending given pieces leads all gives = measure_front layout files es more ending given pieces leads all gives
 
 -- files give one output and one ending
 pub over_one : (request : Request) (files : Files) (pieces others : List (List ℕ)) (ending other : Ending) → Over request files pieces ending → Over request files others other → (pieces ≡ others) × (ending ≡ other)
 over_one (Decrypt key input) files pieces others ending other first second = decrypt_over_one key input files pieces others ending other first second
 over_one (Encrypt key input output) files pieces others ending other first second = (first.0 ∙ sym second.0, encrypt_over_one key input output files ending other first.1 second.1)
 over_one (Manifest values template output) files pieces others ending other first second = manifest_over_one values template output files pieces others ending other first second
+over_one (Measure layout) files pieces others ending other first second = measure_over_one layout files pieces others ending other first second

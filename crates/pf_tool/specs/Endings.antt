@@ -3,6 +3,8 @@ use Rattle.std.specs.Prelude.{ℕ, List, [], ◌∷◌, ◌++◌, codes}
 use Rattle.std.specs.Fmt.{decimal}
 use Rattle.node_layout.specs.declared.damage.Kind.{Kind}
 use Rattle.node_layout.specs.declared.damage.Kind.TheVariants as kinds
+use Rattle.enclave_measure.specs.declared.fault.LayoutFault.{LayoutFault}
+use Rattle.enclave_measure.specs.declared.fault.LayoutFault.TheVariants as layouts
 use Rattle.manifest_model.specs.declared.fault.ManifestFault.{ManifestFault}
 use Rattle.manifest_model.specs.declared.fault.ManifestFault.TheVariants as manifests
 use Rattle.pf_io.specs.Disk.{Name}
@@ -10,7 +12,7 @@ use Rattle.template_text.specs.declared.fault.RenderFault.{RenderFault}
 use Rattle.template_text.specs.declared.fault.RenderFault.TheVariants as renders
 use Rattle.pf_tool.specs.Events.{Event, Answers, Draws, Puts}
 
--- why a command is refused
+-- Why a command is refused. `NotFound` has a name of the command line, and `Absent` one that an input lists.
 pub data Refusal : Type 0 where
   BadName : Refusal
   NotFound : (name : Name) → Refusal
@@ -20,6 +22,8 @@ pub data Refusal : Type 0 where
   NotUtf8 : Refusal
   BadTemplate : (fault : RenderFault) → Refusal
   BadManifest : (fault : ManifestFault) → Refusal
+  BadLayout : (fault : LayoutFault) → Refusal
+  Absent : (name : Name) → Refusal
   Unbuilt : Refusal
 
 -- what the events of a command lead to: its work is done, or a damage or a refusal by name
@@ -40,6 +44,8 @@ MayStarve (Refused TooLarge) = ⊥
 MayStarve (Refused NotUtf8) = ⊥
 MayStarve (Refused (BadTemplate fault)) = Unit {0}
 MayStarve (Refused (BadManifest fault)) = Unit {0}
+MayStarve (Refused (BadLayout fault)) = Unit {0}
+MayStarve (Refused (Absent name)) = Unit {0}
 MayStarve (Refused Unbuilt) = ⊥
 
 -- Where a run stops: at an ending, in a call that failed and was to give this event, or for want of memory.
@@ -84,6 +90,14 @@ manifest_text (manifests.BadKey name) = codes "refused manifest key " ++ name
 manifest_text (manifests.BadPolicy text) = codes "refused manifest policy " ++ text
 manifest_text manifests.Memory = codes "want of memory"
 
+-- why a text is no layout, by the line that is refused; want of memory is no refusal
+abbrev pub layout_text : LayoutFault → List ℕ
+layout_text (layouts.BadLine number) = codes "refused layout line " ++ decimal number
+layout_text (layouts.BadSize number) = codes "refused layout line " ++ decimal number ++ codes " size"
+layout_text (layouts.OutOfRange number) = codes "refused layout line " ++ decimal number ++ codes " out of range"
+layout_text (layouts.Repeated number) = codes "refused layout line " ++ decimal number ++ codes " repeated"
+layout_text layouts.Memory = codes "want of memory"
+
 -- the text of each refusal
 abbrev pub refusal_text : Refusal → List ℕ
 refusal_text BadName = codes "refused bad name"
@@ -94,6 +108,8 @@ refusal_text TooLarge = codes "refused too large"
 refusal_text NotUtf8 = codes "refused template not utf-8"
 refusal_text (BadTemplate fault) = template_text fault
 refusal_text (BadManifest fault) = manifest_text fault
+refusal_text (BadLayout fault) = layout_text fault
+refusal_text (Absent name) = codes "refused not found " ++ name
 refusal_text Unbuilt = codes "refused unbuilt"
 
 -- what an ending writes to the log

@@ -1,6 +1,8 @@
 -- The line and the status of each fault.
 use Rattle.std.specs.Prelude.{ℕ, List}
-use Rattle.pf_tool.specs.Endings.{Refusal, BadName, NotFound, KeyFile, NotProtected, TooLarge, NotUtf8, BadTemplate, BadManifest, Unbuilt, Damaged, Refused, ending_line, ending_status, no_command_line, host_line, memory_line, random_line, stream_line}
+use Rattle.pf_tool.specs.Endings.{Refusal, BadName, NotFound, KeyFile, NotProtected, TooLarge, NotUtf8, BadTemplate, BadManifest, BadLayout, Absent, Unbuilt, Damaged, Refused, ending_line, ending_status, no_command_line, host_line, memory_line, random_line, stream_line}
+use Rattle.enclave_measure.specs.declared.fault.LayoutFault.{LayoutFault}
+use Rattle.enclave_measure.specs.declared.fault.LayoutFault.TheVariants as layouts
 use Rattle.manifest_model.specs.declared.fault.ManifestFault.{ManifestFault}
 use Rattle.manifest_model.specs.declared.fault.ManifestFault.TheVariants as manifests
 use Rattle.template_text.specs.declared.fault.RenderFault.{RenderFault}
@@ -19,6 +21,8 @@ refusal_of whys.TooLarge = TooLarge
 refusal_of whys.NotUtf8 = NotUtf8
 refusal_of (whys.BadTemplate fault) = BadTemplate fault
 refusal_of (whys.BadManifest fault) = BadManifest fault
+refusal_of (whys.BadLayout fault) = BadLayout fault
+refusal_of (whys.Absent name) = Absent name
 refusal_of whys.Unbuilt = Unbuilt
 
 abbrev pub fault_line : Fault → List ℕ
@@ -58,3 +62,11 @@ manifest_fault (manifests.BadSum uri) = faults.Refused (whys.BadManifest (manife
 manifest_fault (manifests.TwoSums uri) = faults.Refused (whys.BadManifest (manifests.TwoSums uri))
 manifest_fault (manifests.BadKey name) = faults.Refused (whys.BadManifest (manifests.BadKey name))
 manifest_fault (manifests.BadPolicy text) = faults.Refused (whys.BadManifest (manifests.BadPolicy text))
+
+-- the fault of a text that is no layout
+abbrev pub layout_fault : LayoutFault → Fault
+layout_fault layouts.Memory = faults.Memory
+layout_fault (layouts.BadLine number) = faults.Refused (whys.BadLayout (layouts.BadLine number))
+layout_fault (layouts.BadSize number) = faults.Refused (whys.BadLayout (layouts.BadSize number))
+layout_fault (layouts.OutOfRange number) = faults.Refused (whys.BadLayout (layouts.OutOfRange number))
+layout_fault (layouts.Repeated number) = faults.Refused (whys.BadLayout (layouts.Repeated number))

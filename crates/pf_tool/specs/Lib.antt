@@ -20,5 +20,6 @@ pub mod Encrypting
 pub mod Making
 pub mod Decrypting
 pub mod Unsealing
+pub mod Measuring
 pub mod Contents
 pub mod Runs

@@ -12,6 +12,7 @@ pub data Request : Type 0 where
   Decrypt : (key input : Name) → Request
   Encrypt : (key input output : Name) → Request
   Manifest : (values : Values) → (template : Name) → (output : Option Name) → Request
+  Measure : (layout : Name) → Request
 
 -- `decrypt -w KEY -i IN`
 abbrev pub decrypt_words : Name → Name → List (List ℕ)
@@ -41,10 +42,15 @@ pub record AsksManifest (words : List (List ℕ)) (values : Values) (template : 
   pub defines : Define behind values (operands template output)
   pub are_operands : AreOperands template output
 
+-- `measure LAYOUT`
+abbrev pub measure_words : Name → List (List ℕ)
+measure_words layout = codes "measure" ∷ layout ∷ []
+
 abbrev pub AskFor : List (List ℕ) → Request → Type 0
 AskFor words (Decrypt key input) = words ≡ decrypt_words key input
 AskFor words (Encrypt key input output) = words ≡ encrypt_words key input output
 AskFor words (Manifest values template output) = AsksManifest words values template output
+AskFor words (Measure layout) = (words ≡ measure_words layout) × IsOperand layout
 
 -- words that are no command, whatever the names
 abbrev pub AskForNothing : List (List ℕ) → Type 0
@@ -55,3 +61,4 @@ abbrev pub request_of : Command → Request
 request_of (commands.Decrypt command) = Decrypt command.key.now command.input.now
 request_of (commands.Encrypt command) = Encrypt command.key.now command.input.now command.output.now
 request_of (commands.Manifest command) = Manifest command.values command.template.now (option_map (λ name. name.now) command.output)
+request_of (commands.Measure command) = Measure command.layout.now

@@ -4,7 +4,7 @@ ghost use Rattle.pf_io.specs.Host.{KeepsFiles};
 ghost use Rattle.pf_io.specs.Names.{IsName};
 ghost use Rattle.pf_io.specs.Unchanged.{KeepsDisk};
 ghost use Rattle.pf_tool.specs.World.{World, with_host};
-ghost use Rattle.pf_tool.specs.InputFiles.{InputLeads, InputRead, MOST_INPUT};
+ghost use Rattle.pf_tool.specs.InputFiles.{InputLeads, InputRead};
 ghost use Rattle.pf_tool.specs.InputSlices.{SliceAdded, SliceFails, SlicesLead, SlicesRead};
 ghost use Rattle.pf_tool.specs.Outcomes.{Falls};
 
@@ -26,7 +26,7 @@ fn add_slice<H: Host>(
     name: &str,
     bytes: &mut Vec<u8>,
 ) -> Result<usize, Fault<'static>>
-    requires { length bytes.old.items ≤ MOST_INPUT }
+    requires { length bytes.old.items ≤ 4194304 }
     ensures files { KeepsFiles (H.state host.old) (H.state host.new) }
     ensures disk { KeepsDisk (H.state host.old) (H.state host.new) }
     ensures added { IfOk result (λ given. SliceAdded name.now given bytes.old.items bytes.new.items (H.state host.old) (H.state host.new)) }
@@ -71,7 +71,7 @@ pub(crate) fn read_input<'a, H: Host>(
 ) -> Result<Bytes, Fault<'a>>
     ensures files { KeepsFiles (H.state host.old) (H.state host.new) }
     ensures disk { KeepsDisk (H.state host.old) (H.state host.new) }
-    ensures small { IfOk result (λ text. length text ≤ MOST_INPUT) }
+    ensures small { IfOk result (λ text. length text ≤ 4194304) }
     ensures read { IfOk result (λ text. (world : World) → InputRead name.now text (with_host world (H.state host.old)) (with_host world (H.state host.new))) }
     ensures refused { IfErr result (λ fault. (world : World) → Falls (InputLeads name.now) (λ _ _. KeepsDisk) fault (with_host world (H.state host.old)) (with_host world (H.state host.new))) }
 {

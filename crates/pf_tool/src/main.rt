@@ -16,6 +16,9 @@ mod manifest;
 #[cfg(test)]
 mod manifest_tests;
 mod manifest_words;
+mod measuring;
+#[cfg(test)]
+mod measuring_tests;
 mod pieces;
 mod plain_file;
 mod rendering;

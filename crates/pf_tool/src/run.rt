@@ -10,6 +10,7 @@ use crate::decrypt::decrypt;
 use crate::encrypt::encrypt;
 use crate::fault::Fault;
 use crate::manifest::write_manifest;
+use crate::measuring::measure_layout;
 use crate::words::{Command, command_of};
 use pf_io::{Host, Sink, Source, Words};
 use std::alloc::Global;
@@ -40,6 +41,7 @@ fn run_command<H: Host, K: Sink, L: Sink, R: Words>(
         Command::Decrypt(command) => conclude(decrypt(alloc, host, command, out), log),
         Command::Encrypt(command) => conclude(encrypt(alloc, host, random, command), log),
         Command::Manifest(command) => conclude(write_manifest(alloc, host, command, out), log),
+        Command::Measure(command) => conclude(measure_layout(alloc, host, command, out), log),
     }
 }
 

@@ -1,12 +1,13 @@
-// Templates that are not rendered and texts that are no manifests: what is said of them.
+// Templates that are not rendered, and texts that are no manifests or no layouts: what is said of them.
 ghost use Rattle.std.specs.Prelude.{◌≡◌};
-ghost use Rattle.pf_tool.specs.Endings.{line, template_text, manifest_text};
-ghost use Rattle.pf_tool.specs.Faults.{template_fault, manifest_fault};
+ghost use Rattle.pf_tool.specs.Endings.{line, template_text, manifest_text, layout_text};
+ghost use Rattle.pf_tool.specs.Faults.{template_fault, manifest_fault, layout_fault};
 ghost use Rattle.pf_tool.specs.Reports.{Written};
 
 use crate::fault::Fault;
 use crate::lines::{write_name, write_name_number, write_number, write_text};
 use crate::why::Why;
+use enclave_measure::LayoutFault;
 use manifest_model::ManifestFault;
 use pf_io::{Sink, StreamFault};
 use template_text::RenderFault;
@@ -29,6 +30,17 @@ impl From<ManifestFault> for Fault<'_> {
         match fault {
             ManifestFault::Memory => Fault::Memory,
             fault => Fault::Refused(Why::BadManifest(fault)),
+        }
+    }
+}
+
+impl From<LayoutFault> for Fault<'_> {
+    ghost from_gives = { λ fault turned. turned ≡ layout_fault fault };
+
+    fn from(fault: LayoutFault) -> Self {
+        match fault {
+            LayoutFault::Memory => Fault::Memory,
+            fault => Fault::Refused(Why::BadLayout(fault)),
         }
     }
 }
@@ -78,5 +90,26 @@ pub(crate) fn say_manifest<L: Sink>(fault: &ManifestFault, log: &mut L) -> Resul
             write_name(log, "refused manifest policy ", text.as_str())
         }
         ManifestFault::Memory => write_text(log, "want of memory"),
+    }
+}
+
+/// Writes the line that names why a text is no layout.
+pub(crate) fn say_layout<L: Sink>(fault: &LayoutFault, log: &mut L) -> Result<(), StreamFault>
+    ensures { Written result (line (layout_text fault.now)) (L.state log.old) (L.state log.new) }
+{
+    match fault {
+        LayoutFault::BadLine { line } => {
+            write_number(log, "refused layout line ", *line as u64, "")
+        }
+        LayoutFault::BadSize { line } => {
+            write_number(log, "refused layout line ", *line as u64, " size")
+        }
+        LayoutFault::OutOfRange { line } => {
+            write_number(log, "refused layout line ", *line as u64, " out of range")
+        }
+        LayoutFault::Repeated { line } => {
+            write_number(log, "refused layout line ", *line as u64, " repeated")
+        }
+        LayoutFault::Memory => write_text(log, "want of memory"),
     }
 }

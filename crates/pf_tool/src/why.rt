@@ -4,9 +4,10 @@ ghost use Rattle.pf_tool.specs.Faults.{refusal_of};
 ghost use Rattle.pf_tool.specs.Reports.{Written};
 
 use crate::lines::{write_name, write_number, write_text};
-use crate::text_refusals::{say_manifest, say_template};
+use crate::text_refusals::{say_layout, say_manifest, say_template};
+use enclave_measure::LayoutFault;
 use manifest_model::ManifestFault;
-use pf_io::{Sink, StreamFault};
+use pf_io::{Sink, StreamFault, Text};
 use template_text::RenderFault;
 
 /// Why a command is refused.
@@ -28,6 +29,10 @@ pub(crate) enum Why<'a> {
     BadTemplate(RenderFault),
     /// The text is no manifest.
     BadManifest(ManifestFault),
+    /// The text is no layout of an enclave.
+    BadLayout(LayoutFault),
+    /// A file that an input lists is absent.
+    Absent(Text),
     /// The case is not built yet.
     Unbuilt,
 }
@@ -46,6 +51,8 @@ impl Why<'_> {
             Why::NotUtf8 => write_text(log, "refused template not utf-8"),
             Why::BadTemplate(fault) => say_template(fault, log),
             Why::BadManifest(fault) => say_manifest(fault, log),
+            Why::BadLayout(fault) => say_layout(fault, log),
+            Why::Absent(name) => write_name(log, "refused not found ", name.as_str()),
             Why::Unbuilt => write_text(log, "refused unbuilt"),
         }
     }

@@ -1,6 +1,6 @@
 // The words of the command line.
 ghost use Rattle.std.specs.Prelude.{◌≡◌, ◌↔◌, IsTrue, IfSome, IfNone, List, ℕ, codes};
-ghost use Rattle.pf_tool.specs.Requests.{texts, decrypt_words, encrypt_words, IsOperand, AskFor, AskForNothing, request_of};
+ghost use Rattle.pf_tool.specs.Requests.{texts, decrypt_words, encrypt_words, IsOperand, Measure as MeasureOf, AskFor, AskForNothing, request_of};
 
 use crate::manifest_words::{Manifest, manifest_of};
 
@@ -24,6 +24,13 @@ pub struct Encrypt<'a> {
     pub output: &'a str,
 }
 
+/// The words `measure LAYOUT`.
+#[derive(Drop)]
+pub struct Measure<'a> {
+    /// The name of the file that lists the enclave's layout.
+    pub layout: &'a str,
+}
+
 /// What the words ask for.
 #[derive(Drop)]
 pub enum Command<'a> {
@@ -33,6 +40,8 @@ pub enum Command<'a> {
     Encrypt(Encrypt<'a>),
     /// Renders a template to the text of a manifest.
     Manifest(Manifest<'a>),
+    /// Measures a listed layout of an enclave.
+    Measure(Measure<'a>),
 }
 
 fn decrypt_of(words: &[String]) -> Option<Decrypt<'_>>
@@ -99,6 +108,22 @@ pub(crate) fn is_operand(word: &str) -> bool
     word.len() < 2 || word.as_bytes()[0] != b'-'
 }
 
+fn measure_of(words: &[String]) -> Option<Measure<'_>>
+    ensures found { IfSome result (λ command. AskFor (texts words.now) (MeasureOf command.layout.now)) }
+    ensures none { IfNone result ((layout : List ℕ) → AskFor (texts words.now) (MeasureOf layout) → ⊥) }
+{
+    let [command, layout] = words else {
+        return None;
+    };
+    if command.as_str() == "measure" && is_operand(layout.as_str()) {
+        Some(Measure {
+            layout: layout.as_str(),
+        })
+    } else {
+        None
+    }
+}
+
 /// The command of the words, or `None` where they are none.
 pub fn command_of(words: &[String]) -> Option<Command<'_>>
     ensures found { IfSome result (λ command. AskFor (texts words.now) (request_of command)) }
@@ -110,8 +135,11 @@ pub fn command_of(words: &[String]) -> Option<Command<'_>>
     if let Some(command) = encrypt_of(words) {
         return Some(Command::Encrypt(command));
     }
-    match manifest_of(words) {
-        Some(command) => Some(Command::Manifest(command)),
+    if let Some(command) = manifest_of(words) {
+        return Some(Command::Manifest(command));
+    }
+    match measure_of(words) {
+        Some(command) => Some(Command::Measure(command)),
         None => None,
     }
 }

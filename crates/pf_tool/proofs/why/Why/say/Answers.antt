@@ -34,3 +34,10 @@ returns-in-TooLarge g c = said_of c.write_text-in-TooLarge.result _ _ (g.L.Sink.
 
 pub returns-in-NotUtf8 : goal.returns-in-NotUtf8
 returns-in-NotUtf8 g c = said_of c.write_text-in-NotUtf8.result _ _ (g.L.Sink.state c.args.log.now) (g.L.Sink.state c.write_text-in-NotUtf8.new.log) c.in-NotUtf8.is c.write_text-in-NotUtf8.ensures
+
+pub returns-in-Absent : goal.returns-in-Absent
+returns-in-Absent g c =
+    let old = g.L.Sink.state c.args.log.now in
+    let new = g.L.Sink.state c.write_name-in-Absent.new.log in
+    said_of c.write_name-in-Absent.result _ _ old new c.in-Absent.is
+    (subst (λ (n : List ℕ). Written c.write_name-in-Absent.result (line (codes "refused not found " ++ n)) old new) c.as_str.ensures c.write_name-in-Absent.ensures)

@@ -1,0 +1,93 @@
+"""Measurements of listed layouts, against the records hashed here."""
+import hashlib
+import random
+import struct
+
+from harness import put, same, tool
+
+PAGE = 4096
+CHUNK = 256
+TYPES = {"tcs": 1, "reg": 2}
+
+
+class Page:
+    """A page with its fields, and the bytes that are measured of it, where any are."""
+
+    def __init__(self, offset, permissions, kind, measured, source, content):
+        self.offset, self.permissions, self.kind = offset, permissions, kind
+        self.measured, self.source, self.content = measured, source, content
+
+    def line(self):
+        extent = "measured" if self.measured else "bare"
+        return f"page {self.offset:#x} {self.permissions} {self.kind} {extent} {self.source}"
+
+    def records(self):
+        bits = sum(1 << place for place, letter in enumerate("rwx") if letter in self.permissions)
+        flags = bits | TYPES[self.kind] << 8
+        yield b"EADD" + bytes(4) + struct.pack("<QQ", self.offset, flags) + bytes(40)
+        if self.measured:
+            content = self.content.ljust(PAGE, b"\0")
+            for place in range(0, PAGE, CHUNK):
+                yield b"EEXTEND\0" + struct.pack("<Q", self.offset + place) + bytes(48) + content[place : place + CHUNK]
+
+
+def measurement(size, frame, pages):
+    digest = hashlib.sha256(b"ECREATE\0" + struct.pack("<IQ", frame, size) + bytes(44))
+    for page in pages:
+        for record in page.records():
+            digest.update(record)
+    return digest.hexdigest()
+
+
+def random_page(source, offset, files):
+    if source.random() < 0.2:
+        return Page(offset, "---", "tcs", source.random() < 0.5, "zero", b"")
+    permissions = source.choice(["---", "r--", "rw-", "r-x", "rwx", "--x"])
+    measured = source.random() < 0.7
+    if source.random() < 0.3:
+        return Page(offset, permissions, "reg", measured, "zero", b"")
+    if not measured and source.random() < 0.5:
+        return Page(offset, permissions, "reg", False, "file absent 7", b"")
+    name = source.choice(sorted(files))
+    at = source.choice([0, 1, PAGE, len(files[name]), source.randrange(20_000)])
+    return Page(offset, permissions, "reg", measured, f"file {name} {at}", files[name][at : at + PAGE])
+
+
+def test_random_layouts_are_measured():
+    source = random.Random(7)
+    files = {name: source.randbytes(size) for name, size in (("empty", 0), ("short", 5), ("long", 10_000))}
+    for name, content in files.items():
+        put(name, content)
+    for _ in range(20):
+        size = 1 << source.randrange(16, 41)
+        offsets = source.sample(range(size // PAGE), source.randrange(12))
+        pages = [random_page(source, PAGE * k, files) for k in offsets]
+        frame = source.randrange(1 << 32)
+        lines = ["# a layout", "", f"enclave {size:#x} {frame}", *(page.line() for page in pages)]
+        put("layout", "\n".join(lines).encode() + source.choice([b"", b"\n", b"\n\n# end"]))
+        ran = tool("measure", "layout")
+        same((ran.status, ran.out, ran.log), (0, measurement(size, frame, pages).encode() + b"\n", ""), str(ran))
+
+
+def test_layouts_are_refused_by_their_first_bad_line():
+    cases = {
+        "": "1",
+        "page 0x0 r-- reg bare zero": "1",
+        "enclave 0x1800 1": "1 size",
+        "enclave 0x1000 1\npage 0x0 -w- reg bare zero": "2",
+        "enclave 0x1000 1\n\npage 0x1000 r-- reg bare zero": "3 out of range",
+        "enclave 0x1000 1\npage 0x0 r-- reg bare zero\npage 0x0 r-- reg bare zero": "3 repeated",
+        "enclave 0x1000 1\npage 0x0 r-- reg measured file absent 0\npage": "3",
+    }
+    for text, said in cases.items():
+        put("layout", text.encode())
+        ran = tool("measure", "layout")
+        same((ran.status, ran.out, ran.log), (3, b"", f"refused layout line {said}\n"), f"{text!r}: {ran}")
+
+
+def test_a_layout_has_a_limit_and_files():
+    put("layout", b"#" * 4_194_305)
+    same(tool("measure", "layout").log, "refused too large\n", "a long layout")
+    put("layout", b"enclave 0x1000 1\npage 0x0 r-- reg measured file absent 0")
+    same(tool("measure", "layout").log, "refused not found absent\n", "an absent file")
+    same(tool("measure", "absent").log, "refused not found absent\n", "an absent layout")
