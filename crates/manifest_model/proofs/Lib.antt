@@ -9,3 +9,4 @@ pub mod Agreed
 pub mod Deciding
 pub mod SumLists
 pub mod Resummed
+pub mod Sorting

@@ -39,6 +39,7 @@ impl Model for Manifest {
 impl Manifest {
     ghost use Rattle.std.specs.Prelude.{slice_get, IfOk, Ok, true};
     ghost use Rattle.std.specs.Map.{lookup};
+    ghost use Rattle.toml.specs.Data.{Members, members_are_sorted};
     ghost use Rattle.toml.specs.Parse.{parse_document};
     ghost use Rattle.manifest_model.specs.Names.{normal, is_absolute};
     ghost use Rattle.manifest_model.specs.Listed.{Seen, Listed, ReadsAs, IsTextOf, refusal, lists_of};
@@ -95,6 +96,7 @@ impl Manifest {
     pub fn read(alloc: Global, bytes: &[u8]) -> Result<Manifest, ManifestFault>
         ensures outcome { (result ≡ Err ManifestFault.Memory) ⊎ ReadsAs bytes.now result }
         ensures no_other { (outcome : Result Seen Fault) → ReadsAs bytes.now outcome → (result ≡ Err ManifestFault.Memory) ⊎ (result ≡ outcome) }
+        ensures keys_rise { (ms : Members) → IsTextOf bytes.now ms → members_are_sorted ms ≡ true }
     {
         Manifest::read_whole(alloc, bytes)
     }
