@@ -1,18 +1,17 @@
 -- The keys of each table that a text gives ascend: tables are built from none, by insertions at the place of a key.
-use Rattle.std.proofs.Common.{◌≡◌, ℕ, zero, suc, Ordering, Less, Equal, Greater, nat_cmp, is_lt, Bool, true, false, cond, ◌&&◌, List, [], ◌∷◌, Option, Some, None, option_map, option_and_then, IfSome, length, drop, slice_index, ◌==◌, refl, sym, subst, ◌∙◌}
-use Rattle.std.specs.Prelude.{⊤}
+use Rattle.std.proofs.Common.{◌≡◌, ℕ, zero, suc, Ordering, Less, Equal, Greater, nat_cmp, is_lt, Bool, true, false, cond, ◌&&◌, List, [], ◌∷◌, Option, Some, None, option_map, option_and_then, IfSome, length, drop, slice_index, ◌==◌, refl, subst, ◌∙◌}
 use Rattle.std.specs.Cmp.Lexicographic.{slice_cmp}
-use Rattle.std.specs.Ordering.{match_ordering, ordering_reverse}
+use Rattle.std.specs.Ordering.{match_ordering}
 use Rattle.std.proofs.lemmas.Bool.{and_parts}
 use Rattle.std.proofs.lemmas.Cmp.{nat_list_cmp_total}
-use Rattle.toml_parser.specs.Lexical.{Read, skip_blank, right_bracket, right_brace, comma, left_bracket, left_brace, equals, hash, line_feed, carriage_return, first, skip_ws}
-use Rattle.toml_parser.specs.Strings.{Key, key, quoted, starts_string, recursion_limit}
+use Rattle.toml_parser.specs.Lexical.{Read, skip_blank, right_bracket, right_brace, left_bracket, left_brace, first, skip_ws}
+use Rattle.toml_parser.specs.Strings.{Key, quoted, starts_string, recursion_limit}
 use Rattle.toml_parser.specs.Numbers.{unquoted}
 use Rattle.toml_parser.specs.declared.scalar.Scalar.{Scalar}
 use Rattle.toml_parser.specs.declared.scalar.Scalar.TheVariants.{Boolean, Integer, Float, Datetime}
-use Rattle.toml.specs.Data.{Data, string, array, table, Items, no_items, item, push_item, Members, no_members, member, same_key, is_before, is_sorted, items_are_sorted, members_are_sorted}
-use Rattle.toml.specs.Tables.{Origin, implicit, dotted, header, Node, value, open_table, open_array, Nodes, no_nodes, node, get_node, insert, replace, close_node, close, Edit, header_node, dot_node, by_header, by_dot, along_header, along_dots, Definition, key_value, std_table, array_table, Expression, new_node, redefine, at_found, at_key, put, Document, define_as, define}
-use Rattle.toml.specs.Parse.{read_map, after_element, key_equals, keyval, items, members, scalar_data, atom, val, header_key, expression, ends_line, line, lines, skip_bom, parse_document}
+use Rattle.toml.specs.Data.{Data, table, Items, no_items, item, push_item, Members, no_members, member, same_key, is_before, is_sorted, items_are_sorted, members_are_sorted}
+use Rattle.toml.specs.Tables.{Origin, implicit, dotted, header, Node, value, open_table, open_array, Nodes, no_nodes, node, get_node, insert, replace, close_node, close, Edit, header_node, dot_node, by_header, by_dot, along_header, along_dots, Definition, key_value, std_table, array_table, Expression, new_node, redefine, at_found, at_key, put, Document, define}
+use Rattle.toml.specs.Parse.{after_element, key_equals, keyval, items, members, scalar_data, atom, val, header_key, expression, ends_line, line, lines, skip_bom, parse_document}
 use Rattle.manifest_model.specs.Listed.{IsTextOf}
 
 -- what is computed from an optional value
@@ -25,9 +24,13 @@ then_gives : {A B : Type 0} (f : A → Option B) (P : A → Type 0) (Q : B → T
 then_gives f P Q None step h = tt
 then_gives f P Q (Some x) step h = step x h
 
-all_give : {A : Type 0} (P : A → Type 0) (o : Option A) → ((x : A) → P x) → IfSome o P
-all_give P None h = tt
-all_give P (Some x) h = h x
+map_always : {A B : Type 0} (f : A → B) (Q : B → Type 0) (o : Option A) → ((x : A) → Q (f x)) → IfSome (option_map f o) Q
+map_always f Q None holds = tt
+map_always f Q (Some x) holds = holds x
+
+then_always : {A B : Type 0} (f : A → Option B) (Q : B → Type 0) (o : Option A) → ((x : A) → IfSome (f x) Q) → IfSome (option_and_then f o) Q
+then_always f Q None holds = tt
+then_always f Q (Some x) holds = holds x
 
 either_gives : {A : Type 0} (b : Bool) (P : A → Type 0) (x y : Option A) → IfSome x P → IfSome y P → IfSome (cond b x y) P
 either_gives true P x y h k = h
@@ -192,52 +195,55 @@ at_key_keeps k what new ns s = at_found_sorted k what new ns (get_node k ns) s (
 put_keeps : (k : Key) (d : Data) → is_sorted d ≡ true → KeepsSorted (put k d)
 put_keeps k d h = along_dots_keeps k.0 (at_key k.1 (key_value d)) (at_key_keeps k.1 (key_value d) h)
 
-define_sorted : (doc : Document) (e : Expression) → AreSorted doc.0 → IsSortedNode (new_node e.1) → IfSome (define doc e) (λ next. AreSorted next.0)
+abbrev IsSortedDocument : Document → Type 0
+IsSortedDocument doc = AreSorted doc.0
+
+define_sorted : (doc : Document) (e : Expression) → IsSortedDocument doc → IsSortedNode (new_node e.1) → IfSome (define doc e) IsSortedDocument
 unfolding define
-define_sorted doc (k, what) s new = by_definition what new
-  where
-    by_definition : (what : Definition) → IsSortedNode (new_node what) → IfSome (define_as doc k what) (λ next. AreSorted next.0)
-    by_definition (key_value d) new = map_gives _ AreSorted (λ next. AreSorted next.0) _ (λ root h. h) (along_header_keeps doc.1 (put k d) (put_keeps k d new) doc.0 s)
-    by_definition std_table new = map_gives _ AreSorted (λ next. AreSorted next.0) _ (λ root h. h) (along_header_keeps k.0 (at_key k.1 std_table) (at_key_keeps k.1 std_table new) doc.0 s)
-    by_definition array_table new = map_gives _ AreSorted (λ next. AreSorted next.0) _ (λ root h. h) (along_header_keeps k.0 (at_key k.1 array_table) (at_key_keeps k.1 array_table new) doc.0 s)
+define_sorted doc (k, key_value d) s new = map_gives _ AreSorted IsSortedDocument _ (λ root h. h) (along_header_keeps doc.1 (put k d) (put_keeps k d new) doc.0 s)
+define_sorted doc (k, std_table) s new = map_gives _ AreSorted IsSortedDocument _ (λ root h. h) (along_header_keeps k.0 (at_key k.1 std_table) (at_key_keeps k.1 std_table new) doc.0 s)
+define_sorted doc (k, array_table) s new = map_gives _ AreSorted IsSortedDocument _ (λ root h. h) (along_header_keeps k.0 (at_key k.1 array_table) (at_key_keeps k.1 array_table new) doc.0 s)
 
 -- values
 
+abbrev IsSortedData : Data × List ℕ → Type 0
+IsSortedData read = is_sorted read.0 ≡ true
+
 abbrev GivesSorted : (List ℕ → Read Data) → Type 0
-GivesSorted val = (text : List ℕ) → IfSome (val text) (λ v. is_sorted v.0 ≡ true)
+GivesSorted val = (text : List ℕ) → IfSome (val text) IsSortedData
+
+abbrev IsSortedPair : (Key × Data) × List ℕ → Type 0
+IsSortedPair read = is_sorted read.0.1 ≡ true
+
+abbrev AreSortedItems : Items × List ℕ → Type 0
+AreSortedItems read = items_are_sorted read.0 ≡ true
+
+abbrev AreSortedMembers : Members × List ℕ → Type 0
+AreSortedMembers read = members_are_sorted read.0 ≡ true
 
 module _ (val : List ℕ → Read Data) (gives : GivesSorted val) where
-  keyval_sorted : (text : List ℕ) → IfSome (keyval val text) (λ e. is_sorted e.0.1 ≡ true)
-  keyval_sorted text =
-      then_gives _ (λ k. ⊤) (λ e. is_sorted e.0.1 ≡ true) (key_equals text)
-      (λ k h. map_gives _ (λ v. is_sorted v.0 ≡ true) (λ e. is_sorted e.0.1 ≡ true) (val k.1) (λ v s. s) (gives k.1))
-      (all_give (λ k. ⊤) (key_equals text) (λ k. tt))
+  keyval_sorted : (text : List ℕ) → IfSome (keyval val text) IsSortedPair
+  keyval_sorted text = then_always _ IsSortedPair (key_equals text) (λ k. map_gives _ IsSortedData IsSortedPair (val k.1) (λ v s. s) (gives k.1))
 
-  items_sorted : (n : ℕ) (found : Items) (text : List ℕ) → items_are_sorted found ≡ true → IfSome (items val n found text) (λ r. items_are_sorted r.0 ≡ true)
+  items_sorted : (n : ℕ) (found : Items) (text : List ℕ) → items_are_sorted found ≡ true → IfSome (items val n found text) AreSortedItems
   unfolding items
   items_sorted zero found text s = tt
   items_sorted (suc n) found text s =
       let start = skip_blank text in
-      either_gives (first start == right_bracket) (λ r. items_are_sorted r.0 ≡ true) (Some (found, drop 1 start)) _ s
-      (then_gives _ (λ v. is_sorted v.0 ≡ true) (λ r. items_are_sorted r.0 ≡ true) (val start)
-      (λ v h. then_gives _ (λ rest. ⊤) (λ r. items_are_sorted r.0 ≡ true) (after_element right_bracket v.1)
-      (λ rest t. items_sorted n (push_item found v.0) rest (pushed found v.0 s h))
-      (all_give (λ rest. ⊤) (after_element right_bracket v.1) (λ rest. tt)))
-      (gives start))
+      let more : (v : Data × List ℕ) → IsSortedData v → IfSome (option_and_then (items val n (push_item found v.0)) (after_element right_bracket v.1)) AreSortedItems =
+      λ v h. then_always _ AreSortedItems (after_element right_bracket v.1) (λ rest. items_sorted n (push_item found v.0) rest (pushed found v.0 s h)) in
+      either_gives (first start == right_bracket) AreSortedItems (Some (found, drop 1 start)) _ s (then_gives _ IsSortedData AreSortedItems (val start) more (gives start))
 
-  members_sorted : (n : ℕ) (found : Nodes) (text : List ℕ) → AreSorted found → IfSome (members val n found text) (λ r. members_are_sorted r.0 ≡ true)
+  members_sorted : (n : ℕ) (found : Nodes) (text : List ℕ) → AreSorted found → IfSome (members val n found text) AreSortedMembers
   unfolding members
   members_sorted zero found text s = tt
   members_sorted (suc n) found text s =
       let start = skip_blank text in
-      either_gives (first start == right_brace) (λ r. members_are_sorted r.0 ≡ true) (Some (close found, drop 1 start)) _ s
-      (then_gives _ (λ e. is_sorted e.0.1 ≡ true) (λ r. members_are_sorted r.0 ≡ true) (keyval val start)
-      (λ e h. then_gives _ AreSorted (λ r. members_are_sorted r.0 ≡ true) (put e.0.0 e.0.1 found)
-      (λ more m. then_gives _ (λ rest. ⊤) (λ r. members_are_sorted r.0 ≡ true) (after_element right_brace e.1)
-      (λ rest t. members_sorted n more rest m)
-      (all_give (λ rest. ⊤) (after_element right_brace e.1) (λ rest. tt)))
-      (put_keeps e.0.0 e.0.1 h found s))
-      (keyval_sorted start))
+      let rest_of : (next : List ℕ) (more : Nodes) → AreSorted more → IfSome (option_and_then (members val n more) (after_element right_brace next)) AreSortedMembers =
+      λ next more h. then_always _ AreSortedMembers (after_element right_brace next) (λ rest. members_sorted n more rest h) in
+      let more : (e : (Key × Data) × List ℕ) → IsSortedPair e → IfSome (option_and_then (λ more. option_and_then (members val n more) (after_element right_brace e.1)) (put e.0.0 e.0.1 found)) AreSortedMembers =
+      λ e h. then_gives _ AreSorted AreSortedMembers (put e.0.0 e.0.1 found) (rest_of e.1) (put_keeps e.0.0 e.0.1 h found s) in
+      either_gives (first start == right_brace) AreSortedMembers (Some (close found, drop 1 start)) _ s (then_gives _ IsSortedPair AreSortedMembers (keyval val start) more (keyval_sorted start))
 
 scalar_sorted : (x : Scalar) → is_sorted (scalar_data x) ≡ true
 scalar_sorted (Boolean b) = refl
@@ -248,19 +254,19 @@ scalar_sorted (Datetime dt) = refl
 atom_sorted : GivesSorted atom
 unfolding atom
 atom_sorted text =
-    either_gives (starts_string text) (λ v. is_sorted v.0 ≡ true) _ _
-    (map_gives _ (λ s. ⊤) (λ v. is_sorted v.0 ≡ true) (quoted text) (λ s t. refl) (all_give (λ s. ⊤) (quoted text) (λ s. tt)))
-    (map_gives _ (λ s. ⊤) (λ v. is_sorted v.0 ≡ true) (unquoted text) (λ s t. scalar_sorted s.0) (all_give (λ s. ⊤) (unquoted text) (λ s. tt)))
+    either_gives (starts_string text) IsSortedData _ _
+    (map_always _ IsSortedData (quoted text) (λ s. refl))
+    (map_always _ IsSortedData (unquoted text) (λ s. scalar_sorted s.0))
 
 val_sorted : (depth : ℕ) → GivesSorted (val depth)
 unfolding val
 val_sorted zero text = atom_sorted text
 val_sorted (suc depth) text =
-    either_gives (first text == left_bracket) (λ v. is_sorted v.0 ≡ true) _ _
-    (map_gives _ (λ r. items_are_sorted r.0 ≡ true) (λ v. is_sorted v.0 ≡ true) _ (λ r s. s) (items_sorted (val depth) (val_sorted depth) (length text) no_items (drop 1 text) refl))
-    (either_gives (first text == left_brace) (λ v. is_sorted v.0 ≡ true) _ _
-    (map_gives _ (λ r. members_are_sorted r.0 ≡ true) (λ v. is_sorted v.0 ≡ true) _ (λ r s. s) (members_sorted (val depth) (val_sorted depth) (length text) no_nodes (drop 1 text) refl))
-    (atom_sorted text))
+    let rest = drop 1 text in
+    let listed = items_sorted (val depth) (val_sorted depth) (length text) no_items rest refl in
+    let tabled = members_sorted (val depth) (val_sorted depth) (length text) no_nodes rest refl in
+    either_gives (first text == left_bracket) IsSortedData _ _ (map_gives _ AreSortedItems IsSortedData _ (λ r s. s) listed)
+    (either_gives (first text == left_brace) IsSortedData _ _ (map_gives _ AreSortedMembers IsSortedData _ (λ r s. s) tabled) (atom_sorted text))
 
 -- documents
 
@@ -271,28 +277,29 @@ expression_sorted : (text : List ℕ) → IfSome (expression text) Defines
 unfolding expression
 expression_sorted text =
     either_gives (first text == left_bracket && slice_index text 1 == left_bracket) Defines _ _
-    (then_gives _ (λ k. ⊤) Defines (header_key (drop 2 text)) (λ k t. map_gives _ (λ rest. ⊤) Defines _ (λ rest t. refl) (all_give (λ rest. ⊤) _ (λ rest. tt))) (all_give (λ k. ⊤) (header_key (drop 2 text)) (λ k. tt)))
+    (then_always _ Defines (header_key (drop 2 text)) (λ k. map_always _ Defines _ (λ rest. refl)))
     (either_gives (first text == left_bracket) Defines _ _
-    (map_gives _ (λ k. ⊤) Defines (header_key (drop 1 text)) (λ k t. refl) (all_give (λ k. ⊤) (header_key (drop 1 text)) (λ k. tt)))
-    (map_gives _ (λ p. is_sorted p.0.1 ≡ true) Defines (keyval (val recursion_limit) text) (λ p s. s) (keyval_sorted (val recursion_limit) (val_sorted recursion_limit) text)))
+    (map_always _ Defines (header_key (drop 1 text)) (λ k. refl))
+    (map_gives _ IsSortedPair Defines _ (λ p s. s) (keyval_sorted (val recursion_limit) (val_sorted recursion_limit) text)))
 
 line_sorted : (text : List ℕ) → IfSome (line text) Defines
 unfolding line
 line_sorted text = then_gives _ Defines Defines (expression text) (λ e h. either_gives (ends_line (skip_ws e.1)) Defines (Some e) None h tt) (expression_sorted text)
 
-lines_sorted : (n : ℕ) (doc : Document) (text : List ℕ) → AreSorted doc.0 → IfSome (lines n doc text) (λ end. AreSorted end.0)
+lines_sorted : (n : ℕ) (doc : Document) (text : List ℕ) → IsSortedDocument doc → IfSome (lines n doc text) IsSortedDocument
 unfolding lines
 lines_sorted zero doc text s = tt
 lines_sorted (suc n) doc text s =
     let start = skip_blank text in
-    either_gives (length start == 0) (λ end. AreSorted end.0) (Some doc) _ s
-    (then_gives _ Defines (λ end. AreSorted end.0) (line start)
-    (λ e h. then_gives _ (λ next. AreSorted next.0) (λ end. AreSorted end.0) (define doc e.0) (λ next h. lines_sorted n next e.1 h) (define_sorted doc e.0 s h))
-    (line_sorted start))
+    let more : (e : Expression × List ℕ) → Defines e → IfSome (option_and_then (λ next. lines n next e.1) (define doc e.0)) IsSortedDocument =
+    λ e h. then_gives _ IsSortedDocument IsSortedDocument (define doc e.0) (λ next. lines_sorted n next e.1) (define_sorted doc e.0 s h) in
+    either_gives (length start == 0) IsSortedDocument (Some doc) _ s (then_gives _ Defines IsSortedDocument (line start) more (line_sorted start))
 
-pub document_sorted : (text : List ℕ) → IfSome (parse_document text) (λ ms. members_are_sorted ms ≡ true)
+document_sorted : (text : List ℕ) → IfSome (parse_document text) (λ ms. members_are_sorted ms ≡ true)
 unfolding parse_document
-document_sorted text = map_gives _ (λ doc. AreSorted doc.0) (λ ms. members_are_sorted ms ≡ true) (lines (suc (length text)) (no_nodes, []) (skip_bom text)) (λ doc s. s) (lines_sorted (suc (length text)) (no_nodes, []) (skip_bom text) refl)
+document_sorted text =
+    let n = suc (length text) in
+    map_gives _ IsSortedDocument (λ ms. members_are_sorted ms ≡ true) (lines n (no_nodes, []) (skip_bom text)) (λ doc s. s) (lines_sorted n (no_nodes, []) (skip_bom text) refl)
 
 pub text_sorted : (bytes : List ℕ) (ms : Members) → IsTextOf bytes ms → members_are_sorted ms ≡ true
 text_sorted bytes ms text = subst (λ o. IfSome o (λ ms. members_are_sorted ms ≡ true)) text.toml (document_sorted bytes)
