@@ -93,7 +93,8 @@ mounting_refusal ms =
 unfoldable pub mounting_of : Members → List Mount
 mounting_of ms = root_of (members_in (get_member (codes "root") ms)) ∷ mounts_of (items_in (get_member (codes "mounts") ms))
 
--- the keys, each of 32 hexadecimal digits of either case, in the order of their names' bytes
+-- the keys, each of 32 hexadecimal digits of either case, as the table has them: in the order of their names' bytes where it
+-- was read (`keys_rise` of `Manifest::read`)
 
 abbrev pub key_digits : List ℕ → List ℕ → Option ManifestFault
 key_digits name text = if is_some (bytes_of 16 text) then None else Some (faults.BadKey name)

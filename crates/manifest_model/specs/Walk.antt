@@ -13,8 +13,8 @@ abbrev pub too_deep : ℕ → List ℕ → Option ManifestFault
 too_deep depth place = if nat_lt DEEPEST depth then bad_field place else None
 
 -- The first value at a depth and a place, or inside of it, that is a float or a date-time or stands too deep: a value
--- before what it holds, items in order, and keys in the order of their bytes, in which a table has them. `prefix` is
--- what stands before a key in its place.
+-- before what it holds, items in order, and keys in the order in which a table has them, which is that of their bytes in
+-- each table that was read (`keys_rise` of `Manifest::read`). `prefix` is what stands before a key in its place.
 abbrev mutual
   pub walk : ℕ → List ℕ → Data → Option ManifestFault
   walk depth place (string s) = too_deep depth place
