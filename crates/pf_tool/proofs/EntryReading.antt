@@ -4,7 +4,7 @@ use Rattle.std.specs.List.{AllByRecursion, concat, count_by}
 use Rattle.std.proofs.lemmas.List.{append-nil}
 use Rattle.sha2.specs.Sha256.{sha256}
 use Rattle.file_sums.specs.Summing.{IsSumOf, SumEnds, slices_asked}
-use Rattle.file_sums.specs.Collecting.{GivesSum, Gives, AllEnd, is_slice, AreSummed}
+use Rattle.file_sums.specs.Collecting.{GivesSum, Gives, AllEnd, is_slice, all_host_part, AreSummed}
 use Rattle.file_sums.specs.declared.fault.SumFault.{SumFault}
 use Rattle.file_sums.specs.declared.fault.SumFault.TheVariants as sum_faults
 use Rattle.file_sums.specs.declared.fault.AllFault.{AllFault}
@@ -12,7 +12,7 @@ use Rattle.file_sums.specs.declared.fault.AllFault.TheVariants as all_faults
 use Rattle.file_sums.proofs.Collected.{count_both, slices_given}
 use Rattle.manifest_model.specs.Listed.{Seen}
 use Rattle.manifest_model.specs.declared.entries.Trusted.{Trusted}
-use Rattle.pf_io.specs.Counts.{counted, counted_times}
+use Rattle.pf_io.specs.Counts.{counted, counted_times, HasCause}
 use Rattle.pf_io.specs.Disk.{Name}
 use Rattle.pf_io.specs.Host.{Answer, LengthWas, Gave, Wrote, WasCut, Synced, Made, Swapped, Removed, HostState, Both, IsMore, OnHonest}
 use Rattle.pf_io.specs.Answered.{Answered, IsAnswerOf}
@@ -162,7 +162,7 @@ sum_next name size whole are small = record {
   sum_is = refl;
 }
 
-ahead_behind : (xs ys : List Event) (ending : Ending) → IsAhead ys Done → ending ≡ Done → IsAhead (xs ++ ys) ending
+pub ahead_behind : (xs ys : List Event) (ending : Ending) → IsAhead ys Done → ending ≡ Done → IsAhead (xs ++ ys) ending
 ahead_behind [] [] ending ahead is = absurd ahead
 ahead_behind [] (y ∷ ys) ending ahead is = tt
 ahead_behind (x ∷ xs) ys ending ahead is = tt
@@ -331,6 +331,14 @@ module _ (output : Option Name) (seen : Seen) where
             starves_at Leading Kept (asked these) rest Done faults.Memory (with_host world old) (with_host world new) refl (ahead_behind (asked some.0) (sums_out all) Done (out_ahead all) refl)
             (subst (λ (l : List Event). FilesLead output seen l Done) joined (out_leads (these ++ some.0) all gives_all))
             (passed_asked these world old new (came_passed these came.slices old new came.answered came.counts n (gives_asks front these sums gives) calm came.untouched)) kept
+
+-- the files were not summed
+pub files_fail : (output : Option Name) (seen : Seen) (old new : HostState) (world : World) (fault : AllFault) → AreSummed (Err fault) seen.lists.trusted old new → HasCause old.faults new.faults (all_host_part {T = List (List ℕ)} (Err fault)) → KeepsDisk old new
+    → Falls (FilesLead output seen) (λ _ _. KeepsDisk) (sums_fault fault) (with_host world old) (with_host world new)
+files_fail output seen old new world (all_faults.At name sum_faults.NotFound) came cause kept = absent_falls output seen old new world name came cause.still kept
+files_fail output seen old new world (all_faults.At name sum_faults.TooLarge) came cause kept = large_falls output seen old new world name came cause.still kept
+files_fail output seen old new world (all_faults.At name sum_faults.Host) came cause kept = host_failed output seen old new world name came cause.once kept
+files_fail output seen old new world all_faults.Memory came cause kept = starved_falls output seen old new world came cause.still kept
 
 -- all files were summed
 pub all_summed : (entries : List Trusted) (sums : List (List ℕ)) (old new : HostState) → AreSummed (Ok sums) entries old new → new.faults ≡ old.faults → FilesSummed entries sums old new

@@ -1,5 +1,5 @@
 // The words of the command line.
-ghost use Rattle.std.specs.Prelude.{◌≡◌, ◌↔◌, IsTrue, IfSome, IfNone, Option, List, ℕ, codes, option_map};
+ghost use Rattle.std.specs.Prelude.{◌≡◌, ◌↔◌, IsTrue, IfSome, IfNone, Option, Some, None, List, ℕ, codes, option_map};
 ghost use Rattle.pf_tool.specs.Requests.{texts, decrypt_words, encrypt_words, IsOperand, Sums as SumsOf, Measure as MeasureOf, AskFor, AskForNothing, request_of};
 
 use crate::manifest_words::{Manifest, manifest_of};
@@ -119,28 +119,47 @@ pub(crate) fn is_operand(word: &str) -> bool
     word.len() < 2 || word.as_bytes()[0] != b'-'
 }
 
+fn sums_alone(words: &[String]) -> Option<Sums<'_>>
+    ensures found { IfSome result (λ command. AskFor (texts words.now) (SumsOf command.manifest.now (option_map (λ name. name.now) command.output))) }
+    ensures none { IfNone result ((manifest : List ℕ) → AskFor (texts words.now) (SumsOf manifest None) → ⊥) }
+{
+    let [command, manifest] = words else {
+        return None;
+    };
+    if command.as_str() == "sums" && is_operand(manifest.as_str()) {
+        Some(Sums {
+            manifest: manifest.as_str(),
+            output: None,
+        })
+    } else {
+        None
+    }
+}
+
+fn sums_to_file(words: &[String]) -> Option<Sums<'_>>
+    ensures found { IfSome result (λ command. AskFor (texts words.now) (SumsOf command.manifest.now (option_map (λ name. name.now) command.output))) }
+    ensures none { IfNone result ((manifest output : List ℕ) → AskFor (texts words.now) (SumsOf manifest (Some output)) → ⊥) }
+{
+    let [command, option, output, manifest] = words else {
+        return None;
+    };
+    if command.as_str() == "sums" && option.as_str() == "-o" && is_operand(manifest.as_str()) {
+        Some(Sums {
+            manifest: manifest.as_str(),
+            output: Some(output.as_str()),
+        })
+    } else {
+        None
+    }
+}
+
 fn sums_of(words: &[String]) -> Option<Sums<'_>>
     ensures found { IfSome result (λ command. AskFor (texts words.now) (SumsOf command.manifest.now (option_map (λ name. name.now) command.output))) }
     ensures none { IfNone result ((manifest : List ℕ) (output : Option (List ℕ)) → AskFor (texts words.now) (SumsOf manifest output) → ⊥) }
 {
-    match words {
-        [command, manifest] if command.as_str() == "sums" && is_operand(manifest.as_str()) => {
-            Some(Sums {
-                manifest: manifest.as_str(),
-                output: None,
-            })
-        }
-        [command, option, output, manifest]
-            if command.as_str() == "sums"
-                && option.as_str() == "-o"
-                && is_operand(manifest.as_str()) =>
-        {
-            Some(Sums {
-                manifest: manifest.as_str(),
-                output: Some(output.as_str()),
-            })
-        }
-        _ => None,
+    match sums_alone(words) {
+        Some(command) => Some(command),
+        None => sums_to_file(words),
     }
 }
 
