@@ -2,7 +2,6 @@
 use Rattle.std.proofs.Common.{◌≡◌, ◌⊎◌, inl, inr, ℕ, ◌+◌, ◌<◌, ◌≤◌, List, [], ◌∷◌, ◌++◌, length, refl, subst, ap, ap₂, ◌∙◌, sym, arith, append_assoc, Option, Some, None, Result, Ok, Err}
 use Rattle.std.specs.List.{concat}
 use Rattle.std.proofs.lemmas.List.{append-nil}
-use Rattle.sha2.specs.Sha256.{sha256}
 use Rattle.file_sums.specs.Summing.{IsSumOf, SumEnds, SumsFile}
 use Rattle.file_sums.specs.Collecting.{GivesSum, Gives, AllEnd, IsSumIn, AreSumsIn, IsFirstRefused, SumsFiles}
 use Rattle.file_sums.specs.Collecting as collecting
@@ -15,6 +14,7 @@ use Rattle.pf_io.specs.Disk.{Name, Files}
 use Rattle.pf_io.specs.Host.{Answer, LengthWas}
 use Rattle.pf_io.specs.Slices.{SLICE, MOST_BYTES, given_in_turn, AreWhole, IsTaken, CameInTurn, IsTooLarge}
 use Rattle.pf_io.proofs.Slices.{long_last}
+use Rattle.file_sums.proofs.Deciding.{decided}
 use Rattle.pf_tool.proofs.InputLaws.{Ends, turn_one}
 
 -- a result that is no fault of the host
@@ -59,26 +59,21 @@ module _ (name : Name) (these those more further : List Answer) (same : these ++
   moved : (a b : List Answer) → these ≡ a → those ≡ b → a ++ more ≡ b ++ further
   moved a b is is2 = ap (λ (l : List Answer). l ++ more) (sym is) ∙ same ∙ ap (λ (l : List Answer). l ++ further) is2
 
-  record SameTurn (a : Turn name these) (b : Turn name those) : Type 0 where
-    all : these ≡ those
-    wholes : a.whole ≡ b.whole
-    lasts : a.last ≡ b.last
-    behind : more ≡ further
+  abbrev Alike : Type 0
+  Alike = (these ≡ those) × (more ≡ further)
 
-  same_turn : (a : Turn name these) (b : Turn name those) → SameTurn a b
-  same_turn a b =
+  same_all : Turn name these → Turn name those → Alike
+  same_all a b =
       let all : LengthWas name (Some a.size) ∷ (given_in_turn name 0 (a.whole ++ a.last ∷ []) ++ more) ≡ LengthWas name (Some b.size) ∷ (given_in_turn name 0 (b.whole ++ b.last ∷ []) ++ further) =
       moved (LengthWas name (Some a.size) ∷ given_in_turn name 0 (a.whole ++ a.last ∷ [])) (LengthWas name (Some b.size) ∷ given_in_turn name 0 (b.whole ++ b.last ∷ [])) a.is b.is in
       let sizes : a.size ≡ b.size = cc in
       let rest : given_in_turn name 0 (a.whole ++ a.last ∷ []) ++ more ≡ given_in_turn name 0 (b.whole ++ b.last ∷ []) ++ further = cc in
       let one = turn_one MOST_BYTES name 0 a.whole b.whole a.last b.last more further a.are_whole b.are_whole a.end b.end rest in
-      record {
-        all = a.is ∙ ap (λ (n : ℕ). LengthWas name (Some n) ∷ given_in_turn name 0 (a.whole ++ a.last ∷ [])) sizes
-            ∙ ap₂ (λ (w : List (List ℕ)) (l : List ℕ). LengthWas name (Some b.size) ∷ given_in_turn name 0 (w ++ l ∷ [])) one.0 one.1 ∙ sym b.is;
-        wholes = one.0;
-        lasts = one.1;
-        behind = one.2;
-      }
+      (
+        a.is ∙ ap (λ (n : ℕ). LengthWas name (Some n) ∷ given_in_turn name 0 (a.whole ++ a.last ∷ [])) sizes
+        ∙ ap₂ (λ (w : List (List ℕ)) (l : List ℕ). LengthWas name (Some b.size) ∷ given_in_turn name 0 (w ++ l ∷ [])) one.0 one.1 ∙ sym b.is,
+        one.2,
+      )
 
   absent_second : {X : Type 0} → Turn name these → those ≡ LengthWas name None ∷ [] → X
   absent_second a is =
@@ -92,41 +87,29 @@ module _ (name : Name) (these those more further : List Answer) (same : these ++
       moved (LengthWas name None ∷ []) (LengthWas name (Some b.size) ∷ given_in_turn name 0 (b.whole ++ b.last ∷ [])) is b.is in
       absurd (cc)
 
-  -- bytes that are too many, and not
-  many_not : {X : Type 0} (a b : List (List ℕ)) (l k bytes : List ℕ) → a ≡ b → l ≡ k → MOST_BYTES < length (concat (a ++ l ∷ [])) → bytes ≡ concat (b ++ k ∷ []) → length bytes ≤ MOST_BYTES → X
-  many_not a b l k bytes wholes lasts many is few =
-      let same_bytes : bytes ≡ concat (a ++ l ∷ []) = is ∙ ap₂ (λ (w : List (List ℕ)) (s : List ℕ). concat (w ++ s ∷ [])) (sym wholes) (sym lasts) in
-      absurd (omega (arith, many, few, ap (λ (s : List ℕ). length s) same_bytes))
-
-  abbrev One : Result (List ℕ) SumFault → Result (List ℕ) SumFault → Type 0
-  One r s = (these ≡ those) × (r ≡ s) × (more ≡ further)
-
-  -- the same answers for a file come to one outcome, by as many answers
-  file_one : (r s : Result (List ℕ) SumFault) → IsCalm r → IsCalm s → SumEnds r name these → SumEnds s name those → One r s
-  file_one (Ok sum) (Ok other) calm calm2 first second =
-      let one = same_turn (taken_turn sum name these first) (taken_turn other name those second) in
-      let bytes : first.bytes ≡ second.bytes = first.taken.bytes_are ∙ ap₂ (λ (w : List (List ℕ)) (l : List ℕ). concat (w ++ l ∷ [])) one.wholes one.lasts ∙ sym second.taken.bytes_are in
-      (one.all, ap (λ (s : List ℕ). Ok s) (first.sum_is ∙ ap sha256 bytes ∙ sym second.sum_is), one.behind)
-  file_one (Ok sum) (Err sum_faults.NotFound) calm calm2 first second = absent_second (taken_turn sum name these first) second
-  file_one (Ok sum) (Err sum_faults.TooLarge) calm calm2 first second =
-      let one = same_turn (taken_turn sum name these first) (large_turn name those second) in
-      many_not second.whole first.taken.whole second.last first.taken.last first.bytes (sym one.wholes) (sym one.lasts) second.too_large first.taken.bytes_are first.not_large
-  file_one (Ok sum) (Err sum_faults.Host) calm calm2 first second = absurd calm2
-  file_one (Err sum_faults.NotFound) (Ok other) calm calm2 first second = absent_first first (taken_turn other name those second)
-  file_one (Err sum_faults.NotFound) (Err sum_faults.NotFound) calm calm2 first second =
+  -- as many answers are for a file
+  file_alike : (r s : Result (List ℕ) SumFault) → IsCalm r → IsCalm s → SumEnds r name these → SumEnds s name those → Alike
+  file_alike (Ok sum) (Ok other) calm calm2 first second = same_all (taken_turn sum name these first) (taken_turn other name those second)
+  file_alike (Ok sum) (Err sum_faults.NotFound) calm calm2 first second = absent_second (taken_turn sum name these first) second
+  file_alike (Ok sum) (Err sum_faults.TooLarge) calm calm2 first second = same_all (taken_turn sum name these first) (large_turn name those second)
+  file_alike (Ok sum) (Err sum_faults.Host) calm calm2 first second = absurd calm2
+  file_alike (Err sum_faults.NotFound) (Ok other) calm calm2 first second = absent_first first (taken_turn other name those second)
+  file_alike (Err sum_faults.NotFound) (Err sum_faults.NotFound) calm calm2 first second =
       let all : LengthWas name None ∷ more ≡ LengthWas name None ∷ further = moved (LengthWas name None ∷ []) (LengthWas name None ∷ []) first second in
-      (first ∙ sym second, refl, cc)
-  file_one (Err sum_faults.NotFound) (Err sum_faults.TooLarge) calm calm2 first second = absent_first first (large_turn name those second)
-  file_one (Err sum_faults.NotFound) (Err sum_faults.Host) calm calm2 first second = absurd calm2
-  file_one (Err sum_faults.TooLarge) (Ok other) calm calm2 first second =
-      let one = same_turn (large_turn name these first) (taken_turn other name those second) in
-      many_not first.whole second.taken.whole first.last second.taken.last second.bytes one.wholes one.lasts first.too_large second.taken.bytes_are second.not_large
-  file_one (Err sum_faults.TooLarge) (Err sum_faults.NotFound) calm calm2 first second = absent_second (large_turn name these first) second
-  file_one (Err sum_faults.TooLarge) (Err sum_faults.TooLarge) calm calm2 first second =
-      let one = same_turn (large_turn name these first) (large_turn name those second) in
-      (one.all, refl, one.behind)
-  file_one (Err sum_faults.TooLarge) (Err sum_faults.Host) calm calm2 first second = absurd calm2
-  file_one (Err sum_faults.Host) s calm calm2 first second = absurd calm
+      (first ∙ sym second, cc)
+  file_alike (Err sum_faults.NotFound) (Err sum_faults.TooLarge) calm calm2 first second = absent_first first (large_turn name those second)
+  file_alike (Err sum_faults.NotFound) (Err sum_faults.Host) calm calm2 first second = absurd calm2
+  file_alike (Err sum_faults.TooLarge) (Ok other) calm calm2 first second = same_all (large_turn name these first) (taken_turn other name those second)
+  file_alike (Err sum_faults.TooLarge) (Err sum_faults.NotFound) calm calm2 first second = absent_second (large_turn name these first) second
+  file_alike (Err sum_faults.TooLarge) (Err sum_faults.TooLarge) calm calm2 first second = same_all (large_turn name these first) (large_turn name those second)
+  file_alike (Err sum_faults.TooLarge) (Err sum_faults.Host) calm calm2 first second = absurd calm2
+  file_alike (Err sum_faults.Host) s calm calm2 first second = absurd calm
+
+  -- and they come to one outcome
+  file_one : (r s : Result (List ℕ) SumFault) → IsCalm r → IsCalm s → SumEnds r name these → SumEnds s name those → (these ≡ those) × (r ≡ s) × (more ≡ further)
+  file_one r s calm calm2 first second =
+      let alike = file_alike r s calm calm2 first second in
+      (alike.0, decided name those r s (subst (λ (l : List Answer). SumEnds r name l) alike.0 first) second, alike.1)
 
 -- how an entry ends by its answers
 abbrev pub EntrySaid : Option (List ℕ) → Name → List Answer → Result (List ℕ) SumFault → Type 0

@@ -2,7 +2,6 @@
 use Rattle.std.proofs.Common.{◌≡◌, ◌⊎◌, inl, inr, ℕ, zero, suc, ◌+◌, ◌-◌, ◌≤◌, List, [], ◌∷◌, ◌++◌, length, map, refl, subst, ap, ap₂, ◌∙◌, sym, arith, append_assoc, Option, Some, None, Result, Ok, Err}
 use Rattle.std.specs.List.{AllByRecursion, concat, count_by}
 use Rattle.std.proofs.lemmas.List.{append-nil}
-use Rattle.sha2.specs.Sha256.{sha256}
 use Rattle.file_sums.specs.Summing.{IsSumOf, SumEnds, slices_asked}
 use Rattle.file_sums.specs.Collecting.{GivesSum, Gives, AllEnd, is_slice, all_host_part, AreSummed}
 use Rattle.file_sums.specs.declared.fault.SumFault.{SumFault}
@@ -10,6 +9,7 @@ use Rattle.file_sums.specs.declared.fault.SumFault.TheVariants as sum_faults
 use Rattle.file_sums.specs.declared.fault.AllFault.{AllFault}
 use Rattle.file_sums.specs.declared.fault.AllFault.TheVariants as all_faults
 use Rattle.file_sums.proofs.Collected.{count_both, slices_given}
+use Rattle.file_sums.proofs.Existing.{gives_some, gives_join, sum_next}
 use Rattle.manifest_model.specs.Listed.{Seen}
 use Rattle.manifest_model.specs.declared.entries.Trusted.{Trusted}
 use Rattle.pf_io.specs.Counts.{counted, counted_times, HasCause}
@@ -123,45 +123,6 @@ came_passed these slices old new answered counts is asks calm untouched = record
   honest = answered.honest;
 }
 
--- some answers for entries, whatever they are
-sum_some : (o : Option (List ℕ)) (name : Name) → (these : List Answer) × (sum : List ℕ) × GivesSum o name these sum
-sum_some (Some listed) name = ([], listed, (refl, refl))
-sum_some None name = (
-  LengthWas name (Some 0) ∷ Gave name 0 SLICE [] ∷ [],
-  sha256 [],
-  record { bytes = []; taken = record { size = 0; whole = []; last = []; are_whole = tt; ended = omega arith; asked = refl; bytes_are = refl }; not_large = omega arith; sum_is = refl },
-)
-
-pub gives_some : (entries : List Trusted) → (these : List Answer) × (sums : List (List ℕ)) × Gives entries these sums
-gives_some [] = ([], [], (refl, refl))
-gives_some (entry ∷ entries) =
-    let first = sum_some entry.sum entry.name in
-    let rest = gives_some entries in
-    (first.0 ++ rest.0, first.1 ∷ rest.1, (first.0, rest.0, first.1, rest.1, first.2, rest.2, refl, refl))
-
--- entries behind entries
-gives_join : (front others : List Trusted) (a b : List Answer) (c d : List (List ℕ)) → Gives front a c → Gives others b d → Gives (front ++ others) (a ++ b) (c ++ d)
-gives_join [] others a b c d gives rest = subst (λ (l : List Answer). Gives others (l ++ b) (c ++ d)) (sym gives.0) (subst (λ (l : List (List ℕ)). Gives others b (l ++ d)) (sym gives.1) rest)
-gives_join (first ∷ front) others a b c d gives rest = (
-  gives.0,
-  gives.1 ++ b,
-  gives.2,
-  gives.3 ++ d,
-  gives.4,
-  gives_join front others gives.1 b gives.3 d gives.5 rest,
-  ap (λ (l : List Answer). l ++ b) gives.6 ∙ append_assoc gives.0 gives.1 b,
-  ap (λ (l : List (List ℕ)). l ++ d) gives.7,
-)
-
--- with an empty slice behind whole ones the file is summed
-sum_next : (name : Name) (size : ℕ) (whole : List (List ℕ)) → AreWhole whole → length (concat whole) ≤ MOST_BYTES → IsSumOf (sha256 (concat (whole ++ [] ∷ []))) name (LengthWas name (Some size) ∷ given_in_turn name 0 (whole ++ [] ∷ []))
-sum_next name size whole are small = record {
-  bytes = concat (whole ++ [] ∷ []);
-  taken = record { size = size; whole = whole; last = []; are_whole = are; ended = omega arith; asked = refl; bytes_are = refl };
-  not_large = omega (arith, small, ap (λ (l : List ℕ). length l) (concat_last whole [] ∙ append-nil (concat whole)));
-  sum_is = refl;
-}
-
 pub ahead_behind : (xs ys : List Event) (ending : Ending) → IsAhead ys Done → ending ≡ Done → IsAhead (xs ++ ys) ending
 ahead_behind [] [] ending ahead is = absurd ahead
 ahead_behind [] (y ∷ ys) ending ahead is = tt
@@ -232,12 +193,13 @@ module _ (output : Option Name) (seen : Seen) where
       slice_next size slices are small =
           let name = entry.name in
           let some = gives_some others in
-          let sum = sha256 (concat (slices ++ [] ∷ [])) in
+          let next = sum_next name size slices are small in
+          let sum = next.0 in
           let Came : List Answer = LengthWas name (Some size) ∷ given_in_turn name 0 slices in
           let last : Answer = Gave name (length (concat slices)) SLICE [] in
           let here : List Answer = LengthWas name (Some size) ∷ given_in_turn name 0 (slices ++ [] ∷ []) in
           let turn : here ≡ Came ++ last ∷ [] = ap (λ (l : List Answer). LengthWas name (Some size) ∷ l) (in_turn_append name 0 slices ([] ∷ [])) in
-          let this : GivesSum entry.sum name here sum = subst (λ (o : Option (List ℕ)). GivesSum o name here sum) (sym unlisted) (sum_next name size slices are small) in
+          let this : GivesSum entry.sum name here sum = subst (λ (o : Option (List ℕ)). GivesSum o name here sum) (sym unlisted) next.1 in
           let behind : Gives (entry ∷ others) (here ++ some.0) (sum ∷ some.1) = (here, some.0, sum, some.1, this, some.2, refl, refl) in
           let all : List Answer = before ++ (here ++ some.0) in
           let given = sums ++ sum ∷ some.1 in

@@ -1,6 +1,9 @@
 -- `sums` from its parts: the reading of the manifest, the sums of its files, and what goes out.
-use Rattle.std.proofs.Common.{◌≡◌, ◌⊎◌, inl, inr, ⊎_elim, ℕ, List, [], ◌∷◌, ◌++◌, map, refl, subst, ap, ap₂, ◌∙◌, sym, append_assoc, Option, Some, None, IfSome, Result, Ok, Err}
-use Rattle.std.specs.List.{AllByRecursion}
+use Rattle.std.proofs.Common.{◌≡◌, ◌⊎◌, inl, inr, ⊎_elim, ℕ, zero, suc, ◌+◌, ◌<◌, List, [], ◌∷◌, ◌++◌, length, take, get_or, arith, map, refl, subst, ap, ap₂, ◌∙◌, sym, append_assoc, Option, Some, None, IfSome, Result, Ok, Err}
+use Rattle.std.specs.List.{AllByRecursion, slice_get}
+use Rattle.file_sums.specs.Lines.{sum_line}
+use Rattle.manifest_model.specs.Summed.{FitSums}
+use Rattle.manifest_model.specs.declared.entries.Trusted.{Trusted}
 use Rattle.std.proofs.lemmas.List.{append-nil}
 use Rattle.std.proofs.lemmas.Option.{IfSome_then}
 use Rattle.file_sums.specs.Collecting.{Gives, AreSumsIn}
@@ -33,7 +36,8 @@ use Rattle.pf_tool.specs.declared.fault.Fault.TheVariants as faults
 use Rattle.pf_tool.specs.declared.why.Why.TheVariants as whys
 use Rattle.pf_tool.proofs.Asking.{asked_answers, passed_asked}
 use Rattle.pf_tool.proofs.Composing.{answers_then, passed_none, passed_reading}
-use Rattle.pf_tool.proofs.EntryReading.{gives_some, ahead_behind, sums_out, out_ahead, out_leads}
+use Rattle.file_sums.proofs.Existing.{gives_some}
+use Rattle.pf_tool.proofs.EntryReading.{ahead_behind, sums_out, out_ahead, out_leads}
 use Rattle.pf_tool.proofs.Following.{all_split}
 use Rattle.pf_tool.proofs.InputDisk.{kept_leaves}
 use Rattle.pf_tool.proofs.ManifestFileLaws.{seen_from}
@@ -244,3 +248,25 @@ module _ (manifest : Name) where
           pub sums_end : {T : Type 0} (r : Result T Fault) → ComesOut (WritesSums output seen sums) (LeavesSums output seen sums) r last new → ComesOut (SumsLead manifest output) (SumsLeave manifest output) r old new
           sums_end (Ok v) ends = sums_outcome (AtEnd Done) ends
           sums_end (Err fault) ends = record { stop = ends.stop; is_fault = ends.is_fault; outcome = sums_outcome ends.stop ends.outcome }
+
+-- the lines of the sums, line by line
+
+pub fit_length : (entries : List Trusted) (sums : List (List ℕ)) → FitSums entries sums → length sums ≡ length entries
+fit_length [] [] fit = refl
+fit_length [] (sum ∷ sums) fit = absurd fit
+fit_length (entry ∷ entries) [] fit = absurd fit
+fit_length (entry ∷ entries) (sum ∷ sums) fit = ap suc (fit_length entries sums fit.1)
+
+lines_first : (entries : List Trusted) (sums : List (List ℕ)) (k : ℕ) (entry : Trusted) (none : List ℕ) → slice_get entries k ≡ Some entry → k < length sums → sum_lines (take (suc k) entries) (take (suc k) sums) ≡ sum_lines (take k entries) (take k sums) ++ sum_line (get_or sums k none) entry.uri
+lines_first [] sums k entry none at lt = absurd (cc)
+lines_first (e ∷ entries) [] k entry none at lt = absurd (omega (arith, lt))
+lines_first (e ∷ entries) (sum ∷ sums) zero entry none at lt = let same : e ≡ entry = cc in append-nil (sum_line sum e.uri) ∙ ap (λ (t : Trusted). sum_line sum t.uri) same
+lines_first (e ∷ entries) (sum ∷ sums) (suc k) entry none at lt =
+    ap (λ (l : List ℕ). sum_line sum e.uri ++ l) (lines_first entries sums k entry none at (omega (arith, lt))) ∙ sym (append_assoc (sum_line sum e.uri) (sum_lines (take k entries) (take k sums)) (sum_line (get_or sums k none) entry.uri))
+
+-- one line more
+pub lines_more : (entries : List Trusted) (sums : List (List ℕ)) (k : ℕ) (entry : Trusted) (none lines : List ℕ) → slice_get entries k ≡ Some entry → k < length sums → lines ≡ sum_lines (take k entries) (take k sums)
+    → lines ++ sum_line (get_or sums k none) entry.uri ≡ sum_lines (take (k + 1) entries) (take (k + 1) sums)
+lines_more entries sums k entry none lines at lt so_far =
+    let next : suc k ≡ k + 1 = omega arith in
+    ap (λ (l : List ℕ). l ++ sum_line (get_or sums k none) entry.uri) so_far ∙ sym (lines_first entries sums k entry none at lt) ∙ ap (λ (n : ℕ). sum_lines (take n entries) (take n sums)) next

@@ -79,8 +79,9 @@ pub(crate) fn lines_of(
     ensures { IfOk result (λ lines. lines ≡ sum_lines manifest.now.lists.trusted sums.now) }
 {
     let mut lines = String::new(alloc);
-    for (k, sum) in sums.iter().enumerate() {
-        let line = sum_line(alloc, sum, manifest.trusted(k).uri.as_str())?;
+    for k in 0..sums.len() {
+        let entry = manifest.trusted(k);
+        let line = sum_line(alloc, &sums[k], entry.uri.as_str())?;
         lines.push_str(line.as_str())?;
     }
     Ok(Text::from(lines))

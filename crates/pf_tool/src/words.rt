@@ -136,6 +136,12 @@ fn sums_alone(words: &[String]) -> Option<Sums<'_>>
     }
 }
 
+fn is_sums_to_file(command: &str, option: &str, manifest: &str) -> bool
+    ensures { IsTrue result ↔ (command.now ≡ codes "sums") × (option.now ≡ codes "-o") × IsOperand manifest.now }
+{
+    command == "sums" && option == "-o" && is_operand(manifest)
+}
+
 fn sums_to_file(words: &[String]) -> Option<Sums<'_>>
     ensures found { IfSome result (λ command. AskFor (texts words.now) (SumsOf command.manifest.now (option_map (λ name. name.now) command.output))) }
     ensures none { IfNone result ((manifest output : List ℕ) → AskFor (texts words.now) (SumsOf manifest (Some output)) → ⊥) }
@@ -143,14 +149,13 @@ fn sums_to_file(words: &[String]) -> Option<Sums<'_>>
     let [command, option, output, manifest] = words else {
         return None;
     };
-    if command.as_str() == "sums" && option.as_str() == "-o" && is_operand(manifest.as_str()) {
-        Some(Sums {
-            manifest: manifest.as_str(),
-            output: Some(output.as_str()),
-        })
-    } else {
-        None
+    if !is_sums_to_file(command.as_str(), option.as_str(), manifest.as_str()) {
+        return None;
     }
+    Some(Sums {
+        manifest: manifest.as_str(),
+        output: Some(output.as_str()),
+    })
 }
 
 fn sums_of(words: &[String]) -> Option<Sums<'_>>

@@ -1,18 +1,8 @@
-use Rattle.std.proofs.Common.{◌≡◌, ℕ, List, refl, subst, sym, ap, ◌∙◌, rules}
+use Rattle.std.proofs.Common.{◌≡◌, ◌∷◌, [], List, ℕ, string_bytes, subst, sym, ap, ◌∙◌}
 use Rattle.std.specs.Prelude.{codes}
 use Rattle.pf_tool.specs.Requests.{texts, IsOperand}
-use Rattle.pf_tool.proofs.Lists.{four}
+use Rattle.pf_tool.proofs.Lists.{four, never_true}
 use Rattle.pf_tool.proofs.words.sums_to_file.Goals as goal
 
-pub returns-then-is_operand-clause-found : goal.returns-then-is_operand-clause-found
-returns-then-is_operand-clause-found c =
-    let words = four c.args.words.now c.command-item.result c.option-item.result c.output-item.result c.manifest-item.result c.in-len4.len_at_least c.in-len4.len_below c.command-item.is c.option-item.is c.output-item.is c.manifest-item.is in
-    let command : c.as_str.result.now ≡ codes "sums" = search rules in
-    let option : c.as_str-then-eq.result.now ≡ codes "-o" = search rules in
-    let first = c.as_str.ensures.value in
-    let second = c.as_str-then-eq.ensures.value in
-    let tested = c.as_str-then-eq-2.ensures.value in
-    let given = c.as_str-then-is_operand.ensures.value in
-    let file = c.as_str-then-is_operand-2.ensures.value in
-    let operand : IsOperand c.as_str-then-eq-2.result.now = c.if-is_operand.ensures.0 refl in
-    (ap texts words ∙ (cc), subst (λ (l : List ℕ). IsOperand l) (tested ∙ sym given) operand)
+pub returns-then-not-is_sums_to_file-clause-none : goal.returns-then-not-is_sums_to_file-clause-none
+returns-then-not-is_sums_to_file-clause-none c = ?
