@@ -1,5 +1,5 @@
 -- The summing of a manifest's files, from its calls.
-use Rattle.std.proofs.Common.{◌≡◌, ◌⊎◌, inl, inr, ℕ, zero, suc, ◌+◌, ◌-◌, ◌≤◌, List, [], ◌∷◌, ◌++◌, length, map, refl, subst, ap, ap₂, ◌∙◌, sym, arith, append_assoc, Option, Some, None, Result, Ok, Err}
+use Rattle.std.proofs.Common.{◌≡◌, ◌⊎◌, inl, inr, ℕ, zero, suc, zero-add, ◌+◌, ◌-◌, ◌≤◌, List, [], ◌∷◌, ◌++◌, length, map, refl, subst, ap, ap₂, ◌∙◌, sym, arith, append_assoc, Option, Some, None, Result, Ok, Err}
 use Rattle.std.specs.List.{AllByRecursion, concat, count_by}
 use Rattle.std.proofs.lemmas.List.{append-nil}
 use Rattle.file_sums.specs.Summing.{IsSumOf, SumEnds, slices_asked}
@@ -19,7 +19,7 @@ use Rattle.pf_io.specs.Answered.{Answered, IsAnswerOf}
 use Rattle.pf_io.specs.Slices.{SLICE, MOST_BYTES, given_in_turn, AreWhole, IsStopped, at_length, at_slice, ReadsSlices}
 use Rattle.pf_io.specs.Unchanged.{KeepsDisk}
 use Rattle.pf_io.proofs.Answering.{all_append}
-use Rattle.pf_io.proofs.Slices.{times_then, in_turn_append, concat_last}
+use Rattle.pf_io.proofs.Slices.{times_then}
 use Rattle.pf_tool.specs.World.{World, with_host}
 use Rattle.pf_tool.specs.Events.{Event, Answers, Puts, reads_after, writes_after}
 use Rattle.pf_tool.specs.Endings.{Ending, Done, Refused, TooLarge, Absent, Stop}
@@ -34,6 +34,7 @@ use Rattle.pf_tool.specs.declared.fault.Fault.TheVariants as faults
 use Rattle.pf_tool.specs.declared.why.Why.TheVariants as whys
 use Rattle.pf_tool.proofs.Asking.{asked_then, passed_asked}
 use Rattle.pf_tool.proofs.Composing.{failed_host}
+use Rattle.pf_tool.proofs.InputReading.{in_turn_more}
 use Rattle.pf_tool.proofs.ManifestEnding.{events_ahead}
 use Rattle.pf_tool.proofs.PieceRuns.{same_given}
 use Rattle.pf_tool.proofs.Stopping.{refused, host_fails, starves_at}
@@ -102,7 +103,7 @@ count_first answer these = count_both (answer ∷ []) these
 
 asks_reads : (these : List Answer) (count : ℕ) → Asks these → reads_after these count ≡ counted_times (count_by is_slice these) count
 asks_reads [] count asks = refl
-asks_reads (LengthWas name size ∷ these) count asks = asks_reads these count asks.1 ∙ ap (λ (n : ℕ). counted_times n count) (sym (count_first (LengthWas name size) these))
+asks_reads (LengthWas name size ∷ these) count asks = asks_reads these count asks.1 ∙ ap (λ (n : ℕ). counted_times n count) (sym (count_first (LengthWas name size) these ∙ zero-add (count_by is_slice these)))
 asks_reads (Gave name place room bytes ∷ these) count asks =
     asks_reads these (counted count) asks.1 ∙ times_then 1 (count_by is_slice these) count ∙ ap (λ (n : ℕ). counted_times n count) (sym (count_first (Gave name place room bytes) these))
 asks_reads (Wrote name place bytes ∷ these) count asks = absurd asks.0
@@ -198,7 +199,7 @@ module _ (output : Option Name) (seen : Seen) where
           let Came : List Answer = LengthWas name (Some size) ∷ given_in_turn name 0 slices in
           let last : Answer = Gave name (length (concat slices)) SLICE [] in
           let here : List Answer = LengthWas name (Some size) ∷ given_in_turn name 0 (slices ++ [] ∷ []) in
-          let turn : here ≡ Came ++ last ∷ [] = ap (λ (l : List Answer). LengthWas name (Some size) ∷ l) (in_turn_append name 0 slices ([] ∷ [])) in
+          let turn : here ≡ Came ++ last ∷ [] = ap (λ (l : List Answer). LengthWas name (Some size) ∷ l) (in_turn_more name (concat slices) slices [] refl) in
           let this : GivesSum entry.sum name here sum = subst (λ (o : Option (List ℕ)). GivesSum o name here sum) (sym unlisted) next.1 in
           let behind : Gives (entry ∷ others) (here ++ some.0) (sum ∷ some.1) = (here, some.0, sum, some.1, this, some.2, refl, refl) in
           let all : List Answer = before ++ (here ++ some.0) in

@@ -53,7 +53,7 @@ whole_more : (whole : List (List ℕ)) (slice : List ℕ) → AreWhole whole →
 whole_more [] slice are is = (is, tt)
 whole_more (first ∷ whole) slice are is = (are.0, whole_more whole slice are.1 is)
 
-in_turn_more : (name : Name) (bytes : List ℕ) (whole : List (List ℕ)) (slice : List ℕ) → bytes ≡ concat whole → given_in_turn name 0 (whole ++ slice ∷ []) ≡ given_in_turn name 0 whole ++ Gave name (length bytes) SLICE slice ∷ []
+pub in_turn_more : (name : Name) (bytes : List ℕ) (whole : List (List ℕ)) (slice : List ℕ) → bytes ≡ concat whole → given_in_turn name 0 (whole ++ slice ∷ []) ≡ given_in_turn name 0 whole ++ Gave name (length bytes) SLICE slice ∷ []
 in_turn_more name bytes whole slice are =
     let place : 0 + length (concat whole) ≡ length bytes = omega (arith, ap (λ (l : List ℕ). length l) are) in
     in_turn_append name 0 whole (slice ∷ []) ∙ ap (λ (k : ℕ). given_in_turn name 0 whole ++ Gave name k SLICE slice ∷ []) place

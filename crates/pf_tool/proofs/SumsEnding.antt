@@ -257,16 +257,16 @@ fit_length [] (sum ∷ sums) fit = absurd fit
 fit_length (entry ∷ entries) [] fit = absurd fit
 fit_length (entry ∷ entries) (sum ∷ sums) fit = ap suc (fit_length entries sums fit.1)
 
-lines_first : (entries : List Trusted) (sums : List (List ℕ)) (k : ℕ) (entry : Trusted) (none : List ℕ) → slice_get entries k ≡ Some entry → k < length sums → sum_lines (take (suc k) entries) (take (suc k) sums) ≡ sum_lines (take k entries) (take k sums) ++ sum_line (get_or sums k none) entry.uri
-lines_first [] sums k entry none at lt = absurd (cc)
-lines_first (e ∷ entries) [] k entry none at lt = absurd (omega (arith, lt))
-lines_first (e ∷ entries) (sum ∷ sums) zero entry none at lt = let same : e ≡ entry = cc in append-nil (sum_line sum e.uri) ∙ ap (λ (t : Trusted). sum_line sum t.uri) same
-lines_first (e ∷ entries) (sum ∷ sums) (suc k) entry none at lt =
-    ap (λ (l : List ℕ). sum_line sum e.uri ++ l) (lines_first entries sums k entry none at (omega (arith, lt))) ∙ sym (append_assoc (sum_line sum e.uri) (sum_lines (take k entries) (take k sums)) (sum_line (get_or sums k none) entry.uri))
+line_behind : (entries : List Trusted) (sums : List (List ℕ)) (k : ℕ) (entry : Trusted) (none : List ℕ) → slice_get entries k ≡ Some entry → k < length sums → sum_lines (take (suc k) entries) (take (suc k) sums) ≡ sum_lines (take k entries) (take k sums) ++ sum_line (get_or sums k none) entry.uri
+line_behind [] sums k entry none at lt = absurd (cc)
+line_behind (e ∷ entries) [] k entry none at lt = absurd (omega (arith, lt))
+line_behind (e ∷ entries) (sum ∷ sums) zero entry none at lt = let same : e ≡ entry = cc in append-nil (sum_line sum e.uri) ∙ ap (λ (t : Trusted). sum_line sum t.uri) same
+line_behind (e ∷ entries) (sum ∷ sums) (suc k) entry none at lt =
+    ap (λ (l : List ℕ). sum_line sum e.uri ++ l) (line_behind entries sums k entry none at (omega (arith, lt))) ∙ sym (append_assoc (sum_line sum e.uri) (sum_lines (take k entries) (take k sums)) (sum_line (get_or sums k none) entry.uri))
 
 -- one line more
 pub lines_more : (entries : List Trusted) (sums : List (List ℕ)) (k : ℕ) (entry : Trusted) (none lines : List ℕ) → slice_get entries k ≡ Some entry → k < length sums → lines ≡ sum_lines (take k entries) (take k sums)
     → lines ++ sum_line (get_or sums k none) entry.uri ≡ sum_lines (take (k + 1) entries) (take (k + 1) sums)
 lines_more entries sums k entry none lines at lt so_far =
     let next : suc k ≡ k + 1 = omega arith in
-    ap (λ (l : List ℕ). l ++ sum_line (get_or sums k none) entry.uri) so_far ∙ sym (lines_first entries sums k entry none at lt) ∙ ap (λ (n : ℕ). sum_lines (take n entries) (take n sums)) next
+    ap (λ (l : List ℕ). l ++ sum_line (get_or sums k none) entry.uri) so_far ∙ sym (line_behind entries sums k entry none at lt) ∙ ap (λ (n : ℕ). sum_lines (take n entries) (take n sums)) next

@@ -16,8 +16,8 @@ pub returns-in-Ok-clause-summed : goal.returns-in-Ok-clause-summed
 returns-in-Ok-clause-summed g c =
     all_summed c.args.manifest.now.lists.trusted c.in-Ok.sums (g.H.Host.state c.args.host.now) (g.H.Host.state c.sum_all.new.host) c.in-Ok.ensures.summed c.in-Ok.ensures.cause.still
 
-pub returns-clause-fails : goal.returns-clause-fails
-returns-clause-fails g c output world =
+pub returns-in-Err-clause-fails : goal.returns-in-Err-clause-fails
+returns-in-Err-clause-fails g c output world =
     let old = g.H.Host.state c.args.host.now in
     let new = g.H.Host.state c.sum_all.new.host in
     subst (λ (f : Fault). Falls (FilesLead output c.args.manifest.now) (λ _ _. KeepsDisk) f (with_host world old) (with_host world new)) (sym c.from.ensures)
