@@ -146,26 +146,28 @@ same_behind : (first others those : List Answer) → first ++ others ≡ first +
 same_behind [] others those same = same
 same_behind (x ∷ first) others those same = same_behind first others those (cc)
 
-mutual
-  -- the same answers for entries come to one outcome, by as many answers
-  pub said_one : (entries : List Trusted) (these those more further : List Answer) (r s : Result (List (List ℕ)) AllFault) → these ++ more ≡ those ++ further → Said entries these r → Said entries those s → (r ≡ s) × (more ≡ further)
-  said_one [] these those more further r s same a b = (a.1 ∙ sym b.1, ap (λ (l : List Answer). l ++ more) (sym a.0) ∙ same ∙ ap (λ (l : List Answer). l ++ further) b.0)
-  said_one (entry ∷ entries) these those more further r s same a b =
-      let u = behind_first a.1 entry.name a.0 these r (Said entries) a.3 in
-      let v = behind_first b.1 entry.name b.0 those s (Said entries) b.3 in
-      let all : a.0 ++ (u.0 ++ more) ≡ b.0 ++ (v.0 ++ further) = split_more these a.0 u.0 more u.1 ∙ same ∙ sym (split_more those b.0 v.0 further v.1) in
-      let one = entry_one entry.sum entry.name a.0 b.0 (u.0 ++ more) (v.0 ++ further) a.1 b.1 all a.2 b.2 in
-      behind_one entry entries b.1 b.0 these those more further r s same
-      (subst (λ (h : Result (List ℕ) SumFault). EndsBehind h entry.name b.0 these r (Said entries)) one.1 (subst (λ (l : List Answer). EndsBehind a.1 entry.name l these r (Said entries)) one.0 a.3)) b.3
+abbrev OneRest : (List Answer → Result (List (List ℕ)) AllFault → Type 0) → Type 0
+OneRest Rest = (these those more further : List Answer) (r s : Result (List (List ℕ)) AllFault) → these ++ more ≡ those ++ further → Rest these r → Rest those s → (r ≡ s) × (more ≡ further)
 
-  behind_one : (entry : Trusted) (entries : List Trusted) (here : Result (List ℕ) SumFault) (first these those more further : List Answer) (r s : Result (List (List ℕ)) AllFault) → these ++ more ≡ those ++ further
-      → EndsBehind here entry.name first these r (Said entries) → EndsBehind here entry.name first those s (Said entries) → (r ≡ s) × (more ≡ further)
-  behind_one entry entries (Ok sum) first these those more further r s same a b =
-      let all : a.0 ++ more ≡ b.0 ++ further = same_behind first (a.0 ++ more) (b.0 ++ further) (split_more these first a.0 more a.3 ∙ same ∙ sym (split_more those first b.0 further b.3)) in
-      let one = said_one entries a.0 b.0 more further a.1 b.1 all a.2 b.2 in
-      (a.4 ∙ ap (with_first sum) one.0 ∙ sym b.4, one.1)
-  behind_one entry entries (Err why) first these those more further r s same a b =
-      (a.1 ∙ sym b.1, same_behind first more further (ap (λ (l : List Answer). l ++ more) (sym a.0) ∙ same ∙ ap (λ (l : List Answer). l ++ further) b.0))
+behind_one : (Rest : List Answer → Result (List (List ℕ)) AllFault → Type 0) → OneRest Rest → (name : Name) (here : Result (List ℕ) SumFault) (first these those more further : List Answer) (r s : Result (List (List ℕ)) AllFault) → these ++ more ≡ those ++ further
+    → EndsBehind here name first these r Rest → EndsBehind here name first those s Rest → (r ≡ s) × (more ≡ further)
+behind_one Rest rest_one name (Ok sum) first these those more further r s same a b =
+    let all : a.0 ++ more ≡ b.0 ++ further = same_behind first (a.0 ++ more) (b.0 ++ further) (split_more these first a.0 more a.3 ∙ same ∙ sym (split_more those first b.0 further b.3)) in
+    let one = rest_one a.0 b.0 more further a.1 b.1 all a.2 b.2 in
+    (a.4 ∙ ap (with_first sum) one.0 ∙ sym b.4, one.1)
+behind_one Rest rest_one name (Err why) first these those more further r s same a b =
+    (a.1 ∙ sym b.1, same_behind first more further (ap (λ (l : List Answer). l ++ more) (sym a.0) ∙ same ∙ ap (λ (l : List Answer). l ++ further) b.0))
+
+-- the same answers for entries come to one outcome, by as many answers
+pub said_one : (entries : List Trusted) (these those more further : List Answer) (r s : Result (List (List ℕ)) AllFault) → these ++ more ≡ those ++ further → Said entries these r → Said entries those s → (r ≡ s) × (more ≡ further)
+said_one [] these those more further r s same a b = (a.1 ∙ sym b.1, ap (λ (l : List Answer). l ++ more) (sym a.0) ∙ same ∙ ap (λ (l : List Answer). l ++ further) b.0)
+said_one (entry ∷ entries) these those more further r s same a b =
+    let u = behind_first a.1 entry.name a.0 these r (Said entries) a.3 in
+    let v = behind_first b.1 entry.name b.0 those s (Said entries) b.3 in
+    let all : a.0 ++ (u.0 ++ more) ≡ b.0 ++ (v.0 ++ further) = split_more these a.0 u.0 more u.1 ∙ same ∙ sym (split_more those b.0 v.0 further v.1) in
+    let one = entry_one entry.sum entry.name a.0 b.0 (u.0 ++ more) (v.0 ++ further) a.1 b.1 all a.2 b.2 in
+    behind_one (Said entries) (λ p q m f x y e c d. said_one entries p q m f x y e c d) entry.name b.1 b.0 these those more further r s same
+    (subst (λ (h : Result (List ℕ) SumFault). EndsBehind h entry.name b.0 these r (Said entries)) one.1 (subst (λ (l : List Answer). EndsBehind a.1 entry.name l these r (Said entries)) one.0 a.3)) b.3
 
 -- a sum that is given is said
 sum_said : (o : Option (List ℕ)) (name : Name) (these : List Answer) (sum : List ℕ) → GivesSum o name these sum → EntrySaid o name these (Ok sum)
@@ -236,15 +238,15 @@ abbrev pub SaidIn : Files → List Trusted → Result (List (List ℕ)) AllFault
 SaidIn files [] r = r ≡ Ok []
 SaidIn files (entry ∷ entries) r = (here : Result (List ℕ) SumFault) × EntryIn entry.sum (files entry.name) here × GivenBehind here entry.name r (SaidIn files entries)
 
-mutual
-  pub said_in_one : (files : Files) (entries : List Trusted) (r s : Result (List (List ℕ)) AllFault) → SaidIn files entries r → SaidIn files entries s → r ≡ s
-  said_in_one files [] r s first second = first ∙ sym second
-  said_in_one files (entry ∷ entries) r s first second =
-      given_one files entry entries second.0 r s (subst (λ (h : Result (List ℕ) SumFault). GivenBehind h entry.name r (SaidIn files entries)) (in_one entry.sum (files entry.name) first.0 second.0 first.1 second.1) first.2) second.2
+given_one : (Rest : Result (List (List ℕ)) AllFault → Type 0) → ((r s : Result (List (List ℕ)) AllFault) → Rest r → Rest s → r ≡ s) → (name : Name) (here : Result (List ℕ) SumFault) (r s : Result (List (List ℕ)) AllFault) → GivenBehind here name r Rest → GivenBehind here name s Rest → r ≡ s
+given_one Rest rest_one name (Ok sum) r s first second = first.2 ∙ ap (with_first sum) (rest_one first.0 second.0 first.1 second.1) ∙ sym second.2
+given_one Rest rest_one name (Err why) r s first second = first ∙ sym second
 
-  given_one : (files : Files) (entry : Trusted) (entries : List Trusted) (here : Result (List ℕ) SumFault) (r s : Result (List (List ℕ)) AllFault) → GivenBehind here entry.name r (SaidIn files entries) → GivenBehind here entry.name s (SaidIn files entries) → r ≡ s
-  given_one files entry entries (Ok sum) r s first second = first.2 ∙ ap (with_first sum) (said_in_one files entries first.0 second.0 first.1 second.1) ∙ sym second.2
-  given_one files entry entries (Err why) r s first second = first ∙ sym second
+pub said_in_one : (files : Files) (entries : List Trusted) (r s : Result (List (List ℕ)) AllFault) → SaidIn files entries r → SaidIn files entries s → r ≡ s
+said_in_one files [] r s first second = first ∙ sym second
+said_in_one files (entry ∷ entries) r s first second =
+    given_one (SaidIn files entries) (λ x y a b. said_in_one files entries x y a b) entry.name second.0 r s
+    (subst (λ (h : Result (List ℕ) SumFault). GivenBehind h entry.name r (SaidIn files entries)) (in_one entry.sum (files entry.name) first.0 second.0 first.1 second.1) first.2) second.2
 
 sum_in : (o there : Option (List ℕ)) (sum : List ℕ) → IsSumIn o there sum → EntryIn o there (Ok sum)
 sum_in (Some listed) there sum is = ap (λ (s : List ℕ). Ok s) is

@@ -42,7 +42,7 @@ not_both : {X : Type 0} (seen : Seen) (ending : Ending) → ◌≡◌ {A = Resul
 not_both seen ending same = absurd (cc)
 
 -- what is asked for the file that is written
-pub file_answers : Option Name → List ℕ → List Answer
+abbrev pub file_answers : Option Name → List ℕ → List Answer
 file_answers None text = []
 file_answers (Some output) text = file_steps output (side_of output) text
 
@@ -322,13 +322,13 @@ module _ (manifest : Name) (output : Option Name) (files : Files) (es more : Lis
   files_front : (seen : Seen) (first rest : List Event) (ending : Ending) → FitsOutput output → ManifestReads manifest first (Ok seen) → FilesLead output seen rest ending → es ++ more ≡ first ++ rest → Front
   files_front seen first rest ending fits reads (file_absent these n name ends is to) whole = no_pieces first seen these rest reads is whole
   files_front seen first rest ending fits reads (file_large these n name ends is to) whole = no_pieces first seen these rest reads is whole
-  files_front seen first rest ending fits reads (files_summed these sums behind gives writes is) whole =
+  files_front seen first rest ending fits reads (files_summed these sums goes gives writes is) whole =
       let by = seen_asked manifest first (Ok seen) reads in
       let last = file_answers output writes.text in
       let lines = map Puts (line_pieces seen sums) in
-      let goes : behind ≡ lines ++ asked last = writes.are ∙ ap (λ (l : List Event). lines ++ l) (file_asked output writes.text) in
+      let way : goes ≡ lines ++ asked last = writes.are ∙ ap (λ (l : List Event). lines ++ l) (file_asked output writes.text) in
       let split : es ++ more ≡ asked (by.0 ++ these) ++ (lines ++ asked last) =
-      whole ∙ ap₂ (λ (a b : List Event). a ++ b) by.1 (is ∙ ap (λ (l : List Event). asked these ++ l) goes) ∙ sym (append_assoc (asked by.0) (asked these) (lines ++ asked last)) ∙ ap (λ (l : List Event). l ++ (lines ++ asked last)) (sym (asked_then by.0 these)) in
+      whole ∙ ap₂ (λ (a b : List Event). a ++ b) by.1 (is ∙ ap (λ (l : List Event). asked these ++ l) way) ∙ sym (append_assoc (asked by.0) (asked these) (lines ++ asked last)) ∙ ap (λ (l : List Event). l ++ (lines ++ asked last)) (sym (asked_then by.0 these)) in
       ⊎_elim (λ none. empty_front es pieces none) (λ found.
       let parts = all_split (IsAnswerOf files) (by.0 ++ these) found.1 (subst (λ (l : List Answer). AllByRecursion (IsAnswerOf files) l) found.3 all) in
       let both = all_split (IsAnswerOf files) by.0 these parts.0 in
@@ -377,7 +377,7 @@ put_lines manifest es ending those old new (output_unfit unfit is ends) done sam
 put_lines manifest es ending those old new (manifest_fails fits reads) done same took = absurd (seen_refuses manifest es ending reads done)
 put_lines manifest es ending those old new (manifest_there seen first rest fits reads (file_absent these n name ends is to) all) done same took = absurd (cc)
 put_lines manifest es ending those old new (manifest_there seen first rest fits reads (file_large these n name ends is to) all) done same took = absurd (cc)
-put_lines manifest es ending those old new (manifest_there seen first rest fits reads (files_summed these sums behind gives writes is) all) done same took =
+put_lines manifest es ending those old new (manifest_there seen first rest fits reads (files_summed these sums goes gives writes is) all) done same took =
     put_of manifest None seen sums writes.text es first these those old new reads gives (all ∙ ap (λ (l : List Event). first ++ l) (is ∙ ap (λ (l : List Event). asked these ++ l) writes.are)) refl same took
 
 pub put_both : (manifest name : Name) (es : List Event) (those : List Answer) (old new : SinkState) → WroteSums manifest name es → answers_in es ≡ those → Both old.bytes new.bytes (IsMore (bytes_in es)) → PutSums manifest (Some name) those old new

@@ -1,4 +1,4 @@
-use Rattle.std.proofs.Common.{◌≡◌, List, ℕ, ◌++◌, take, ap, ◌∙◌, arith}
+use Rattle.std.proofs.Common.{◌≡◌, List, ℕ, ◌++◌, [], take, get_or, ap, ◌∙◌, arith}
 use Rattle.std.specs.String.{string_bytes}
 use Rattle.std.proofs.lemmas.List.{take_all}
 use Rattle.manifest_model.specs.declared.entries.Trusted.{Trusted}
@@ -13,8 +13,8 @@ trusted-entry-requires c = let long = fit_length c.args.manifest.now.lists.trust
 pub loop-k-preserved : goal.loop-k-preserved
 loop-k-preserved c =
     let lines = string_bytes c.loop-k.lines in
-    c.in_ok-push_str.ensures.bytes ∙ ap (λ (l : List ℕ). lines ++ l) (c.as_str-in-loop-k.ensures ∙ c.in_ok-line.ensures ∙ ap (λ (uri : List ℕ). sum_line _ uri) c.as_str.ensures)
-    ∙ lines_more c.args.manifest.now.lists.trusted c.args.sums.now c.loop-k.k c.trusted-entry.result.now _ lines c.trusted-entry.ensures c.loop-k-test.true c.loop-k.invariant
+    c.in_ok-push_str.ensures.bytes ∙ ap (λ (l : List ℕ). lines ++ l) (c.as_str-in-loop-k.ensures ∙ c.in_ok-line.ensures ∙ ap (λ (uri : List ℕ). sum_line (get_or c.args.sums.now c.loop-k.k []) uri) c.as_str.ensures)
+    ∙ lines_more c.args.manifest.now.lists.trusted c.args.sums.now c.loop-k.k c.trusted-entry.result.now [] lines c.trusted-entry.ensures c.loop-k-test.true c.loop-k.invariant
 
 pub returns : goal.returns
 returns c =

@@ -3,6 +3,8 @@ use Rattle.std.specs.Prelude.{option_map}
 use Rattle.std.proofs.lemmas.Result.{err_from_is_err_and}
 use Rattle.pf_io.proofs.Unchanged.{kept_then}
 use Rattle.pf_tool.specs.World.{with_host, with_out}
+use Rattle.pf_tool.specs.Outcomes.{ComesOut}
+use Rattle.pf_tool.specs.Summing.{WritesSums, LeavesSums}
 use Rattle.pf_tool.proofs.Asking.{passed_asked}
 use Rattle.pf_tool.proofs.Lists.{never_true}
 use Rattle.pf_tool.proofs.SumsEnding.{unfit_ends, unread_ends, files_fall, sums_end}
@@ -43,4 +45,5 @@ returns g c world =
     let e = c.in_ok-manifest.ensures in
     let s = c.in_ok-sums.ensures in
     sums_end c.args.command.now.manifest.now output (c.if-not-fits_output.ensures.0 refl) c.in_ok-manifest.manifest old mid (e.read (with_out world out)) e.files e.disk c.in_ok-sums.sums last new s.summed.these s.summed.gives
-    (passed_asked s.summed.these (with_out world out) s1 s2 s.summed.passed) s.files s.disk c.write_summed.result ?
+    (passed_asked s.summed.these (with_out world out) s1 s2 s.summed.passed) s.files s.disk c.write_summed.result
+    (subst (λ (l : List (List ℕ)). ComesOut (WritesSums output c.in_ok-manifest.manifest l) (LeavesSums output c.in_ok-manifest.manifest l) c.write_summed.result last new) c.as_slice.ensures (c.write_summed.ensures world))
