@@ -2,7 +2,6 @@ use Rattle.std.proofs.Common.{List, ℕ, refl, subst, sym, ap, ◌∙◌, Option
 use Rattle.std.proofs.lemmas.Result.{err_from_is_err_and}
 use Rattle.pf_io.specs.Unchanged.{KeepsDisk}
 use Rattle.manifest_model.specs.Listed.{IsTextOf}
-use Rattle.toml.specs.Data.{Members}
 use Rattle.pf_tool.specs.World.{with_host, with_out}
 use Rattle.pf_tool.specs.Endings.{AtEnd, Done}
 use Rattle.pf_tool.specs.Outcomes.{Outcome, Falls, ComesOut}
@@ -45,7 +44,7 @@ returns g c world =
     let mid = with_out (with_host world host) out in
     let new = with_out (with_host world (g.H.Host.state c.write_plain_file.new.host)) out in
     let text = c.in_ok-text.text in
-    let has : HasSums c.args.manifest.now c.args.sums.now text = subst (λ (ms : Members). IsTextOf text ms) c.in_ok-summed.ensures.whole c.in_ok-text.ensures.text in
+    let has : HasSums c.args.manifest.now c.args.sums.now text = subst (λ ms. IsTextOf text ms) c.in_ok-summed.ensures.whole c.in_ok-text.ensures.text in
     let puts = subst (λ (l : List ℕ). Outcome (PutsText l) (λ _ _. KeepsDisk) (AtEnd Done) old mid) (c.as_bytes.ensures.value ∙ c.as_str.ensures ∙ c.in_ok-lines.ensures) (c.in_ok-put_text.ensures (with_host world host)) in
     file_ends c.args.manifest.now c.args.sums.now c.args.output.now text has old mid new puts refl c.write_plain_file.result
     (subst (λ (t : List ℕ). ComesOut (WritesWhole c.args.output.now t) (LeavesWhole c.args.output.now t) c.write_plain_file.result mid new) (c.as_bytes-2.ensures.value ∙ c.as_str-2.ensures) (c.write_plain_file.ensures (with_out world out)))
