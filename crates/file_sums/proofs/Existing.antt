@@ -42,9 +42,12 @@ gives_join (first ∷ front) others a b c d gives rest = (
 
 -- with an empty slice behind whole ones the file is summed
 pub sum_next : (name : Name) (size : ℕ) (whole : List (List ℕ)) → AreWhole whole → length (concat whole) ≤ MOST_BYTES → (sum : List ℕ) × IsSumOf sum name (LengthWas name (Some size) ∷ given_in_turn name 0 (whole ++ [] ∷ []))
-sum_next name size whole are small = (sha256 (concat (whole ++ [] ∷ [])), record {
-  bytes = concat (whole ++ [] ∷ []);
-  taken = record { size = size; whole = whole; last = []; are_whole = are; ended = omega arith; asked = refl; bytes_are = refl };
-  not_large = omega (arith, small, ap (λ (l : List ℕ). length l) (concat_last whole [] ∙ append-nil (concat whole)));
-  sum_is = refl;
-})
+sum_next name size whole are small = (
+  sha256 (concat (whole ++ [] ∷ [])),
+  record {
+    bytes = concat (whole ++ [] ∷ []);
+    taken = record { size = size; whole = whole; last = []; are_whole = are; ended = omega arith; asked = refl; bytes_are = refl };
+    not_large = omega (arith, small, ap (λ (l : List ℕ). length l) (concat_last whole [] ∙ append-nil (concat whole)));
+    sum_is = refl;
+  },
+)

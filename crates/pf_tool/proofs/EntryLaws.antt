@@ -1,10 +1,8 @@
 -- What answers, and what files, decide of the sums of entries.
-use Rattle.std.proofs.Common.{◌≡◌, ◌⊎◌, inl, inr, ℕ, ◌+◌, ◌<◌, ◌≤◌, List, [], ◌∷◌, ◌++◌, length, refl, subst, ap, ap₂, ◌∙◌, sym, arith, append_assoc, Option, Some, None, Result, Ok, Err}
-use Rattle.std.specs.List.{concat}
+use Rattle.std.proofs.Common.{◌≡◌, inl, inr, ℕ, List, [], ◌∷◌, ◌++◌, length, refl, subst, ap, ap₂, ◌∙◌, sym, arith, append_assoc, Option, Some, None, Result, Ok, Err}
 use Rattle.std.proofs.lemmas.List.{append-nil}
 use Rattle.file_sums.specs.Summing.{IsSumOf, SumEnds, SumsFile}
-use Rattle.file_sums.specs.Collecting.{GivesSum, Gives, AllEnd, IsSumIn, AreSumsIn, IsFirstRefused, SumsFiles}
-use Rattle.file_sums.specs.Collecting as collecting
+use Rattle.file_sums.specs.Collecting.{GivesSum, Gives, AllEnd, IsSumIn, AreSumsIn, IsFirstRefused}
 use Rattle.file_sums.specs.declared.fault.SumFault.{SumFault}
 use Rattle.file_sums.specs.declared.fault.SumFault.TheVariants as sum_faults
 use Rattle.file_sums.specs.declared.fault.AllFault.{AllFault}
@@ -12,7 +10,7 @@ use Rattle.file_sums.specs.declared.fault.AllFault.TheVariants as all_faults
 use Rattle.manifest_model.specs.declared.entries.Trusted.{Trusted}
 use Rattle.pf_io.specs.Disk.{Name, Files}
 use Rattle.pf_io.specs.Host.{Answer, LengthWas}
-use Rattle.pf_io.specs.Slices.{SLICE, MOST_BYTES, given_in_turn, AreWhole, IsTaken, CameInTurn, IsTooLarge}
+use Rattle.pf_io.specs.Slices.{MOST_BYTES, given_in_turn, AreWhole, IsTooLarge}
 use Rattle.pf_io.proofs.Slices.{long_last}
 use Rattle.file_sums.proofs.Deciding.{decided}
 use Rattle.pf_tool.proofs.InputLaws.{Ends, turn_one}
@@ -68,10 +66,9 @@ module _ (name : Name) (these those more further : List Answer) (same : these ++
       moved (LengthWas name (Some a.size) ∷ given_in_turn name 0 (a.whole ++ a.last ∷ [])) (LengthWas name (Some b.size) ∷ given_in_turn name 0 (b.whole ++ b.last ∷ [])) a.is b.is in
       let sizes : a.size ≡ b.size = cc in
       let rest : given_in_turn name 0 (a.whole ++ a.last ∷ []) ++ more ≡ given_in_turn name 0 (b.whole ++ b.last ∷ []) ++ further = cc in
-      let one = turn_one MOST_BYTES name 0 a.whole b.whole a.last b.last more further a.are_whole b.are_whole a.end b.end rest in
-      (
+      let one = turn_one MOST_BYTES name 0 a.whole b.whole a.last b.last more further a.are_whole b.are_whole a.end b.end rest in (
         a.is ∙ ap (λ (n : ℕ). LengthWas name (Some n) ∷ given_in_turn name 0 (a.whole ++ a.last ∷ [])) sizes
-        ∙ ap₂ (λ (w : List (List ℕ)) (l : List ℕ). LengthWas name (Some b.size) ∷ given_in_turn name 0 (w ++ l ∷ [])) one.0 one.1 ∙ sym b.is,
+            ∙ ap₂ (λ (w : List (List ℕ)) (l : List ℕ). LengthWas name (Some b.size) ∷ given_in_turn name 0 (w ++ l ∷ [])) one.0 one.1 ∙ sym b.is,
         one.2,
       )
 

@@ -1,8 +1,8 @@
 -- The summing of a manifest's files, from its calls.
-use Rattle.std.proofs.Common.{◌≡◌, ◌⊎◌, inl, inr, ℕ, zero, suc, zero-add, ◌+◌, ◌-◌, ◌≤◌, List, [], ◌∷◌, ◌++◌, length, map, refl, subst, ap, ap₂, ◌∙◌, sym, arith, append_assoc, Option, Some, None, Result, Ok, Err}
+use Rattle.std.proofs.Common.{◌≡◌, ℕ, zero-add, ◌+◌, ◌-◌, ◌≤◌, List, [], ◌∷◌, ◌++◌, length, map, refl, subst, ap, ◌∙◌, sym, arith, append_assoc, Option, Some, None, Result, Ok, Err}
 use Rattle.std.specs.List.{AllByRecursion, concat, count_by}
 use Rattle.std.proofs.lemmas.List.{append-nil}
-use Rattle.file_sums.specs.Summing.{IsSumOf, SumEnds, slices_asked}
+use Rattle.file_sums.specs.Summing.{SumEnds, slices_asked}
 use Rattle.file_sums.specs.Collecting.{GivesSum, Gives, AllEnd, is_slice, all_host_part, AreSummed}
 use Rattle.file_sums.specs.declared.fault.SumFault.{SumFault}
 use Rattle.file_sums.specs.declared.fault.SumFault.TheVariants as sum_faults
@@ -23,13 +23,11 @@ use Rattle.pf_io.proofs.Slices.{times_then}
 use Rattle.pf_tool.specs.World.{World, with_host}
 use Rattle.pf_tool.specs.Events.{Event, Answers, Puts, reads_after, writes_after}
 use Rattle.pf_tool.specs.Endings.{Ending, Done, Refused, TooLarge, Absent, Stop}
-use Rattle.pf_tool.specs.Faults.{fault_line, fault_status, sums_fault}
-use Rattle.pf_tool.specs.Happened.{HostPassed, HostFailed}
+use Rattle.pf_tool.specs.Faults.{sums_fault}
+use Rattle.pf_tool.specs.Happened.{HostPassed}
 use Rattle.pf_tool.specs.InputFiles.{asked}
 use Rattle.pf_tool.specs.Outcomes.{IsAhead, Falls}
-use Rattle.pf_tool.specs.Summing.{sum_lines, line_pieces, file_events, WritesSums, FilesLead, file_absent, file_large, files_summed, FilesSummed}
-use Rattle.pf_tool.specs.TextOutput.{piece_at, count_of}
-use Rattle.pf_tool.specs.declared.fault.Fault.{Fault}
+use Rattle.pf_tool.specs.Summing.{sum_lines, line_pieces, file_events, FilesLead, file_absent, file_large, files_summed, FilesSummed}
 use Rattle.pf_tool.specs.declared.fault.Fault.TheVariants as faults
 use Rattle.pf_tool.specs.declared.why.Why.TheVariants as whys
 use Rattle.pf_tool.proofs.Asking.{asked_then, passed_asked}

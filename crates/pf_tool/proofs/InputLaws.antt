@@ -2,7 +2,7 @@
 use Rattle.std.proofs.Common.{◌≡◌, ◌⊎◌, inl, inr, ℕ, ◌+◌, ◌<◌, ◌≤◌, List, [], ◌∷◌, ◌++◌, length, refl, subst, ap, ap₂, ◌∙◌, sym, arith, length-append, Option, Some, None, Result, Ok, Err}
 use Rattle.std.specs.List.{concat, AllByRecursion}
 use Rattle.pf_io.specs.Disk.{Name, Files}
-use Rattle.pf_io.specs.Host.{Answer, LengthWas, Gave, HostState, KeepsFiles, contents}
+use Rattle.pf_io.specs.Host.{Answer, LengthWas, HostState, KeepsFiles, contents}
 use Rattle.pf_io.specs.Answered.{IsAnswerOf}
 use Rattle.pf_io.specs.Names.{IsName}
 use Rattle.pf_io.specs.Slices.{SLICE, given_in_turn, AreWhole, IsTaken, CameInTurn}
@@ -10,7 +10,7 @@ use Rattle.pf_io.specs.Unchanged.{KeepsDisk}
 use Rattle.pf_io.proofs.Slices.{concat_last, few_in_turn, there, not_there, taken_all}
 use Rattle.pf_tool.specs.World.{World}
 use Rattle.pf_tool.specs.Events.{Event, answers_in, words_in, pieces_in}
-use Rattle.pf_tool.specs.Endings.{Ending, Done, MayStarve, Refused, BadName, NotFound, TooLarge, Stop}
+use Rattle.pf_tool.specs.Endings.{Ending, Done, Refused, BadName, Stop}
 use Rattle.pf_tool.specs.Happened.{Passed}
 use Rattle.pf_tool.specs.InputFiles.{MOST_INPUT, asked, InputReads, file_unnamed, file_absent, file_large, file_taken, InputLeads, InputOver, over_unnamed, over_absent, over_large, over_taken}
 use Rattle.pf_tool.specs.Outcomes.{Falls}

@@ -1,5 +1,5 @@
 -- What answers, and what files, decide of the reading of a manifest.
-use Rattle.std.proofs.Common.{◌≡◌, ℕ, List, [], ◌∷◌, ◌++◌, refl, subst, ap, ◌∙◌, sym, Result, Ok, Err}
+use Rattle.std.proofs.Common.{◌≡◌, ℕ, List, [], ◌++◌, subst, ap, ◌∙◌, sym, Result, Ok, Err}
 use Rattle.std.specs.List.{AllByRecursion}
 use Rattle.manifest_model.specs.Listed.{Seen, ReadsAs}
 use Rattle.manifest_model.specs.declared.fault.ManifestFault.{ManifestFault}

@@ -1,5 +1,5 @@
 -- `sums` from its parts: the reading of the manifest, the sums of its files, and what goes out.
-use Rattle.std.proofs.Common.{◌≡◌, ◌⊎◌, inl, inr, ⊎_elim, ℕ, zero, suc, ◌+◌, ◌<◌, List, [], ◌∷◌, ◌++◌, length, take, get_or, arith, map, refl, subst, ap, ap₂, ◌∙◌, sym, append_assoc, Option, Some, None, IfSome, Result, Ok, Err}
+use Rattle.std.proofs.Common.{◌≡◌, inl, inr, ⊎_elim, ℕ, zero, suc, ◌+◌, ◌<◌, List, [], ◌∷◌, ◌++◌, length, take, get_or, arith, map, refl, subst, ap, ◌∙◌, sym, append_assoc, Option, Some, None, IfSome, Result, Ok, Err}
 use Rattle.std.specs.List.{AllByRecursion, slice_get}
 use Rattle.file_sums.specs.Lines.{sum_line}
 use Rattle.manifest_model.specs.Summed.{FitSums}
@@ -15,26 +15,24 @@ use Rattle.manifest_model.proofs.Deciding.{a_reading}
 use Rattle.pf_io.specs.Disk.{Name, Files, Disk, reading}
 use Rattle.pf_io.specs.Host.{Answer, HostState, KeepsFiles, OnHonest, files_of}
 use Rattle.pf_io.specs.Answered.{IsAnswerOf}
-use Rattle.pf_io.specs.Streams.{SinkState}
 use Rattle.pf_io.specs.Unchanged.{KeepsDisk}
 use Rattle.pf_io.proofs.Unchanged.{kept_none, kept_then}
-use Rattle.pf_tool.specs.World.{World, with_host, with_out}
+use Rattle.pf_tool.specs.World.{World}
 use Rattle.pf_tool.specs.Events.{Event, Puts, answers_in}
-use Rattle.pf_tool.specs.Endings.{Ending, Done, Refused, BadName, BadManifest, Stop, AtEnd, Failed, Starved, tried, stop_status}
-use Rattle.pf_tool.specs.Faults.{fault_status, manifest_fault}
-use Rattle.pf_tool.specs.Happened.{HostPassed, Passed}
+use Rattle.pf_tool.specs.Endings.{Ending, Done, Refused, BadName, BadManifest, Stop, AtEnd, Starved, tried}
+use Rattle.pf_tool.specs.Faults.{manifest_fault}
+use Rattle.pf_tool.specs.Happened.{Passed}
 use Rattle.pf_tool.specs.InputFiles.{asked, InputReads, InputLeads, InputRead}
-use Rattle.pf_tool.specs.ManifestFiles.{ManifestReads, manifest_unread, no_manifest, manifest_seen, ManifestFrom, ManifestRead, ManifestFails, fails_unread, fails_refused, fails_starved}
+use Rattle.pf_tool.specs.ManifestFiles.{manifest_unread, no_manifest, manifest_seen, ManifestFrom, ManifestRead, ManifestFails, fails_unread, fails_refused, fails_starved}
 use Rattle.pf_tool.specs.Manifests.{FitsOutput}
-use Rattle.pf_tool.specs.Outcomes.{IsAhead, StopsAt, IsFaultOf, Outcome, Falls, ComesOut}
+use Rattle.pf_tool.specs.Outcomes.{IsAhead, StopsAt, Outcome, Falls, ComesOut}
 use Rattle.pf_tool.specs.PlainFiles.{written_events, WritesWhole, IsExactly, LeavesWhole}
-use Rattle.pf_tool.specs.SideFiles.{LeavesBySide}
-use Rattle.pf_tool.specs.Summing.{sum_lines, line_pieces, HasSums, file_events, WritesSums, FilesLead, files_summed, SumsLead, output_unfit, manifest_fails, manifest_there, LeavesText, LeavesSums, WroteSums, IsSummed, LeavesSummed, SumsLeave, FilesSummed}
+use Rattle.pf_tool.specs.Summing.{sum_lines, line_pieces, HasSums, file_events, WritesSums, FilesLead, files_summed, SumsLead, output_unfit, manifest_fails, manifest_there, LeavesText, LeavesSums, IsSummed, SumsLeave}
 use Rattle.pf_tool.specs.TextOutput.{PutsText}
 use Rattle.pf_tool.specs.declared.fault.Fault.{Fault}
 use Rattle.pf_tool.specs.declared.fault.Fault.TheVariants as faults
 use Rattle.pf_tool.specs.declared.why.Why.TheVariants as whys
-use Rattle.pf_tool.proofs.Asking.{asked_answers, passed_asked}
+use Rattle.pf_tool.proofs.Asking.{asked_answers}
 use Rattle.pf_tool.proofs.Composing.{answers_then, passed_none, passed_reading}
 use Rattle.file_sums.proofs.Existing.{gives_some}
 use Rattle.pf_tool.proofs.EntryReading.{ahead_behind, sums_out, out_ahead, out_leads}
@@ -43,7 +41,7 @@ use Rattle.pf_tool.proofs.InputDisk.{kept_leaves}
 use Rattle.pf_tool.proofs.ManifestFileLaws.{seen_from}
 use Rattle.pf_tool.proofs.RenderLaws.{ReadAnswers, refusal_fault}
 use Rattle.pf_tool.proofs.SideBehind.{leaves_behind}
-use Rattle.pf_tool.proofs.Stopping.{GoesOn, LeadsOn, not_done, outcome_then, refused, starves_at, falls_undone}
+use Rattle.pf_tool.proofs.Stopping.{LeadsOn, outcome_then, refused, starves_at, falls_undone}
 
 -- nothing is asked of an honest host's files
 whatever : (o : Option Files) → IfSome o (λ files. Unit {0})

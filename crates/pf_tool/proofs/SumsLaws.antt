@@ -1,9 +1,9 @@
 -- What the answers, and what files, decide of `sums`.
-use Rattle.std.proofs.Common.{◌≡◌, ◌≢◌, ◌⊎◌, inl, inr, ⊎_elim, ℕ, List, [], ◌∷◌, ◌++◌, map, refl, subst, ap, ap₂, ◌∙◌, sym, append_assoc, Option, Some, None, Result, Ok, Err}
+use Rattle.std.proofs.Common.{◌≡◌, ◌≢◌, ◌⊎◌, inl, inr, ⊎_elim, ℕ, List, [], ◌++◌, map, refl, subst, ap, ap₂, ◌∙◌, sym, append_assoc, Option, Some, None, Result, Ok, Err}
 use Rattle.std.specs.List.{AllByRecursion, concat}
 use Rattle.std.proofs.lemmas.List.{append-nil}
 use Rattle.std.proofs.lemmas.List.Folds.{concat-append}
-use Rattle.file_sums.specs.Collecting.{Gives, AllEnd, AreSumsIn, IsFirstRefused, SumsFiles}
+use Rattle.file_sums.specs.Collecting.{Gives, AllEnd, IsFirstRefused}
 use Rattle.file_sums.specs.declared.fault.SumFault.{SumFault}
 use Rattle.file_sums.specs.declared.fault.SumFault.TheVariants as sum_faults
 use Rattle.file_sums.specs.declared.fault.AllFault.{AllFault}
@@ -22,7 +22,7 @@ use Rattle.pf_tool.specs.Endings.{Ending, Done, Refused, BadName, TooLarge, Abse
 use Rattle.pf_tool.specs.InputFiles.{asked}
 use Rattle.pf_tool.specs.ManifestFiles.{ManifestReads, ManifestFrom}
 use Rattle.pf_tool.specs.Manifests.{FitsOutput}
-use Rattle.pf_tool.specs.Summing.{sum_lines, line_pieces, file_events, HasSums, WritesSums, FilesLead, file_absent, file_large, files_summed, SumsLead, output_unfit, manifest_fails, manifest_there, WroteSums, SumsOver, over_unfit, over_unread, over_absent, over_large, over_summed, WroteFile, PutSums}
+use Rattle.pf_tool.specs.Summing.{sum_lines, line_pieces, file_events, FilesLead, file_absent, file_large, files_summed, SumsLead, output_unfit, manifest_fails, manifest_there, WroteSums, SumsOver, over_unfit, over_unread, over_absent, over_large, over_summed, WroteFile, PutSums}
 use Rattle.pf_tool.proofs.Asking.{asked_answers, asked_words, asked_pieces, asked_then}
 use Rattle.pf_tool.proofs.Composing.{answers_then, words_then, pieces_then, no_first}
 use Rattle.pf_tool.proofs.EntryLaws.{Said, said_one, gives_said, end_said, SaidIn, said_in_one, sums_said_in, first_said_in}

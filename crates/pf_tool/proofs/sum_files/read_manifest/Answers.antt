@@ -1,7 +1,5 @@
-use Rattle.std.proofs.Common.{List, ℕ, subst, ◌∙◌, sym, Result, Ok, Err}
+use Rattle.std.proofs.Common.{subst, sym, Ok, Err}
 use Rattle.std.proofs.lemmas.Result.{err_from_is_err_and}
-use Rattle.manifest_model.specs.Listed.{Seen}
-use Rattle.manifest_model.specs.declared.fault.ManifestFault.{ManifestFault}
 use Rattle.pf_tool.specs.World.{with_host}
 use Rattle.pf_tool.specs.ManifestFiles.{ManifestFails, fails_unread}
 use Rattle.pf_tool.specs.declared.fault.Fault.{Fault}

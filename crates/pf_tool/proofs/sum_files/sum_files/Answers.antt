@@ -1,9 +1,4 @@
-use Rattle.std.proofs.Common.{◌≡◌, List, ℕ, subst, sym, refl, Result, Ok, Err}
-use Rattle.file_sums.specs.Collecting.{AreSummed, all_host_part}
-use Rattle.file_sums.specs.declared.fault.AllFault.{AllFault}
-use Rattle.manifest_model.specs.Listed.{Seen}
-use Rattle.pf_io.specs.Counts.{HasCause}
-use Rattle.pf_io.specs.Host.{HostState}
+use Rattle.std.proofs.Common.{subst, sym}
 use Rattle.pf_io.specs.Unchanged.{KeepsDisk}
 use Rattle.pf_tool.specs.World.{with_host}
 use Rattle.pf_tool.specs.Outcomes.{Falls}

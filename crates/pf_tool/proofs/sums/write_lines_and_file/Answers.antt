@@ -1,4 +1,4 @@
-use Rattle.std.proofs.Common.{List, ℕ, refl, subst, sym, ap, ◌∙◌, Option, Some}
+use Rattle.std.proofs.Common.{List, ℕ, refl, subst, ◌∙◌, Some}
 use Rattle.std.proofs.lemmas.Result.{err_from_is_err_and}
 use Rattle.pf_io.specs.Unchanged.{KeepsDisk}
 use Rattle.manifest_model.specs.Listed.{IsTextOf}

@@ -1,7 +1,6 @@
-use Rattle.std.proofs.Common.{List, ℕ, refl, subst, ◌∙◌}
+use Rattle.std.proofs.Common.{List, ℕ, refl, subst}
 use Rattle.std.specs.Prelude.{option_map}
 use Rattle.std.proofs.lemmas.Result.{err_from_is_err_and}
-use Rattle.pf_io.proofs.Unchanged.{kept_then}
 use Rattle.pf_tool.specs.World.{with_host, with_out}
 use Rattle.pf_tool.specs.Outcomes.{ComesOut}
 use Rattle.pf_tool.specs.Summing.{WritesSums, LeavesSums}
