@@ -1,7 +1,7 @@
 -- The sums of entries, one after the other.
-use Rattle.std.proofs.Common.{◌≡◌, ℕ, ◌+◌, ◌-◌, cond, zero-add, List, [], ◌∷◌, ◌++◌, length, take, drop, Option, Some, None, IfSome, refl, sym, ap, subst, ◌∙◌, arith, append_assoc, Result, Ok, Err, OnOk}
+use Rattle.std.proofs.Common.{◌≡◌, ℕ, suc, ◌+◌, ◌-◌, ◌≤◌, set, cond, zero-add, List, [], ◌∷◌, ◌++◌, length, take, drop, Option, Some, None, IfSome, refl, sym, ap, subst, ◌∙◌, arith, append_assoc, Result, Ok, Err, OnOk}
 use Rattle.std.specs.List.{slice_get, count_by, AllByRecursion}
-use Rattle.std.proofs.lemmas.List.{append-nil, take-append-drop, take_more, drop_more}
+use Rattle.std.proofs.lemmas.List.{append-nil, take-append-drop, take_more, drop_more, length-take-le, set_at}
 use Rattle.std.proofs.lemmas.List.Sums.{sum_by-append}
 use Rattle.std.proofs.lemmas.Option.{IfSome_then, slice_get_within, get_or_from_slice_get}
 use Rattle.pf_io.specs.Host.{Name, Files, Answer, LengthWas, Gave, HostState, files_of}
@@ -147,15 +147,27 @@ all_summed entries sums old new so_far = record {
   ends = AllEnd.Whole sums so_far.gives refl refl;
 }
 
--- memory was wanting after some
-pub all_starved : (entries front others : List Trusted) (sums : List (List ℕ)) (old new : HostState) → entries ≡ front ++ others → SummedTo front sums old new → AreSummed (Err faults.Memory) entries old new
-all_starved entries front others sums old new whole so_far = record {
+-- there are as many sums as entries
+pub gives_length : (entries : List Trusted) (these : List Answer) (sums : List (List ℕ)) → Gives entries these sums → length sums ≡ length entries
+gives_length [] these sums gives = ap (λ (l : List (List ℕ)). length l) gives.1
+gives_length (entry ∷ entries) these sums gives = ap (λ (l : List (List ℕ)). length l) gives.7 ∙ ap suc (gives_length entries gives.1 gives.3 gives.5)
+
+pub length_to : (entries : List Trusted) (k : ℕ) (sums : List (List ℕ)) (old new : HostState) → k ≤ length entries → SummedTo (take k entries) sums old new → length sums ≡ k
+length_to entries k sums old new within so_far = gives_length (take k entries) so_far.these sums so_far.gives ∙ length-take-le k entries within
+
+-- a place that was made for a sum gets it
+pub placed : (sums : List (List ℕ)) (k : ℕ) (none sum : List ℕ) → length sums ≡ k → set (sums ++ none ∷ []) k sum ≡ sums ++ sum ∷ []
+placed sums k none sum is = set_at sums none [] sum k is
+
+-- memory was wanting before one that is left
+pub all_starved : (entries front : List Trusted) (entry : Trusted) (others : List Trusted) (sums : List (List ℕ)) (old new : HostState) → entries ≡ front ++ entry ∷ others → SummedTo front sums old new → AreSummed (Err faults.Memory) entries old new
+all_starved entries front entry others sums old new whole so_far = record {
   these = so_far.these;
   answered = so_far.answered;
   slices = count_by is_slice so_far.these;
   counts = so_far.counts;
   untouched = so_far.untouched;
-  ends = AllEnd.Starved front others sums whole so_far.gives refl refl;
+  ends = AllEnd.Starved front entry others sums whole so_far.gives refl refl;
 }
 
 -- a refusal that is no fault has answers
@@ -194,10 +206,10 @@ sums_fit entries sums old new summed = by_end summed.ends
     by_end : AllEnd entries summed.these summed.slices (Ok sums) → FitSums entries sums
     by_end (AllEnd.Whole came gives slices is) = let same : came ≡ sums = cc in subst (λ (l : List (List ℕ)). FitSums entries l) same (gives_fit entries summed.these came gives)
     by_end (AllEnd.Refused front entry others asked last some why whole gives unlisted ends told slices is) = absurd (cc)
-    by_end (AllEnd.Starved front others some whole gives slices is) = absurd (cc)
+    by_end (AllEnd.Starved front entry others some whole gives slices is) = absurd (cc)
 
 -- what the answers of an honest host give is of its files
-gives_in : (files : Files) (entries : List Trusted) (these : List Answer) (sums : List (List ℕ)) → Gives entries these sums → AllByRecursion (IsAnswerOf files) these → AreSumsIn files entries sums
+pub gives_in : (files : Files) (entries : List Trusted) (these : List Answer) (sums : List (List ℕ)) → Gives entries these sums → AllByRecursion (IsAnswerOf files) these → AreSumsIn files entries sums
 gives_in files [] these sums gives all = gives.1
 gives_in files (entry ∷ entries) these sums gives all =
     let parts = all_split (IsAnswerOf files) gives.0 gives.1 (subst (λ (l : List Answer). AllByRecursion (IsAnswerOf files) l) gives.6 all) in
@@ -207,7 +219,7 @@ gives_in files (entry ∷ entries) these sums gives all =
     by_sum (Some listed) given all = given.1
     by_sum None given all = sums_file (Ok gives.2) entry.name gives.0 files given all
 
-all_in : (files : Files) (entries : List Trusted) (these : List Answer) (n : ℕ) (r : Result (List (List ℕ)) AllFault) → AllEnd entries these n r → AllByRecursion (IsAnswerOf files) these → SumsFiles files entries r
+pub all_in : (files : Files) (entries : List Trusted) (these : List Answer) (n : ℕ) (r : Result (List (List ℕ)) AllFault) → AllEnd entries these n r → AllByRecursion (IsAnswerOf files) these → SumsFiles files entries r
 all_in files entries these n r (AllEnd.Whole sums gives slices is) all = rw is (gives_in files entries these sums gives all)
 all_in files entries these n r (AllEnd.Refused front entry others asked last sums why whole gives unlisted ends told slices is) all =
     let parts = all_split (IsAnswerOf files) asked last (subst (λ (l : List Answer). AllByRecursion (IsAnswerOf files) l) told all) in
@@ -222,7 +234,7 @@ all_in files entries these n r (AllEnd.Refused front entry others asked last sum
       refused = sums_file (Err why) entry.name last files ends parts.1;
       name_is = refl;
     })
-all_in files entries these n r (AllEnd.Starved front others sums whole gives slices is) all = rw is tt
+all_in files entries these n r (AllEnd.Starved front entry others sums whole gives slices is) all = rw is tt
 
 pub honest_sums : (r : Result (List (List ℕ)) AllFault) (entries : List Trusted) (old new : HostState) → AreSummed r entries old new → AreOfFiles r entries old
 honest_sums r entries old new summed = IfSome_then (files_of old) summed.answered.honest (λ files all. all_in files entries summed.these summed.slices r summed.ends all)

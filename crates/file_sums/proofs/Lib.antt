@@ -1,4 +1,5 @@
 mod Taken
 pub mod Summed
 pub mod Collected
-mod Deciding
+pub mod Deciding
+pub mod Existing

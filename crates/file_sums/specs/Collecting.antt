@@ -41,14 +41,14 @@ is_slice (Made name) = false
 is_slice (Swapped from to) = false
 is_slice (Removed name) = false
 
--- The answers give all sums; or those before the first file that is refused, after which nothing is asked; or those of
--- some first entries, where memory is wanting. So many slices are asked for.
+-- The answers give all sums; or those before the first file that is refused, after which nothing is asked; or, where
+-- memory is wanting, those before an entry that is left. So many slices are asked for.
 pub data AllEnd (entries : List Trusted) (these : List Answer) (slices : ℕ) (outcome : Result (List (List ℕ)) AllFault) : Type 0 where
   Whole : (sums : List (List ℕ)) → Gives entries these sums → slices ≡ count_by is_slice these → outcome ≡ Ok sums → AllEnd entries these slices outcome
   Refused : (front : List Trusted) (entry : Trusted) (others : List Trusted) (asked last : List Answer) (sums : List (List ℕ)) (why : SumFault)
       → entries ≡ front ++ entry ∷ others → Gives front asked sums → entry.sum ≡ None → SumEnds (Err why) entry.name last
       → these ≡ asked ++ last → slices ≡ count_by is_slice asked + slices_asked {T = List ℕ} (Err why) last → outcome ≡ Err (faults.At entry.name why) → AllEnd entries these slices outcome
-  Starved : (front others : List Trusted) (sums : List (List ℕ)) → entries ≡ front ++ others → Gives front these sums → slices ≡ count_by is_slice these → outcome ≡ Err faults.Memory → AllEnd entries these slices outcome
+  Starved : (front : List Trusted) (entry : Trusted) (others : List Trusted) (sums : List (List ℕ)) → entries ≡ front ++ entry ∷ others → Gives front these sums → slices ≡ count_by is_slice these → outcome ≡ Err faults.Memory → AllEnd entries these slices outcome
 
 -- Some answers came, and by them the summing ends. Where there are none and no call failed, none was made.
 pub record AreSummed (result : Result (List (List ℕ)) AllFault) (entries : List Trusted) (before after : HostState) : Type 0 where

@@ -53,7 +53,7 @@ fn sum_entry<H: Host>(host: &mut H, entry: &Trusted) -> Result<[u8; 32], SumFaul
 /// that of the file.
 ///
 /// `At` names the first file without a listed sum that `sum` refuses, and why; nothing is asked after it. `Memory` is
-/// want of memory, which comes between two files and not after a call that failed.
+/// want of memory, which comes before a file that is left, and not after a call that failed or once all sums are there.
 pub fn sum_all<H: Host>(alloc: Global, host: &mut H, manifest: &Manifest) -> Result<Sums, AllFault>
     ensures summed { AreSummed result manifest.now.lists.trusted (H.state host.old) (H.state host.new) }
     ensures fit { IfOk result (λ sums. FitSums manifest.now.lists.trusted sums) }
@@ -66,10 +66,11 @@ pub fn sum_all<H: Host>(alloc: Global, host: &mut H, manifest: &Manifest) -> Res
     let mut name = String::new(alloc);
     for k in 0..manifest.trusted_len() {
         let entry = manifest.trusted(k);
+        sums.push([0; 32])?;
         name.clear();
         name.push_str(entry.name.as_str())?;
         match sum_entry(host, entry) {
-            Ok(sum) => sums.push(sum)?,
+            Ok(sum) => sums[k] = sum,
             Err(why) => {
                 let name = Text::from(name);
                 return Err(AllFault::At { name, why });

@@ -2,7 +2,7 @@
 use Rattle.std.proofs.Common.{◌≡◌, ◌⊎◌, inl, inr, ℕ, ◌+◌, ◌<◌, ◌≤◌, List, [], ◌∷◌, ◌++◌, length, refl, subst, ap, ap₂, ◌∙◌, sym, arith, length-append, Option, Some, None, Result, Ok, Err}
 use Rattle.std.specs.List.{concat, AllByRecursion}
 use Rattle.pf_io.specs.Disk.{Name, Files}
-use Rattle.pf_io.specs.Host.{Answer, LengthWas, Gave, HostState, KeepsFiles, contents}
+use Rattle.pf_io.specs.Host.{Answer, LengthWas, HostState, KeepsFiles, contents}
 use Rattle.pf_io.specs.Answered.{IsAnswerOf}
 use Rattle.pf_io.specs.Names.{IsName}
 use Rattle.pf_io.specs.Slices.{SLICE, given_in_turn, AreWhole, IsTaken, CameInTurn}
@@ -10,7 +10,7 @@ use Rattle.pf_io.specs.Unchanged.{KeepsDisk}
 use Rattle.pf_io.proofs.Slices.{concat_last, few_in_turn, there, not_there, taken_all}
 use Rattle.pf_tool.specs.World.{World}
 use Rattle.pf_tool.specs.Events.{Event, answers_in, words_in, pieces_in}
-use Rattle.pf_tool.specs.Endings.{Ending, Done, MayStarve, Refused, BadName, NotFound, TooLarge, Stop}
+use Rattle.pf_tool.specs.Endings.{Ending, Done, Refused, BadName, Stop}
 use Rattle.pf_tool.specs.Happened.{Passed}
 use Rattle.pf_tool.specs.InputFiles.{MOST_INPUT, asked, InputReads, file_unnamed, file_absent, file_large, file_taken, InputLeads, InputOver, over_unnamed, over_absent, over_large, over_taken}
 use Rattle.pf_tool.specs.Outcomes.{Falls}
@@ -52,49 +52,49 @@ input_silent name r (file_taken text these named taken few is ends) =
     let none : [] ≡ asked (LengthWas name (Some taken.size) ∷ given_in_turn name 0 (taken.whole ++ taken.last ∷ [])) = is ∙ ap asked taken.asked in
     absurd (cc)
 
--- whole slices from a place on and a last one: it is no whole one, or there are too many bytes with it, and not before
-pub record Ends (at : ℕ) (whole : List (List ℕ)) (last : List ℕ) : Type 0 where
-  pub few : at + length (concat whole) ≤ MOST_INPUT
-  pub ends : (length last < SLICE) ⊎ (MOST_INPUT < at + (length (concat whole) + length last))
+-- whole slices from a place on and a last one: it is no whole one, or there are more bytes with it than a file may have, and not before
+pub record Ends (most at : ℕ) (whole : List (List ℕ)) (last : List ℕ) : Type 0 where
+  pub few : at + length (concat whole) ≤ most
+  pub ends : (length last < SLICE) ⊎ (most < at + (length (concat whole) + length last))
 
-ends_on : (at : ℕ) (x : List ℕ) (whole : List (List ℕ)) (last : List ℕ) → Ends at (x ∷ whole) last → Ends (at + length x) whole last
-ends_on at x whole last e = record { few = let f = e.few in omega (arith, f, length-append x (concat whole)); ends = on e.ends }
+ends_on : (most at : ℕ) (x : List ℕ) (whole : List (List ℕ)) (last : List ℕ) → Ends most at (x ∷ whole) last → Ends most (at + length x) whole last
+ends_on most at x whole last e = record { few = let f = e.few in omega (arith, f, length-append x (concat whole)); ends = on e.ends }
   where
-    on : (length last < SLICE) ⊎ (MOST_INPUT < at + (length (x ++ concat whole) + length last)) → (length last < SLICE) ⊎ (MOST_INPUT < at + length x + (length (concat whole) + length last))
+    on : (length last < SLICE) ⊎ (most < at + (length (x ++ concat whole) + length last)) → (length last < SLICE) ⊎ (most < at + length x + (length (concat whole) + length last))
     on (inl short) = inl short
     on (inr many) = inr (omega (arith, many, length-append x (concat whole)))
 
 -- a whole slice is not the last one
-not_last : (at : ℕ) (x : List ℕ) (whole : List (List ℕ)) (l y : List ℕ) → length y ≡ SLICE → l ≡ y → Ends at [] l → at + length (y ++ concat whole) ≤ MOST_INPUT → ⊥
-not_last at x whole l y long same e few = by_end e.ends
+not_last : (most at : ℕ) (x : List ℕ) (whole : List (List ℕ)) (l y : List ℕ) → length y ≡ SLICE → l ≡ y → Ends most at [] l → at + length (y ++ concat whole) ≤ most → ⊥
+not_last most at x whole l y long same e few = by_end e.ends
   where
     alike : length l ≡ length y
     alike = ap (λ (s : List ℕ). length s) same
 
-    by_end : (length l < SLICE) ⊎ (MOST_INPUT < at + (0 + length l)) → ⊥
+    by_end : (length l < SLICE) ⊎ (most < at + (0 + length l)) → ⊥
     by_end (inl short) = omega (arith, short, alike, long)
     by_end (inr many) = omega (arith, many, alike, few, length-append y (concat whole))
 
 -- the same answers have the same slices
-turn_one : (name : Name) (at : ℕ) (w v : List (List ℕ)) (l k : List ℕ) (more further : List Answer) → AreWhole w → AreWhole v → Ends at w l → Ends at v k
+pub turn_one : (most : ℕ) (name : Name) (at : ℕ) (w v : List (List ℕ)) (l k : List ℕ) (more further : List Answer) → AreWhole w → AreWhole v → Ends most at w l → Ends most at v k
     → given_in_turn name at (w ++ l ∷ []) ++ more ≡ given_in_turn name at (v ++ k ∷ []) ++ further → (w ≡ v) × (l ≡ k) × (more ≡ further)
-turn_one name at [] [] l k more further aw av e f same =
+turn_one most name at [] [] l k more further aw av e f same =
     let first : l ≡ k = cc in
     let rest : more ≡ further = cc in
     (refl, first, rest)
-turn_one name at [] (y ∷ v) l k more further aw av e f same =
+turn_one most name at [] (y ∷ v) l k more further aw av e f same =
     let first : l ≡ y = cc in
     let few = f.few in
-    absurd (not_last at y v l y av.0 first e few)
-turn_one name at (x ∷ w) [] l k more further aw av e f same =
+    absurd (not_last most at y v l y av.0 first e few)
+turn_one most name at (x ∷ w) [] l k more further aw av e f same =
     let first : k ≡ x = cc in
     let few = e.few in
-    absurd (not_last at x w k x aw.0 first f few)
-turn_one name at (x ∷ w) (y ∷ v) l k more further aw av e f same =
+    absurd (not_last most at x w k x aw.0 first f few)
+turn_one most name at (x ∷ w) (y ∷ v) l k more further aw av e f same =
     let first : y ≡ x = cc in
     let rest : given_in_turn name (at + length x) (w ++ l ∷ []) ++ more ≡ given_in_turn name (at + length y) (v ++ k ∷ []) ++ further = cc in
     let moved = subst (λ (s : List ℕ). given_in_turn name (at + length x) (w ++ l ∷ []) ++ more ≡ given_in_turn name (at + length s) (v ++ k ∷ []) ++ further) first rest in
-    let one = turn_one name (at + length x) w v l k more further aw.1 av.1 (ends_on at x w l e) (subst (λ (s : List ℕ). Ends (at + length s) v k) first (ends_on at y v k f)) moved in
+    let one = turn_one most name (at + length x) w v l k more further aw.1 av.1 (ends_on most at x w l e) (subst (λ (s : List ℕ). Ends most (at + length s) v k) first (ends_on most at y v k f)) moved in
     (ap₂ (λ (s : List ℕ) (r : List (List ℕ)). s ∷ r) (sym first) one.0, one.1, one.2)
 
 -- the slices of a file
@@ -103,7 +103,7 @@ record Turn (name : Name) (es : List Event) : Type 0 where
   whole : List (List ℕ)
   last : List ℕ
   are_whole : AreWhole whole
-  end : Ends 0 whole last
+  end : Ends MOST_INPUT 0 whole last
   is : es ≡ asked (LengthWas name (Some size) ∷ given_in_turn name 0 (whole ++ last ∷ []))
 
 long_last : (whole : List (List ℕ)) (last : List ℕ) → length (concat (whole ++ last ∷ [])) ≡ length (concat whole) + length last
@@ -149,7 +149,7 @@ module _ (name : Name) (es others : List Event) (more further : List Answer) (sa
       alike (LengthWas name (Some a.size) ∷ given_in_turn name 0 (a.whole ++ a.last ∷ [])) (LengthWas name (Some b.size) ∷ given_in_turn name 0 (b.whole ++ b.last ∷ [])) a.is b.is in
       let sizes : a.size ≡ b.size = cc in
       let rest : given_in_turn name 0 (a.whole ++ a.last ∷ []) ++ more ≡ given_in_turn name 0 (b.whole ++ b.last ∷ []) ++ further = cc in
-      let one = turn_one name 0 a.whole b.whole a.last b.last more further a.are_whole b.are_whole a.end b.end rest in
+      let one = turn_one MOST_INPUT name 0 a.whole b.whole a.last b.last more further a.are_whole b.are_whole a.end b.end rest in
       record {
         events = a.is ∙ ap (λ (n : ℕ). asked (LengthWas name (Some n) ∷ given_in_turn name 0 (a.whole ++ a.last ∷ []))) sizes
             ∙ ap₂ (λ (w : List (List ℕ)) (l : List ℕ). asked (LengthWas name (Some b.size) ∷ given_in_turn name 0 (w ++ l ∷ []))) one.0 one.1 ∙ sym b.is;

@@ -1,27 +1,27 @@
 -- The reading of an input, from its calls.
-use Rattle.std.proofs.Common.{◌≡◌, ◌⊎◌, inl, inr, ℕ, ◌+◌, ◌<◌, ◌≤◌, List, [], ◌∷◌, ◌++◌, length, refl, subst, ap, ◌∙◌, sym, arith, length-append, Option, Some, None, Result, Ok, Err, IfOk, IfErr}
+use Rattle.std.proofs.Common.{◌≡◌, inl, inr, ℕ, ◌+◌, ◌<◌, ◌≤◌, List, [], ◌∷◌, ◌++◌, length, refl, subst, ap, ◌∙◌, sym, arith, Option, Some, None, Result, Ok, Err, IfOk, IfErr}
 use Rattle.std.specs.List.{concat}
 use Rattle.std.proofs.lemmas.List.{append-nil}
 use Rattle.pf_io.specs.Disk.{Name}
 use Rattle.pf_io.specs.Host.{Answer, LengthWas, Gave, HostState, KeepsFiles}
 use Rattle.pf_io.specs.Names.{IsName}
-use Rattle.pf_io.specs.Slices.{SLICE, given_in_turn, AreWhole, IsTaken}
+use Rattle.pf_io.specs.Slices.{SLICE, given_in_turn, AreWhole}
 use Rattle.pf_io.specs.Unchanged.{KeepsDisk}
 use Rattle.pf_io.proofs.Slices.{in_turn_append, concat_last}
 use Rattle.pf_io.proofs.Unchanged.{kept_none, kept_then}
 use Rattle.pf_tool.specs.World.{World, with_host}
-use Rattle.pf_tool.specs.Events.{Event, Answers, answers_in}
-use Rattle.pf_tool.specs.Endings.{Ending, Done, Refused, BadName, NotFound, TooLarge, Stop, ending_line}
+use Rattle.pf_tool.specs.Events.{Event, Answers}
+use Rattle.pf_tool.specs.Endings.{Done, Refused, BadName, NotFound, TooLarge, Stop, ending_line}
 use Rattle.pf_tool.specs.Faults.{fault_line, fault_status}
-use Rattle.pf_tool.specs.Happened.{HostPassed, HostFailed, Passed}
-use Rattle.pf_tool.specs.InputFiles.{MOST_INPUT, asked, InputReads, file_unnamed, file_absent, file_large, file_taken, InputLeads, InputRead}
+use Rattle.pf_tool.specs.Happened.{HostPassed, HostFailed}
+use Rattle.pf_tool.specs.InputFiles.{MOST_INPUT, asked, file_unnamed, file_absent, file_large, file_taken, InputLeads, InputRead}
 use Rattle.pf_tool.specs.InputSlices.{SliceAdded, SliceFails, slice_failed, slice_starved, SlicesLead, SlicesRead}
 use Rattle.pf_tool.specs.Outcomes.{Falls}
 use Rattle.pf_tool.specs.declared.fault.Fault.{Fault}
 use Rattle.pf_tool.specs.declared.fault.Fault.TheVariants as faults
 use Rattle.pf_tool.specs.declared.why.Why.TheVariants as whys
 use Rattle.pf_tool.proofs.Asking.{asked_then, passed_asked}
-use Rattle.pf_tool.proofs.Composing.{host_none, host_then, files_kept, passed_none, passed_host, passed_reading, failed_host}
+use Rattle.pf_tool.proofs.Composing.{host_none, host_then, files_kept, passed_none, passed_reading, failed_host}
 use Rattle.pf_tool.proofs.Stopping.{falls_after, refused, host_fails, starves}
 
 abbrev Kept : List Event → Stop → HostState → HostState → Type 0
@@ -53,7 +53,7 @@ whole_more : (whole : List (List ℕ)) (slice : List ℕ) → AreWhole whole →
 whole_more [] slice are is = (is, tt)
 whole_more (first ∷ whole) slice are is = (are.0, whole_more whole slice are.1 is)
 
-in_turn_more : (name : Name) (bytes : List ℕ) (whole : List (List ℕ)) (slice : List ℕ) → bytes ≡ concat whole → given_in_turn name 0 (whole ++ slice ∷ []) ≡ given_in_turn name 0 whole ++ Gave name (length bytes) SLICE slice ∷ []
+pub in_turn_more : (name : Name) (bytes : List ℕ) (whole : List (List ℕ)) (slice : List ℕ) → bytes ≡ concat whole → given_in_turn name 0 (whole ++ slice ∷ []) ≡ given_in_turn name 0 whole ++ Gave name (length bytes) SLICE slice ∷ []
 in_turn_more name bytes whole slice are =
     let place : 0 + length (concat whole) ≡ length bytes = omega (arith, ap (λ (l : List ℕ). length l) are) in
     in_turn_append name 0 whole (slice ∷ []) ∙ ap (λ (k : ℕ). given_in_turn name 0 whole ++ Gave name k SLICE slice ∷ []) place

@@ -40,6 +40,11 @@ pub mod SheetNodes
 pub mod ContentLaws
 mod LastAnswers
 mod MeasureLaws
+mod ManifestFileLaws
+mod EntryLaws
+mod SumsLaws
+mod EntryReading
+mod SumsEnding
 mod RunLaws
 mod RunClauses
 mod RunDisk

@@ -30,6 +30,15 @@ two (v ∷ []) a b least most p q = absurd (omega arith)
 two (v ∷ w ∷ []) a b least most p q = cc
 two (v ∷ w ∷ x ∷ more) a b least most p q = absurd (omega arith)
 
+-- the items of a list of four
+pub four : {A : Type 0} → (xs : List A) (a b c d : A) → 4 ≤ length xs → length xs < 5 → a ≡ slice_index_or xs 0 a → b ≡ slice_index_or xs 1 b → c ≡ slice_index_or xs 2 c → d ≡ slice_index_or xs 3 d → xs ≡ a ∷ b ∷ c ∷ d ∷ []
+four [] a b c d least most p q r s = absurd (omega arith)
+four (v ∷ []) a b c d least most p q r s = absurd (omega arith)
+four (v ∷ w ∷ []) a b c d least most p q r s = absurd (omega arith)
+four (v ∷ w ∷ x ∷ []) a b c d least most p q r s = absurd (omega arith)
+four (v ∷ w ∷ x ∷ y ∷ []) a b c d least most p q r s = cc
+four (v ∷ w ∷ x ∷ y ∷ z ∷ more) a b c d least most p q r s = absurd (omega arith)
+
 -- a list of at least two
 pub two_more : {A : Type 0} → (xs : List A) (a b : A) → 2 ≤ length xs → a ≡ slice_index_or xs 0 a → b ≡ slice_index_or xs 1 b → xs ≡ a ∷ b ∷ take (length xs - 2) (drop 2 xs)
 two_more [] a b least p q = absurd (omega arith)

@@ -28,7 +28,7 @@ use Rattle.pf_tool.proofs.SideBehind.{leaves_behind}
 use Rattle.pf_tool.proofs.Stopping.{GoesOn, LeadsOn, not_done, outcome_of, outcome_then, stands_on, refused, starves_at}
 
 -- a text has an event, whatever it is
-events_ahead : (output : Option Name) (text : List ℕ) → IsAhead (out_events output text) Done
+pub events_ahead : (output : Option Name) (text : List ℕ) → IsAhead (out_events output text) Done
 events_ahead None text =
     let n = count_of text - 1 in
     let some : count_of text ≡ suc n = omega arith in

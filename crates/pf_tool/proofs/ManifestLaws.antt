@@ -35,7 +35,7 @@ out_pieces_in None text = puts_pieces (pieces_of text)
 out_pieces_in (Some output) text = asked_pieces (file_steps output (side_of output) text)
 
 -- events that only ask end with an answer, or there is none
-asked_last : (these : List Answer) → EndsAnswered (asked these)
+pub asked_last : (these : List Answer) → EndsAnswered (asked these)
 asked_last [] = tt
 asked_last (a ∷ []) = tt
 asked_last (a ∷ b ∷ these) = asked_last (b ∷ these)
@@ -216,26 +216,28 @@ module _ (values : Values) (template : Name) (output : Option Name) where
         let same = same_text values bytes2 text text2 (subst (λ (b : List ℕ). Renders values b (Ok text)) (same_over bytes bytes2 over over2) renders) renders2 in
         (are ∙ ap (λ (t : List ℕ). out_pieces output t) same ∙ sym are2, ends ∙ sym ends2)
 
--- Events that ask, and then pieces: a front of them has no piece, or all that is asked and a front of the pieces.
+-- Events that ask, then pieces, and then events that ask: a front of them has no piece, or all that is asked first and a front
+-- of the pieces.
 
-pieces_front : (es more : List Event) (pieces : List (List ℕ)) → es ++ more ≡ map Puts pieces → (rest : List (List ℕ)) × (pieces ≡ pieces_in es ++ rest) × (answers_in es ≡ [])
-pieces_front [] more pieces is = (pieces, refl, refl)
-pieces_front (e ∷ es) more [] is = absurd (cc)
-pieces_front (Puts piece ∷ es) more (p ∷ pieces) is =
-    let on = pieces_front es more pieces (cc) in
+pieces_front : (es more : List Event) (pieces : List (List ℕ)) (last : List Answer) → es ++ more ≡ map Puts pieces ++ asked last → (rest : List (List ℕ)) × (pieces ≡ pieces_in es ++ rest)
+pieces_front [] more pieces last is = (pieces, refl)
+pieces_front (e ∷ es) more [] last is = ([], sym (ap (λ (l : List (List ℕ)). l ++ []) (no_first (pieces_in (e ∷ es)) (pieces_in more) (sym (pieces_then (e ∷ es) more) ∙ ap (λ (l : List Event). pieces_in l) is ∙ asked_pieces last))))
+pieces_front (Puts piece ∷ es) more (p ∷ pieces) last is =
+    let on = pieces_front es more pieces last (cc) in
     let same : p ≡ piece = cc in
-    (on.0, ap (λ (l : List (List ℕ)). p ∷ l) on.1 ∙ ap (λ (q : List ℕ). q ∷ (pieces_in es ++ on.0)) same, on.2)
-pieces_front (Answers a ∷ es) more (p ∷ pieces) is = absurd (cc)
-pieces_front (Draws w ∷ es) more (p ∷ pieces) is = absurd (cc)
+    (on.0, ap (λ (l : List (List ℕ)). p ∷ l) on.1 ∙ ap (λ (q : List ℕ). q ∷ (pieces_in es ++ on.0)) same)
+pieces_front (Answers a ∷ es) more (p ∷ pieces) last is = absurd (cc)
+pieces_front (Draws w ∷ es) more (p ∷ pieces) last is = absurd (cc)
 
-front_of : (es more : List Event) (these : List Answer) (pieces : List (List ℕ)) → es ++ more ≡ asked these ++ map Puts pieces → (pieces_in es ≡ []) ⊎ ((rest : List (List ℕ)) × (pieces ≡ pieces_in es ++ rest) × (answers_in es ≡ these))
-front_of es more [] pieces is = inr (pieces_front es more pieces is)
-front_of [] more (a ∷ these) pieces is = inl refl
-front_of (Answers b ∷ es) more (a ∷ these) pieces is =
+pub front_of : (es more : List Event) (these : List Answer) (pieces : List (List ℕ)) (last : List Answer) → es ++ more ≡ asked these ++ (map Puts pieces ++ asked last)
+    → (pieces_in es ≡ []) ⊎ ((rest : List (List ℕ)) × (left : List Answer) × (pieces ≡ pieces_in es ++ rest) × (answers_in es ≡ these ++ left))
+front_of es more [] pieces last is = let on = pieces_front es more pieces last is in inr (on.0, answers_in es, on.1, refl)
+front_of [] more (a ∷ these) pieces last is = inl refl
+front_of (Answers b ∷ es) more (a ∷ these) pieces last is =
     let same : b ≡ a = cc in
-    ⊎_elim (λ none. inl none) (λ found. inr (found.0, found.1, ap (λ (l : List Answer). b ∷ l) found.2 ∙ ap (λ (x : Answer). x ∷ these) same)) (front_of es more these pieces (cc))
-front_of (Puts p ∷ es) more (a ∷ these) pieces is = absurd (cc)
-front_of (Draws w ∷ es) more (a ∷ these) pieces is = absurd (cc)
+    ⊎_elim (λ none. inl none) (λ found. inr (found.0, found.1, found.2, ap (λ (l : List Answer). b ∷ l) found.3 ∙ ap (λ (x : Answer). x ∷ (these ++ found.1)) same)) (front_of es more these pieces last (cc))
+front_of (Puts p ∷ es) more (a ∷ these) pieces last is = absurd (cc)
+front_of (Draws w ∷ es) more (a ∷ these) pieces last is = absurd (cc)
 
 reading_asked : (name : Name) (es : List Event) (r : Result (List ℕ) Ending) → InputReads name es r → (these : List Answer) × (es ≡ asked these)
 reading_asked name es r (file_unnamed u is ends) = ([], is)
@@ -245,10 +247,10 @@ reading_asked name es r (file_taken text these named taken few is ends) = (these
 
 -- so far the output took a front of it
 
-empty_front : (es : List Event) (pieces : List (List ℕ)) → pieces_in es ≡ [] → (rest : List ℕ) × (concat pieces ≡ bytes_in es ++ rest)
+pub empty_front : (es : List Event) (pieces : List (List ℕ)) → pieces_in es ≡ [] → (rest : List ℕ) × (concat pieces ≡ bytes_in es ++ rest)
 empty_front es pieces none = (concat pieces, ap (λ (l : List (List ℕ)). concat l ++ concat pieces) (sym none))
 
-none_before : (es more : List Event) (all : List (List ℕ)) → pieces_in (es ++ more) ≡ all → all ≡ [] → pieces_in es ≡ []
+pub none_before : (es more : List Event) (all : List (List ℕ)) → pieces_in (es ++ more) ≡ all → all ≡ [] → pieces_in es ≡ []
 none_before es more all is none = no_first (pieces_in es) (pieces_in more) (sym (pieces_then es more) ∙ is ∙ none)
 
 module _ (values : Values) (template : Name) (files : Files) (es more : List Event) (given : Ending) (pieces : List (List ℕ)) (all : AllByRecursion (IsAnswerOf files) (answers_in es)) where
@@ -260,11 +262,12 @@ module _ (values : Values) (template : Name) (files : Files) (es more : List Eve
   text_front None bytes text first fits reads renders is over =
       let by = reading_asked template first (Ok bytes) reads in
       ⊎_elim (λ none. empty_front es pieces none) (λ found.
-      let these : answers_in es ≡ answers_in first = found.2 ∙ sym (asked_answers by.0) ∙ ap (λ (l : List Event). answers_in l) (sym by.1) in
-      let read = input_over files template first (Ok bytes) reads (subst (λ (l : List Answer). AllByRecursion (IsAnswerOf files) l) these all) in
+      let these : answers_in first ≡ by.0 = ap (λ (l : List Event). answers_in l) by.1 ∙ asked_answers by.0 in
+      let parts = all_split (IsAnswerOf files) by.0 found.1 (subst (λ (l : List Answer). AllByRecursion (IsAnswerOf files) l) found.3 all) in
+      let read = input_over files template first (Ok bytes) reads (subst (λ (l : List Answer). AllByRecursion (IsAnswerOf files) l) (sym these) parts.0) in
       let one = manifest_over_one values template None files pieces (pieces_of text) given Done over (over_written bytes text fits read renders refl refl) in
-      (concat found.0, ap (λ (l : List (List ℕ)). concat l) (one.0 ∙ found.1) ∙ concat-append (pieces_in es) found.0))
-      (front_of es more by.0 (pieces_of text) (is ∙ ap (λ (l : List Event). l ++ map Puts (pieces_of text)) by.1))
+      (concat found.0, ap (λ (l : List (List ℕ)). concat l) (one.0 ∙ found.2) ∙ concat-append (pieces_in es) found.0))
+      (front_of es more by.0 (pieces_of text) [] (is ∙ ap (λ (l : List Event). l ++ map Puts (pieces_of text)) by.1 ∙ ap (λ (l : List Event). asked by.0 ++ l) (sym (append-nil (map Puts (pieces_of text))))))
 
   rest_front : (output : Option Name) (bytes : List ℕ) (first rest : List Event) (ending : Ending) → FitsOutput output → InputReads template first (Ok bytes) → WritesManifest values output bytes rest ending → es ++ more ≡ first ++ rest
       → ManifestOver values template output files pieces given → (left : List ℕ) × (concat pieces ≡ bytes_in es ++ left)

@@ -10,7 +10,7 @@ use Rattle.pf_io.specs.Words.{WordsState}
 use Rattle.pf_io.proofs.Telling.{both_weaker}
 use Rattle.pf_tool.specs.World.{World, world_of, with_log}
 use Rattle.pf_tool.specs.Events.{Event, Answers, Draws, Puts, answers_in, words_in, pieces_in, bytes_in}
-use Rattle.pf_tool.specs.Endings.{Ending, Done, MayStarve, Stop, AtEnd, Failed, Starved, stop_line, stop_status, no_command_line}
+use Rattle.pf_tool.specs.Endings.{Ending, Done, MayStarve, Stop, AtEnd, Failed, Starved, tried, stop_line, stop_status, no_command_line}
 use Rattle.pf_tool.specs.declared.fault.Fault.{Fault}
 use Rattle.pf_tool.proofs.Stopping.{not_done}
 use Rattle.pf_tool.specs.Happened.{OutPassed, Passed, Happened}
@@ -21,12 +21,14 @@ use Rattle.pf_tool.proofs.TextPutting.{concat_pieces}
 use Rattle.pf_tool.specs.Faults.{fault_status}
 use Rattle.pf_tool.specs.Outcomes.{IsAhead, StopsAt, ComesOut, Concludes}
 use Rattle.pf_tool.specs.Reports.{Reported, Reports}
-use Rattle.pf_tool.specs.Requests.{Request, Decrypt, Encrypt, Manifest, Measure}
+use Rattle.pf_tool.specs.Requests.{Request, Decrypt, Encrypt, Manifest, Sums, Measure}
 use Rattle.pf_tool.specs.Runs.{Leads, LeavesHost, Runs, Usage, Causes, ByWords, Content, Decided, NoneCounted, Honestly, as_files_give, starved, Honest, Stays}
 use Rattle.pf_tool.proofs.RunStops.{not_two, reports_of, stop_low, reported_said, said, status_of, host_counted, random_counted, out_counted, all_passed, none_failed, input_kept, undrawn, unput, done_at_zero}
 use Rattle.pf_tool.proofs.RunLaws.{silent, spoken, decided, none_left, over, over_front}
 use Rattle.pf_tool.proofs.DecryptLaws.{decrypt_undrawn}
 use Rattle.pf_tool.proofs.EncryptLaws.{encrypt_unput, encrypt_given}
+use Rattle.pf_tool.proofs.SumsLaws.{sums_undrawn, put_lines, put_both}
+use Rattle.pf_tool.specs.Summing.{SumsLead, WroteSums}
 use Rattle.pf_tool.proofs.MeasureLaws.{measure_undrawn, measure_put}
 use Rattle.pf_tool.proofs.ContentRuns.{told_of, these_told, front_taken, took_content}
 use Rattle.pf_tool.specs.Encrypting.{EncryptLeads, GaveSealed}
@@ -204,6 +206,18 @@ run_content (Manifest values template output) old new status run = λ these told
       answered = sym same ∙ given.answered;
       took = took_text output given.text (pieces_in es) old.out new.out passed.out given.pieces;
     }
+run_content (Sums manifest None) old new status run = λ these told zero_is.
+    let es = run.outcome.events in
+    let done = done_at_zero run.stop old.log new.log status run.reports zero_is in
+    let passed : Passed es old (with_log new old.log) = subst (λ (s : Stop). Happened es s old (with_log new old.log)) done run.outcome.happened in
+    let same : answers_in es ≡ these = these_told old.host new.host (answers_in es) these passed.host.told told in
+    put_lines manifest es Done these old.out new.out (subst (λ (s : Stop). StopsAt (SumsLead manifest None) es s) done run.outcome.stands) refl same passed.out.told
+run_content (Sums manifest (Some output)) old new status run = λ these told zero_is.
+    let es = run.outcome.events in
+    let done = done_at_zero run.stop old.log new.log status run.reports zero_is in
+    let passed : Passed es old (with_log new old.log) = subst (λ (s : Stop). Happened es s old (with_log new old.log)) done run.outcome.happened in
+    let same : answers_in es ≡ these = these_told old.host new.host (answers_in es) these passed.host.told told in
+    put_both manifest output es these old.out new.out (subst (λ (s : Stop). WroteSums manifest output (tried es s)) done (run.outcome.leaves.done done)) same passed.out.told
 run_content (Measure layout) old new status run = λ these told zero_is.
     let es = run.outcome.events in
     let done = done_at_zero run.stop old.log new.log status run.reports zero_is in
@@ -220,4 +234,5 @@ run_stays (Manifest values template (Some output)) old new status run = (
   undrawn (Leads (Manifest values template (Some output))) run.outcome.events run.stop old (with_log new old.log) (manifest_undrawn values template (Some output)) run.outcome.stands run.outcome.happened,
   unput (Leads (Manifest values template (Some output))) run.outcome.events run.stop old (with_log new old.log) (manifest_unput values template output) run.outcome.stands run.outcome.happened,
 )
+run_stays (Sums manifest output) old new status run = undrawn (Leads (Sums manifest output)) run.outcome.events run.stop old (with_log new old.log) (sums_undrawn manifest output) run.outcome.stands run.outcome.happened
 run_stays (Measure layout) old new status run = undrawn (Leads (Measure layout)) run.outcome.events run.stop old (with_log new old.log) (measure_undrawn layout) run.outcome.stands run.outcome.happened

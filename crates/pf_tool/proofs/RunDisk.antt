@@ -1,10 +1,10 @@
 -- What a run leaves of an honest disk, by its status and by the host's count of faults.
-use Rattle.std.proofs.Common.{◌≡◌, ◌⊎◌, inl, inr, ⊎_elim, ℕ, zero, suc, ◌+◌, ◌*◌, List, [], ◌∷◌, ◌++◌, length, take, drop, refl, subst, ap, ◌∙◌, sym, arith, append_assoc, Option, Some, None, Result, Ok, Err}
+use Rattle.std.proofs.Common.{◌≡◌, ◌⊎◌, inl, inr, ⊎_elim, ℕ, zero, suc, ◌+◌, ◌*◌, List, [], ◌∷◌, ◌++◌, length, map, take, drop, refl, subst, ap, ◌∙◌, sym, arith, append_assoc, Option, Some, None, Result, Ok, Err}
 use Rattle.std.specs.Prelude.{Contains}
 use Rattle.std.proofs.lemmas.List.{append-nil}
 use Rattle.std.proofs.lemmas.List.Elements.{Contains-append_cases}
 use Rattle.pf_io.specs.Disk.{Name, File, Disk, Image}
-use Rattle.pf_io.specs.Host.{Wrote, Synced, Swapped}
+use Rattle.pf_io.specs.Host.{Answer, LengthWas, Gave, Wrote, WasCut, Synced, Made, Swapped, Removed}
 use Rattle.pf_io.specs.SideFile.{PIECE, pieces, wrote_pieces, side_steps}
 use Rattle.pf_io.specs.Slices.{given_in_turn}
 use Rattle.pf_io.specs.Names.{side_of}
@@ -14,14 +14,21 @@ use Rattle.pf_tool.specs.Endings.{Ending, Done, MayStarve, Stop, AtEnd, Failed, 
 use Rattle.pf_tool.specs.Happened.{Happened}
 use Rattle.pf_tool.specs.Outcomes.{IsAhead, StopsAt}
 use Rattle.pf_tool.specs.Reports.{Reports}
-use Rattle.pf_tool.specs.Requests.{Request, Decrypt, Encrypt, Manifest, Measure}
+use Rattle.pf_tool.specs.Requests.{Request, Decrypt, Encrypt, Manifest, Sums, Measure}
 use Rattle.pf_tool.specs.SideFiles.{IsSwapped, SideLeaves, SideEnds, IsNewFile, LeavesBySide}
 use Rattle.template_text.specs.Rendering.{Values}
 use Rattle.pf_tool.specs.InputFiles.{asked, InputReads, file_unnamed, file_absent, file_large, file_taken}
 use Rattle.pf_tool.specs.Manifests as manifests
 use Rattle.pf_tool.specs.Manifests.{WritesManifest, text_refused, text_written, ManifestLeads, template_unread, template_read, IsRendered}
 use Rattle.pf_tool.specs.PlainFiles.{written_events}
+use Rattle.std.specs.List.{AllByRecursion}
+use Rattle.file_sums.specs.declared.fault.SumFault.TheVariants as sum_faults
+use Rattle.manifest_model.specs.Listed.{Seen}
+use Rattle.pf_tool.specs.ManifestFiles.{ManifestReads, manifest_unread, no_manifest, manifest_seen}
+use Rattle.pf_tool.specs.Summing as sums
+use Rattle.pf_tool.specs.Summing.{line_pieces, FilesLead, file_absent, files_summed, SumsLead, manifest_fails, manifest_there, IsSummed}
 use Rattle.pf_tool.proofs.Asking.{asked_then}
+use Rattle.pf_tool.proofs.EntryReading.{IsAsk, gives_asks, end_asks}
 use Rattle.pf_tool.proofs.PlainWriting.{ran_weaker}
 use Rattle.pf_tool.specs.Keys.{KeyRefused, key_unnamed, key_absent, key_length, key_short, key_events}
 use Rattle.pf_tool.specs.Encrypting.{Seals, output_unnamed, input_unfit, input_absent, input_large, published, EncryptLeads, encrypt_key_refused, encrypt_key_read, IsSealed, IsVersion, nonce_in}
@@ -142,6 +149,45 @@ manifest_swaps values template output es ending (template_unread fits reads) = i
 manifest_swaps values template output es ending (template_read bytes first rest fits reads writes is) =
     subst (λ (l : List Event). Swaps l ending) (sym is) (rest_swaps values output bytes first rest ending (reading_none template first (Ok bytes) reads) writes)
 
+asks_none : (these : List Answer) → AllByRecursion IsAsk these → NoSwap (asked these)
+asks_none [] asks = tt
+asks_none (LengthWas name size ∷ these) asks = (λ no. no, asks_none these asks.1)
+asks_none (Gave name place room bytes ∷ these) asks = (λ no. no, asks_none these asks.1)
+asks_none (Wrote name place bytes ∷ these) asks = absurd asks.0
+asks_none (WasCut name size ∷ these) asks = absurd asks.0
+asks_none (Synced name ∷ these) asks = absurd asks.0
+asks_none (Made name ∷ these) asks = absurd asks.0
+asks_none (Swapped from to ∷ these) asks = absurd asks.0
+asks_none (Removed name ∷ these) asks = absurd asks.0
+
+puts_none : (these : List (List ℕ)) → NoSwap (map Puts these)
+puts_none [] = tt
+puts_none (piece ∷ these) = (λ no. no, puts_none these)
+
+seen_none : (name : Name) (es : List Event) (r : Result Seen Ending) → ManifestReads name es r → NoSwap es
+seen_none name es r (manifest_unread ending reads is) = reading_none name es (Err ending) reads
+seen_none name es r (no_manifest text why reads refused is) = reading_none name es (Ok text) reads
+seen_none name es r (manifest_seen text seen reads lists is) = reading_none name es (Ok text) reads
+
+files_swaps : (output : Name) (seen : Seen) (first rest : List Event) (ending : Ending) → NoSwap first → FilesLead (Some output) seen rest ending → Swaps (first ++ rest) ending
+files_swaps output seen first rest ending none (file_absent these n name ends is to) = inl (subst (λ (l : List Event). NoSwap (first ++ l)) (sym is) (none_append first (asked these) none (asks_none these (end_asks seen.lists.trusted these n name sum_faults.NotFound ends))))
+files_swaps output seen first rest ending none (sums.file_large these n name ends is to) = inl (subst (λ (l : List Event). NoSwap (first ++ l)) (sym is) (none_append first (asked these) none (asks_none these (end_asks seen.lists.trusted these n name sum_faults.TooLarge ends))))
+files_swaps output seen first rest ending none (files_summed these all behind gives writes is) =
+    let lines = map Puts (line_pieces seen all) in
+    let front = first ++ (asked these ++ lines) in
+    let whole : first ++ rest ≡ front ++ written_events output writes.text =
+    ap (λ (l : List Event). first ++ l) (is ∙ ap (λ (l : List Event). asked these ++ l) writes.are ∙ sym (append_assoc (asked these) lines (written_events output writes.text))) ∙ sym (append_assoc first (asked these ++ lines) (written_events output writes.text)) in
+    inr (
+      writes.done,
+      subst OnlyLast (sym whole) (written_last front output writes.text (none_append first (asked these ++ lines) none (none_append (asked these) lines (asks_none these (gives_asks seen.lists.trusted these all gives)) (puts_none (line_pieces seen all))))),
+    )
+
+sums_swaps : (manifest output : Name) (es : List Event) (ending : Ending) → SumsLead manifest (Some output) es ending → Swaps es ending
+sums_swaps manifest output es ending (sums.output_unfit unfit is ends) = inl (subst NoSwap (sym is) tt)
+sums_swaps manifest output es ending (manifest_fails fits reads) = inl (seen_none manifest es (Err ending) reads)
+sums_swaps manifest output es ending (manifest_there seen first rest fits reads leads is) =
+    subst (λ (l : List Event). Swaps l ending) (sym is) (files_swaps output seen first rest ending (seen_none manifest first (Ok seen) reads) leads)
+
 -- a command whose side file takes its name last
 module _ (output : Name) (Leading : List Event → Ending → Type 0) (swaps : (es : List Event) (ending : Ending) → Leading es ending → Swaps es ending) where
   -- before the last event none does
@@ -205,4 +251,8 @@ run_disk (Manifest values template None) old new status run = run.outcome.leaves
 run_disk (Manifest values template (Some output)) old new status run =
     side_disk output (ManifestLeads values template (Some output)) (manifest_swaps values template output) old new status run.outcome.events run.stop run.outcome.stands run.outcome.happened run.reports
     (λ disk _. IsRendered values template disk) (IsRendered values template) (λ d file rendered. rendered) run.outcome.leaves
+run_disk (Sums manifest None) old new status run = run.outcome.leaves
+run_disk (Sums manifest (Some output)) old new status run =
+    side_disk output (SumsLead manifest (Some output)) (sums_swaps manifest output) old new status run.outcome.events run.stop run.outcome.stands run.outcome.happened run.reports
+    (λ disk _. IsSummed manifest disk) (IsSummed manifest) (λ d file summed. summed) run.outcome.leaves.disk
 run_disk (Measure layout) old new status run = run.outcome.leaves

@@ -96,18 +96,25 @@ pub ends_after : {T : Type 0} (xs : List Event) (Part Leads : List Event → End
 ends_after xs Part Leads (Ok value) old mid new ends passed files kept go = outcome_then xs Part Leads (λ _ _. KeepsDisk) (λ _ _. KeepsDisk) (AtEnd Done) old mid new ends passed files go (λ left. kept)
 ends_after xs Part Leads (Err fault) old mid new ends passed files kept go = falls_after xs Part Leads fault old mid new ends passed files kept go
 
--- a part that the command goes on from did not come to its end, after events that changed no file
-pub falls_on : (xs : List Event) (Part Leads : List Event → Ending → Type 0) (PartLeaves Leaves : List Event → Stop → HostState → HostState → Type 0) (fault : Fault) (old mid new : World) → Passed xs old mid → KeepsFiles old.host mid.host
-    → ((es : List Event) (ending : Ending) → Part es ending → LeadsOn Leads (xs ++ es) ending) → ((tried : List Event) (stop : Stop) → PartLeaves tried stop mid.host new.host → Leaves (xs ++ tried) stop old.host new.host)
+-- A part that the command goes on from did not come to its end, after events that changed no file. What is left is known of a
+-- command that is not done.
+pub falls_undone : (xs : List Event) (Part Leads : List Event → Ending → Type 0) (PartLeaves Leaves : List Event → Stop → HostState → HostState → Type 0) (fault : Fault) (old mid new : World) → Passed xs old mid → KeepsFiles old.host mid.host
+    → ((es : List Event) (ending : Ending) → Part es ending → LeadsOn Leads (xs ++ es) ending) → ((tried : List Event) (stop : Stop) → (stop ≡ AtEnd Done → ⊥) → PartLeaves tried stop mid.host new.host → Leaves (xs ++ tried) stop old.host new.host)
     → Falls Part PartLeaves fault mid new → Falls Leads Leaves fault old new
-falls_on xs Part Leads PartLeaves Leaves fault old mid new passed files go left falls =
+falls_undone xs Part Leads PartLeaves Leaves fault old mid new passed files go left falls =
     let o = falls.outcome in
+    let never : falls.stop ≡ AtEnd Done → ⊥ = λ is. not_done fault (falls.is_fault.ends ∙ ap stop_status is) in
     record {
       stop = falls.stop;
       is_fault = falls.is_fault;
       outcome = outcome_of xs Part Leads PartLeaves Leaves falls.stop old mid new o passed (files_kept (answers_in o.events) old.host mid.host files (happened_honest o.events falls.stop mid new o.happened))
-          (stands_on xs Part Leads o.events falls.stop go (λ is. not_done fault (falls.is_fault.ends ∙ ap stop_status is)) o.stands) (left (tried o.events falls.stop) falls.stop);
+          (stands_on xs Part Leads o.events falls.stop go never o.stands) (left (tried o.events falls.stop) falls.stop never);
     }
+
+pub falls_on : (xs : List Event) (Part Leads : List Event → Ending → Type 0) (PartLeaves Leaves : List Event → Stop → HostState → HostState → Type 0) (fault : Fault) (old mid new : World) → Passed xs old mid → KeepsFiles old.host mid.host
+    → ((es : List Event) (ending : Ending) → Part es ending → LeadsOn Leads (xs ++ es) ending) → ((tried : List Event) (stop : Stop) → PartLeaves tried stop mid.host new.host → Leaves (xs ++ tried) stop old.host new.host)
+    → Falls Part PartLeaves fault mid new → Falls Leads Leaves fault old new
+falls_on xs Part Leads PartLeaves Leaves fault old mid new passed files go left falls = falls_undone xs Part Leads PartLeaves Leaves fault old mid new passed files go (λ tried stop never kept. left tried stop kept) falls
 
 -- a command of one part
 pub falls_as : (Part Leads : List Event → Ending → Type 0) (PartLeaves Leaves : List Event → Stop → HostState → HostState → Type 0) (fault : Fault) (old new : World) → ((es : List Event) (ending : Ending) → Part es ending → Leads es ending)

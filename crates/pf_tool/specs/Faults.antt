@@ -1,6 +1,9 @@
 -- The line and the status of each fault.
 use Rattle.std.specs.Prelude.{ℕ, List}
 use Rattle.pf_tool.specs.Endings.{Refusal, BadName, NotFound, KeyFile, NotProtected, TooLarge, NotUtf8, BadTemplate, BadManifest, BadLayout, Absent, Unbuilt, Damaged, Refused, ending_line, ending_status, no_command_line, host_line, memory_line, random_line, stream_line}
+use Rattle.file_sums.specs.declared.fault.AllFault.{AllFault}
+use Rattle.file_sums.specs.declared.fault.AllFault.TheVariants as all_faults
+use Rattle.file_sums.specs.declared.fault.SumFault.TheVariants as sum_faults
 use Rattle.enclave_measure.specs.declared.fault.LayoutFault.{LayoutFault}
 use Rattle.enclave_measure.specs.declared.fault.LayoutFault.TheVariants as layouts
 use Rattle.manifest_model.specs.declared.fault.ManifestFault.{ManifestFault}
@@ -70,3 +73,10 @@ layout_fault (layouts.BadLine number) = faults.Refused (whys.BadLayout (layouts.
 layout_fault (layouts.BadSize number) = faults.Refused (whys.BadLayout (layouts.BadSize number))
 layout_fault (layouts.OutOfRange number) = faults.Refused (whys.BadLayout (layouts.OutOfRange number))
 layout_fault (layouts.Repeated number) = faults.Refused (whys.BadLayout (layouts.Repeated number))
+
+-- the fault of files that are not summed
+abbrev pub sums_fault : AllFault → Fault
+sums_fault (all_faults.At name sum_faults.NotFound) = faults.Refused (whys.Absent name)
+sums_fault (all_faults.At name sum_faults.TooLarge) = faults.Refused whys.TooLarge
+sums_fault (all_faults.At name sum_faults.Host) = faults.Host
+sums_fault all_faults.Memory = faults.Memory

@@ -21,5 +21,7 @@ pub mod Making
 pub mod Decrypting
 pub mod Unsealing
 pub mod Measuring
+pub mod ManifestFiles
+pub mod Summing
 pub mod Contents
 pub mod Runs

@@ -12,6 +12,7 @@ pub data Request : Type 0 where
   Decrypt : (key input : Name) → Request
   Encrypt : (key input output : Name) → Request
   Manifest : (values : Values) → (template : Name) → (output : Option Name) → Request
+  Sums : (manifest : Name) → (output : Option Name) → Request
   Measure : (layout : Name) → Request
 
 -- `decrypt -w KEY -i IN`
@@ -42,6 +43,11 @@ pub record AsksManifest (words : List (List ℕ)) (values : Values) (template : 
   pub defines : Define behind values (operands template output)
   pub are_operands : AreOperands template output
 
+-- `sums MANIFEST`, and `sums -o OUT MANIFEST`
+abbrev pub sums_words : Name → Option Name → List (List ℕ)
+sums_words manifest None = codes "sums" ∷ manifest ∷ []
+sums_words manifest (Some output) = codes "sums" ∷ codes "-o" ∷ output ∷ manifest ∷ []
+
 -- `measure LAYOUT`
 abbrev pub measure_words : Name → List (List ℕ)
 measure_words layout = codes "measure" ∷ layout ∷ []
@@ -50,6 +56,7 @@ abbrev pub AskFor : List (List ℕ) → Request → Type 0
 AskFor words (Decrypt key input) = words ≡ decrypt_words key input
 AskFor words (Encrypt key input output) = words ≡ encrypt_words key input output
 AskFor words (Manifest values template output) = AsksManifest words values template output
+AskFor words (Sums manifest output) = (words ≡ sums_words manifest output) × IsOperand manifest
 AskFor words (Measure layout) = (words ≡ measure_words layout) × IsOperand layout
 
 -- words that are no command, whatever the names
@@ -61,4 +68,5 @@ abbrev pub request_of : Command → Request
 request_of (commands.Decrypt command) = Decrypt command.key.now command.input.now
 request_of (commands.Encrypt command) = Encrypt command.key.now command.input.now command.output.now
 request_of (commands.Manifest command) = Manifest command.values command.template.now (option_map (λ name. name.now) command.output)
+request_of (commands.Sums command) = Sums command.manifest.now (option_map (λ name. name.now) command.output)
 request_of (commands.Measure command) = Measure command.layout.now

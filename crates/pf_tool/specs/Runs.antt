@@ -14,12 +14,13 @@ use Rattle.pf_tool.specs.Events.{Event, answers_in}
 use Rattle.pf_tool.specs.Endings.{Ending, Done, MayStarve, Stop, AtEnd, Starved, ending_line, ending_status, memory_line, no_command_line}
 use Rattle.pf_tool.specs.Outcomes.{Outcome}
 use Rattle.pf_tool.specs.Reports.{WroteAll, Reported, Reports}
-use Rattle.pf_tool.specs.Requests.{Request, Decrypt, Encrypt, Manifest, Measure}
+use Rattle.pf_tool.specs.Requests.{Request, Decrypt, Encrypt, Manifest, Sums, Measure}
 use Rattle.pf_tool.specs.SideFiles.{IsNewFile}
 use Rattle.pf_tool.specs.Decrypting.{DecryptLeads, DecryptOver}
 use Rattle.pf_tool.specs.Encrypting.{EncryptLeads, EncryptLeaves, EncryptOver, GaveSealed, IsVersion}
 use Rattle.pf_tool.specs.Contents.{TookContent}
 use Rattle.pf_tool.specs.Manifests.{ManifestLeads, ManifestLeaves, ManifestOver, GaveRendered, IsRendered}
+use Rattle.pf_tool.specs.Summing.{SumsLead, SumsLeave, SumsOver, PutSums, IsSummed}
 use Rattle.pf_tool.specs.Measuring.{MeasureLeads, MeasureOver, PutMeasurement}
 
 -- all events of a run with this ending
@@ -27,6 +28,7 @@ abbrev pub Leads : Request → List Event → Ending → Type 0
 Leads (Decrypt key input) events ending = DecryptLeads key input events ending
 Leads (Encrypt key input output) events ending = EncryptLeads key input output events ending
 Leads (Manifest values template output) events ending = ManifestLeads values template output events ending
+Leads (Sums manifest output) events ending = SumsLead manifest output events ending
 Leads (Measure layout) events ending = MeasureLeads layout events ending
 
 -- what is left on the host after what was tried
@@ -34,6 +36,7 @@ abbrev pub LeavesHost : Request → List Event → Stop → HostState → HostSt
 LeavesHost (Decrypt key input) tried stop old new = KeepsDisk old new
 LeavesHost (Encrypt key input output) tried stop old new = EncryptLeaves key input output tried stop old new
 LeavesHost (Manifest values template output) tried stop old new = ManifestLeaves values template output tried stop old new
+LeavesHost (Sums manifest output) tried stop old new = SumsLeave manifest output tried stop old new
 LeavesHost (Measure layout) tried stop old new = KeepsDisk old new
 
 -- the pieces for the output, and the ending, that files give
@@ -41,6 +44,7 @@ abbrev pub Over : Request → Files → List (List ℕ) → Ending → Type 0
 Over (Decrypt key input) files pieces ending = DecryptOver key input files pieces ending
 Over (Encrypt key input output) files pieces ending = (pieces ≡ []) × EncryptOver key input output files ending
 Over (Manifest values template output) files pieces ending = ManifestOver values template output files pieces ending
+Over (Sums manifest output) files pieces ending = SumsOver manifest output files pieces ending
 Over (Measure layout) files pieces ending = MeasureOver layout files pieces ending
 
 -- The whole of a run: where it stopped, what had happened until then, and what it said.
@@ -74,11 +78,13 @@ abbrev pub ByWords : Request → World → World → ℕ → Type 0
 ByWords request old new status = (ending : Ending) → Leads request [] ending → Reports (AtEnd ending) old.log new.log status × (with_log new old.log ≡ old)
 
 -- What was put out of a protected file is of one sealed version, where nothing that was given is forged. What was sealed has the
--- bytes given as content. What was put out of a layout is the measurement of the bytes given.
+-- bytes given as content. What was put out of a layout is the measurement of the bytes given, and of a manifest the sums of its
+-- files.
 abbrev pub Content : Request → World → World → ℕ → Type 0
 Content (Decrypt key input) old new status = TookContent key input old new status
 Content (Encrypt key input output) old new status = (these : List Answer) → WereTold these old.host new.host → status ≡ 0 → GaveSealed key input output these
 Content (Manifest values template output) old new status = (these : List Answer) → WereTold these old.host new.host → status ≡ 0 → GaveRendered values template output these old.out new.out
+Content (Sums manifest output) old new status = (these : List Answer) → WereTold these old.host new.host → status ≡ 0 → PutSums manifest output these old.out new.out
 Content (Measure layout) old new status = (these : List Answer) → WereTold these old.host new.host → status ≡ 0 → PutMeasurement layout these old new
 
 -- Where the host told these answers, and they lead to an ending, it is reported: a refusal or a damage always, since no event
@@ -134,6 +140,8 @@ OnDisks (Decrypt key input) old new status = KeepsDisk old.host new.host
 OnDisks (Encrypt key input output) old new status = LeavesOutput output (IsVersion key input output) old new status
 OnDisks (Manifest values template None) old new status = KeepsDisk old.host new.host
 OnDisks (Manifest values template (Some output)) old new status = LeavesOutput output (IsRendered values template) old new status
+OnDisks (Sums manifest None) old new status = KeepsDisk old.host new.host
+OnDisks (Sums manifest (Some output)) old new status = LeavesOutput output (IsSummed manifest) old new status
 OnDisks (Measure layout) old new status = KeepsDisk old.host new.host
 
 -- what a run leaves alone
@@ -142,4 +150,5 @@ Stays (Decrypt key input) old new = new.random ≡ old.random
 Stays (Encrypt key input output) old new = new.out ≡ old.out
 Stays (Manifest values template None) old new = new.random ≡ old.random
 Stays (Manifest values template (Some output)) old new = (new.random ≡ old.random) × (new.out ≡ old.out)
+Stays (Sums manifest output) old new = new.random ≡ old.random
 Stays (Measure layout) old new = new.random ≡ old.random

@@ -24,6 +24,10 @@ mod plain_file;
 mod rendering;
 mod run;
 mod side_file;
+mod sum_files;
+mod sums;
+#[cfg(test)]
+mod sums_tests;
 #[cfg(test)]
 mod tests;
 mod text_output;

@@ -14,8 +14,8 @@ use crate::why::Why;
 use pf_io::{Host, Sink, is_target};
 use std::alloc::Global;
 
-// Whether a file may be made under the name, where one is given.
-fn fits_output(output: Option<&str>) -> bool
+/// Whether a file may be made under the name, where one is given.
+pub(crate) fn fits_output(output: Option<&str>) -> bool
     ensures { IsTrue result ↔ FitsOutput (option_map (λ name. name.now) output.entry) }
 {
     match output {

@@ -11,6 +11,7 @@ use crate::encrypt::encrypt;
 use crate::fault::Fault;
 use crate::manifest::write_manifest;
 use crate::measuring::measure_layout;
+use crate::sums::write_sums;
 use crate::words::{Command, command_of};
 use pf_io::{Host, Sink, Source, Words};
 use std::alloc::Global;
@@ -41,6 +42,7 @@ fn run_command<H: Host, K: Sink, L: Sink, R: Words>(
         Command::Decrypt(command) => conclude(decrypt(alloc, host, command, out), log),
         Command::Encrypt(command) => conclude(encrypt(alloc, host, random, command), log),
         Command::Manifest(command) => conclude(write_manifest(alloc, host, command, out), log),
+        Command::Sums(command) => conclude(write_sums(alloc, host, command, out), log),
         Command::Measure(command) => conclude(measure_layout(alloc, host, command, out), log),
     }
 }

@@ -1,6 +1,6 @@
 // The words of the command line.
-ghost use Rattle.std.specs.Prelude.{◌≡◌, ◌↔◌, IsTrue, IfSome, IfNone, List, ℕ, codes};
-ghost use Rattle.pf_tool.specs.Requests.{texts, decrypt_words, encrypt_words, IsOperand, Measure as MeasureOf, AskFor, AskForNothing, request_of};
+ghost use Rattle.std.specs.Prelude.{◌≡◌, ◌↔◌, IsTrue, IfSome, IfNone, Option, Some, None, List, ℕ, codes, option_map};
+ghost use Rattle.pf_tool.specs.Requests.{texts, decrypt_words, encrypt_words, IsOperand, Sums as SumsOf, Measure as MeasureOf, AskFor, AskForNothing, request_of};
 
 use crate::manifest_words::{Manifest, manifest_of};
 
@@ -24,6 +24,15 @@ pub struct Encrypt<'a> {
     pub output: &'a str,
 }
 
+/// The words `sums MANIFEST` and `sums -o OUT MANIFEST`.
+#[derive(Drop)]
+pub struct Sums<'a> {
+    /// The name of the manifest.
+    pub manifest: &'a str,
+    /// The name of the file that gets the manifest with all sums, where it is asked for.
+    pub output: Option<&'a str>,
+}
+
 /// The words `measure LAYOUT`.
 #[derive(Drop)]
 pub struct Measure<'a> {
@@ -40,6 +49,8 @@ pub enum Command<'a> {
     Encrypt(Encrypt<'a>),
     /// Renders a template to the text of a manifest.
     Manifest(Manifest<'a>),
+    /// Sums the files that a manifest trusts.
+    Sums(Sums<'a>),
     /// Measures a listed layout of an enclave.
     Measure(Measure<'a>),
 }
@@ -108,6 +119,55 @@ pub(crate) fn is_operand(word: &str) -> bool
     word.len() < 2 || word.as_bytes()[0] != b'-'
 }
 
+fn sums_alone(words: &[String]) -> Option<Sums<'_>>
+    ensures found { IfSome result (λ command. AskFor (texts words.now) (SumsOf command.manifest.now (option_map (λ name. name.now) command.output))) }
+    ensures none { IfNone result ((manifest : List ℕ) → AskFor (texts words.now) (SumsOf manifest None) → ⊥) }
+{
+    let [command, manifest] = words else {
+        return None;
+    };
+    if command.as_str() == "sums" && is_operand(manifest.as_str()) {
+        Some(Sums {
+            manifest: manifest.as_str(),
+            output: None,
+        })
+    } else {
+        None
+    }
+}
+
+fn is_sums_to_file(command: &str, option: &str, manifest: &str) -> bool
+    ensures { IsTrue result ↔ (command.now ≡ codes "sums") × (option.now ≡ codes "-o") × IsOperand manifest.now }
+{
+    command == "sums" && option == "-o" && is_operand(manifest)
+}
+
+fn sums_to_file(words: &[String]) -> Option<Sums<'_>>
+    ensures found { IfSome result (λ command. AskFor (texts words.now) (SumsOf command.manifest.now (option_map (λ name. name.now) command.output))) }
+    ensures none { IfNone result ((manifest output : List ℕ) → AskFor (texts words.now) (SumsOf manifest (Some output)) → ⊥) }
+{
+    let [command, option, output, manifest] = words else {
+        return None;
+    };
+    if !is_sums_to_file(command.as_str(), option.as_str(), manifest.as_str()) {
+        return None;
+    }
+    Some(Sums {
+        manifest: manifest.as_str(),
+        output: Some(output.as_str()),
+    })
+}
+
+fn sums_of(words: &[String]) -> Option<Sums<'_>>
+    ensures found { IfSome result (λ command. AskFor (texts words.now) (SumsOf command.manifest.now (option_map (λ name. name.now) command.output))) }
+    ensures none { IfNone result ((manifest : List ℕ) (output : Option (List ℕ)) → AskFor (texts words.now) (SumsOf manifest output) → ⊥) }
+{
+    match sums_alone(words) {
+        Some(command) => Some(command),
+        None => sums_to_file(words),
+    }
+}
+
 fn measure_of(words: &[String]) -> Option<Measure<'_>>
     ensures found { IfSome result (λ command. AskFor (texts words.now) (MeasureOf command.layout.now)) }
     ensures none { IfNone result ((layout : List ℕ) → AskFor (texts words.now) (MeasureOf layout) → ⊥) }
@@ -137,6 +197,9 @@ pub fn command_of(words: &[String]) -> Option<Command<'_>>
     }
     if let Some(command) = manifest_of(words) {
         return Some(Command::Manifest(command));
+    }
+    if let Some(command) = sums_of(words) {
+        return Some(Command::Sums(command));
     }
     match measure_of(words) {
         Some(command) => Some(Command::Measure(command)),

@@ -1,34 +1,28 @@
-use Rattle.std.proofs.Common.{◌≡◌, ◌++◌, ◌+◌, ◌∷◌, [], List, ℕ, take, drop, sym, subst, arith, Err}
-use Rattle.std.proofs.lemmas.List.{take_all, take-append-drop}
+use Rattle.std.proofs.Common.{◌≡◌, ◌++◌, ◌+◌, ◌∷◌, [], List, ℕ, take, drop, set, sym, ap, ◌∙◌, subst, arith, Err}
+use Rattle.std.proofs.lemmas.List.{take_all}
 use Rattle.std.proofs.lemmas.Result.{err_from_is_err_and}
 use Rattle.pf_io.proofs.Unchanged.{kept_then}
 use Rattle.manifest_model.specs.declared.entries.Trusted.{Trusted}
 use Rattle.file_sums.specs.Collecting.{AreSummed}
 use Rattle.file_sums.specs.declared.fault.AllFault.TheVariants.{At}
-use Rattle.file_sums.proofs.Collected.{SummedTo, around, summed_next, all_summed, all_starved, all_refused, sums_fit, honest_sums, name_copied}
+use Rattle.file_sums.proofs.Collected.{SummedTo, around, length_to, placed, summed_next, all_summed, all_starved, all_refused, sums_fit, honest_sums, name_copied}
 use Rattle.file_sums.proofs.collecting.sum_all.Goals as goal
 
-pub returns-in_err-push_str-clause-summed : goal.returns-in_err-push_str-clause-summed
-returns-in_err-push_str-clause-summed g c =
+pub returns-in_err-push-clause-summed : goal.returns-in_err-push-clause-summed
+returns-in_err-push-clause-summed g c =
     let p = err_from_is_err_and c.from_residual.result c.from_residual.ensures.1 in
     let entries = c.args.manifest.now.lists.trusted in
     let k = c.loop-k.k in
-    rw (p.1, p.2) (all_starved entries (take k entries) (drop k entries) c.loop-k.sums.items (g.H.Host.state c.args.host.now) (g.H.Host.state c.loop-k.host) (sym (take-append-drop k entries)) c.loop-k.invariant)
+    let entry = c.trusted-entry.result.now in
+    rw (p.1, p.2) (all_starved entries (take k entries) entry (drop (k + 1) entries) c.loop-k.sums.items (g.H.Host.state c.args.host.now) (g.H.Host.state c.loop-k.host) (around entries k entry c.trusted-entry.ensures) c.loop-k.invariant)
 
-pub returns-in_err-push-in-Ok-clause-summed : goal.returns-in_err-push-in-Ok-clause-summed
-returns-in_err-push-in-Ok-clause-summed g c =
-    let p = err_from_is_err_and c.from_residual-in_err-push-in-Ok.result c.from_residual-in_err-push-in-Ok.ensures.1 in
+pub returns-in_err-push_str-clause-summed : goal.returns-in_err-push_str-clause-summed
+returns-in_err-push_str-clause-summed g c =
+    let p = err_from_is_err_and c.from_residual-in_err-push_str.result c.from_residual-in_err-push_str.ensures.1 in
     let entries = c.args.manifest.now.lists.trusted in
     let k = c.loop-k.k in
-    let old = g.H.Host.state c.args.host.now in
-    let mid = g.H.Host.state c.loop-k.host in
-    let new = g.H.Host.state c.sum_entry.new.host in
-    let e = c.in-Ok.ensures in
-    rw (p.1, p.2) (all_starved entries (take (k + 1) entries) (drop (k + 1) entries) (c.loop-k.sums.items ++ c.in-Ok.sum ∷ []) old new (sym (take-append-drop (k + 1) entries))
-    (summed_next entries k c.trusted-entry.result.now c.loop-k.sums.items c.in-Ok.sum old mid new c.trusted-entry.ensures c.loop-k.invariant e.ends e.cause.still e.disk))
-
-pub returns-in_err-push-in-Ok-clause-disk : goal.returns-in_err-push-in-Ok-clause-disk
-returns-in_err-push-in-Ok-clause-disk g c = kept_then (g.H.Host.state c.args.host.now) (g.H.Host.state c.loop-k.host) (g.H.Host.state c.sum_entry.new.host) c.loop-k.invariant.disk c.in-Ok.ensures.disk
+    let entry = c.trusted-entry.result.now in
+    rw (p.1, p.2) (all_starved entries (take k entries) entry (drop (k + 1) entries) c.loop-k.sums.items (g.H.Host.state c.args.host.now) (g.H.Host.state c.loop-k.host) (around entries k entry c.trusted-entry.ensures) c.loop-k.invariant)
 
 pub returns-in-Err-clause-summed : goal.returns-in-Err-clause-summed
 returns-in-Err-clause-summed g c =
@@ -48,6 +42,13 @@ returns-in-Err-clause-honest g c = honest_sums _ c.args.manifest.now.lists.trust
 pub returns-in-Err-clause-disk : goal.returns-in-Err-clause-disk
 returns-in-Err-clause-disk g c = kept_then (g.H.Host.state c.args.host.now) (g.H.Host.state c.loop-k.host) (g.H.Host.state c.sum_entry.new.host) c.loop-k.invariant.disk c.in-Err.ensures.disk
 
+pub index_mut-requires : goal.index_mut-requires
+index_mut-requires g c =
+    let within = c.trusted_len-k-end.ensures in
+    let long = length_to c.args.manifest.now.lists.trusted c.loop-k.k c.loop-k.sums.items (g.H.Host.state c.args.host.now) (g.H.Host.state c.loop-k.host) (omega (arith, c.loop-k-test.true, within)) c.loop-k.invariant in
+    let ok = c.loop-k.sums.ok.0 in
+    omega (arith, c.in_ok-push.ensures.len, long, ok)
+
 pub loop-k-preserved : goal.loop-k-preserved
 loop-k-preserved g c =
     let entries = c.args.manifest.now.lists.trusted in
@@ -55,7 +56,10 @@ loop-k-preserved g c =
     let mid = g.H.Host.state c.loop-k.host in
     let new = g.H.Host.state c.sum_entry.new.host in
     let e = c.in-Ok.ensures in
-    subst (λ (sums : List (List ℕ)). SummedTo (take (c.loop-k.k + 1) entries) sums old new) (sym c.in_ok-push-in-Ok.ensures.items)
+    let within = c.trusted_len-k-end.ensures in
+    let long = length_to entries c.loop-k.k c.loop-k.sums.items old mid (omega (arith, c.loop-k-test.true, within)) c.loop-k.invariant in
+    let kept : set c.push.new.self.items c.loop-k.k c.in-Ok.sum ≡ c.loop-k.sums.items ++ c.in-Ok.sum ∷ [] = ap (λ (l : List (List ℕ)). set l c.loop-k.k c.in-Ok.sum) c.in_ok-push.ensures.items ∙ placed c.loop-k.sums.items c.loop-k.k _ c.in-Ok.sum long in
+    subst (λ (sums : List (List ℕ)). SummedTo (take (c.loop-k.k + 1) entries) sums old new) (sym kept)
     (summed_next entries c.loop-k.k c.trusted-entry.result.now c.loop-k.sums.items c.in-Ok.sum old mid new c.trusted-entry.ensures c.loop-k.invariant e.ends e.cause.still e.disk)
 
 pub returns-clause-summed : goal.returns-clause-summed

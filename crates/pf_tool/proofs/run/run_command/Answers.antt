@@ -1,7 +1,7 @@
 use Rattle.std.proofs.Common.{sym, subst}
 use Rattle.std.specs.Prelude.{option_map}
 use Rattle.pf_tool.specs.World.{world_of}
-use Rattle.pf_tool.specs.Requests.{Decrypt, Encrypt, Manifest, request_of, Measure}
+use Rattle.pf_tool.specs.Requests.{Decrypt, Encrypt, Manifest, request_of, Sums, Measure}
 use Rattle.pf_tool.specs.Runs.{Runs}
 use Rattle.pf_tool.specs.declared.words.Command.{Command}
 use Rattle.pf_tool.proofs.RunClauses.{concluded}
@@ -45,6 +45,19 @@ returns-in-Manifest g c input =
     let command = c.in-Manifest.command in
     subst (λ (x : Command). Runs (request_of x) (world_of h0 input o0 l0 r0) (world_of h1 input o1 l1 r0) c.conclude-in-Manifest.result) (sym c.in-Manifest.is)
     (concluded (Manifest command.values command.template.now (option_map (λ name. name.now) command.output)) c.write_manifest.result h0 h1 input o0 o1 l0 l1 r0 r0 c.conclude-in-Manifest.result (c.write_manifest.ensures (world_of h0 input o0 l0 r0)) c.conclude-in-Manifest.ensures)
+
+pub returns-in-Sums : goal.returns-in-Sums
+returns-in-Sums g c input =
+    let h0 = g.H.Host.state c.args.host.now in
+    let h1 = g.H.Host.state c.write_sums.new.host in
+    let o0 = g.K.Sink.state c.args.out.now in
+    let o1 = g.K.Sink.state c.write_sums.new.out in
+    let l0 = g.L.Sink.state c.args.log.now in
+    let l1 = g.L.Sink.state c.conclude-in-Sums.new.log in
+    let r0 = g.R.Words.state c.args.random.now in
+    let command = c.in-Sums.command in
+    subst (λ (x : Command). Runs (request_of x) (world_of h0 input o0 l0 r0) (world_of h1 input o1 l1 r0) c.conclude-in-Sums.result) (sym c.in-Sums.is)
+    (concluded (Sums command.manifest.now (option_map (λ name. name.now) command.output)) c.write_sums.result h0 h1 input o0 o1 l0 l1 r0 r0 c.conclude-in-Sums.result (c.write_sums.ensures (world_of h0 input o0 l0 r0)) c.conclude-in-Sums.ensures)
 
 pub returns-in-Measure : goal.returns-in-Measure
 returns-in-Measure g c input =
