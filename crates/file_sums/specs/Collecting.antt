@@ -69,7 +69,7 @@ abbrev pub AreSumsIn : Files → List Trusted → List (List ℕ) → Type 0
 AreSumsIn files [] sums = sums ≡ []
 AreSumsIn files (entry ∷ entries) sums = (sum : List ℕ) × (rest : List (List ℕ)) × IsSumIn entry.sum (files entry.name) sum × AreSumsIn files entries rest × (sums ≡ sum ∷ rest)
 
--- the first entry without a listed sum whose file has none
+-- the first entry without a listed sum whose file is refused
 pub record IsFirstRefused (files : Files) (entries : List Trusted) (name : Name) (why : SumFault) : Type 0 where
   pub front : List Trusted
   pub entry : Trusted
