@@ -14,7 +14,7 @@ use Rattle.pf_io.proofs.Answering.{both_honest, all_append}
 use Rattle.pf_tool.specs.World.{World, with_host, with_out, with_random}
 use Rattle.pf_tool.specs.Events.{Event, Answers, Draws, Puts, answers_in, words_in, pieces_in, reads_after, writes_after}
 use Rattle.pf_tool.specs.Endings.{Stop, AtEnd, Failed, Starved, tried}
-use Rattle.pf_tool.specs.Happened.{HostPassed, HostFailed, IsTaken, WordsPassed, WordFailed, OutPassed, OutFailed, Passed, CallFailed, Happened}
+use Rattle.pf_tool.specs.Happened.{HostPassed, HostFailed, AreWordsTaken, WordsPassed, WordFailed, OutPassed, OutFailed, Passed, CallFailed, Happened}
 
 pub answers_then : (xs ys : List Event) → answers_in (xs ++ ys) ≡ answers_in xs ++ answers_in ys
 answers_then [] ys = refl
@@ -86,11 +86,11 @@ host_then xs ys old mid new first second honest = record {
 }
 
 pub words_none : (state : WordsState) → WordsPassed [] state state
-words_none state = record { told = both_same (IsTaken []) state.left state.left refl (λ left. refl); calm = refl; untouched = λ none. refl }
+words_none state = record { told = both_same (AreWordsTaken []) state.left state.left refl (λ left. refl); calm = refl; untouched = λ none. refl }
 
 pub words_more : (xs ys : List (List ℕ)) (old mid new : WordsState) → WordsPassed xs old mid → WordsPassed ys mid new → WordsPassed (xs ++ ys) old new
 words_more xs ys old mid new first second = record {
-  told = both_then (IsTaken xs) (IsTaken ys) (IsTaken (xs ++ ys)) old.left mid.left new.left first.told second.told
+  told = both_then (AreWordsTaken xs) (AreWordsTaken ys) (AreWordsTaken (xs ++ ys)) old.left mid.left new.left first.told second.told
       (λ a b c one two. one ∙ ap (λ (l : List (List ℕ)). xs ++ l) two ∙ sym (append_assoc xs ys c));
   calm = second.calm ∙ first.calm;
   untouched = λ none. second.untouched (no_second xs ys none) ∙ first.untouched (no_first xs ys none);

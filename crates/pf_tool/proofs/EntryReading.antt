@@ -22,7 +22,7 @@ use Rattle.pf_io.proofs.Answering.{all_append}
 use Rattle.pf_io.proofs.Slices.{times_then}
 use Rattle.pf_tool.specs.World.{World, with_host}
 use Rattle.pf_tool.specs.Events.{Event, Answers, Puts, reads_after, writes_after}
-use Rattle.pf_tool.specs.Endings.{Ending, Done, Refused, TooLarge, Absent, Stop}
+use Rattle.pf_tool.specs.Endings.{Ending, Done, Refused, TooLarge, NotFound, Stop}
 use Rattle.pf_tool.specs.Faults.{sums_fault}
 use Rattle.pf_tool.specs.Happened.{HostPassed}
 use Rattle.pf_tool.specs.InputFiles.{asked}
@@ -180,7 +180,7 @@ module _ (output : Option Name) (seen : Seen) where
 
     module _ (world : World) (front : List Trusted) (entry : Trusted) (others : List Trusted) (before : List Answer) (sums : List (List ℕ)) (whole : Entries ≡ front ++ entry ∷ others) (gives : Gives front before sums) (unlisted : entry.sum ≡ None) where
       -- without a length the file is absent
-      absent_next : FilesLead output seen (asked before ++ Answers (LengthWas entry.name None) ∷ []) (Refused (Absent entry.name))
+      absent_next : FilesLead output seen (asked before ++ Answers (LengthWas entry.name None) ∷ []) (Refused (NotFound entry.name))
       absent_next =
           let last : List Answer = LengthWas entry.name None ∷ [] in
           file_absent (before ++ last) (count_by is_slice before + slices_asked {T = List ℕ} (Err sum_faults.NotFound) last) entry.name
@@ -218,7 +218,7 @@ module _ (output : Option Name) (seen : Seen) where
           let these : before ++ last ≡ before = ap (λ (l : List Answer). before ++ l) none ∙ append-nil before in
           let asks = gives_asks front before sums gives in
           let n : slices ≡ count_by is_slice before = omega (arith, is, ap (λ (l : List Answer). length l) none) in
-          call_failed world before (LengthWas entry.name None) [] (Refused (Absent entry.name)) absent_next (subst (λ (l : List Answer). Answered l old new) these answered) asks
+          call_failed world before (LengthWas entry.name None) [] (Refused (NotFound entry.name)) absent_next (subst (λ (l : List Answer). Answered l old new) these answered) asks
           (counts.reads ∙ ap (λ (k : ℕ). counted_times k old.reads) n ∙ sym (asks_reads before old.reads asks)) counts.writes once kept
       entry_failed last slices (at_slice whole_slices came small) answered counts is once kept =
           let name = entry.name in
@@ -266,7 +266,7 @@ module _ (output : Option Name) (seen : Seen) where
     pub absent_falls : (world : World) (name : Name) → AreSummed (Err (all_faults.At name sum_faults.NotFound)) Entries old new → new.faults ≡ old.faults → KeepsDisk old new
         → Falls (FilesLead output seen) (λ _ _. KeepsDisk) (faults.Refused (whys.Absent name)) (with_host world old) (with_host world new)
     absent_falls world name came calm kept =
-        refused Leading Kept (asked came.these) (Refused (Absent name)) (faults.Refused (whys.Absent name)) (with_host world old) (with_host world new) refl refl (file_absent came.these came.slices name came.ends refl refl)
+        refused Leading Kept (asked came.these) (Refused (NotFound name)) (faults.Refused (whys.Absent name)) (with_host world old) (with_host world new) refl refl (file_absent came.these came.slices name came.ends refl refl)
         (passed_asked came.these world old new (end_passed name sum_faults.NotFound (λ same. absurd (cc)) came came.untouched calm)) kept
 
     pub large_falls : (world : World) (name : Name) → AreSummed (Err (all_faults.At name sum_faults.TooLarge)) Entries old new → new.faults ≡ old.faults → KeepsDisk old new

@@ -18,7 +18,7 @@ use Rattle.pf_tool.specs.Endings.{Ending, Done, Refused, BadLayout, Stop, AtEnd,
 use Rattle.pf_tool.specs.Happened.{OutPassed, OutFailed, Passed}
 use Rattle.pf_tool.specs.InputFiles.{asked, InputReads, InputLeads, InputRead}
 use Rattle.pf_tool.specs.Faults.{fault_line, fault_status, layout_fault}
-use Rattle.pf_tool.specs.Measuring.{sum_line, PagesLead, pages_measured, text_refused, text_listed, MeasureLeads, layout_unread, layout_read, LayoutRead, PagesMeasured}
+use Rattle.pf_tool.specs.Measuring.{measurement_line, PagesLead, pages_measured, text_refused, text_listed, MeasureLeads, layout_unread, layout_read, LayoutRead, PagesMeasured}
 use Rattle.pf_tool.specs.Outcomes.{IsAhead, Outcome, Falls}
 use Rattle.pf_tool.specs.declared.fault.Fault.{Fault}
 use Rattle.pf_tool.specs.declared.fault.Fault.TheVariants as faults
@@ -42,8 +42,8 @@ module _ (name : Name) where
   text_ahead es text reads (Ok layout) lists =
       let some = gives_some layout.pages in
       let sum = measurement layout some.1 in
-      let rest : List Event = asked some.0 ++ Puts (sum_line sum) ∷ [] in
-      (rest, Done, ahead (asked some.0) (Puts (sum_line sum)) Done, layout_read text es rest reads (text_listed layout lists (pages_measured some.0 sum (Whole some.1 some.2 refl) refl refl)) refl)
+      let rest : List Event = asked some.0 ++ Puts (measurement_line sum) ∷ [] in
+      (rest, Done, ahead (asked some.0) (Puts (measurement_line sum)) Done, layout_read text es rest reads (text_listed layout lists (pages_measured some.0 sum (Whole some.1 some.2 refl) refl refl)) refl)
   text_ahead es text reads (Err fault) lists = ([], Refused (BadLayout fault), tt, layout_read text es [] reads (text_refused fault lists refl refl) refl)
 
   some_ahead : (es : List Event) (text : List ℕ) → InputReads name es (Ok text) → (rest : List Event) × (ending : Ending) × IsAhead rest ending × MeasureLeads name (es ++ rest) ending
@@ -97,18 +97,18 @@ module _ (name : Name) (layout : Listed) (sum : List ℕ) (world : World) (s0 s1
     before_passed : Passed Before (At s0 out) (At s2 out)
     before_passed = passed_reading read.events (asked pages.these) (At s0 out) (At s1 out) (At s2 out) read.passed files (passed_asked pages.these (with_out world out) s1 s2 pages.passed)
 
-    all_lead : MeasureLeads name (Before ++ Puts (sum_line sum) ∷ []) Done
+    all_lead : MeasureLeads name (Before ++ Puts (measurement_line sum) ∷ []) Done
     all_lead =
-        layout_read read.text read.events (asked pages.these ++ Puts (sum_line sum) ∷ []) read.reads (text_listed layout read.lists (pages_measured pages.these sum pages.measures refl refl)) (append_assoc read.events (asked pages.these) (Puts (sum_line sum) ∷ []))
+        layout_read read.text read.events (asked pages.these ++ Puts (measurement_line sum) ∷ []) read.reads (text_listed layout read.lists (pages_measured pages.these sum pages.measures refl refl)) (append_assoc read.events (asked pages.these) (Puts (measurement_line sum) ∷ []))
 
-    pub line_put : (after : SinkState) → OutPassed (sum_line sum ∷ []) out after → Outcome (MeasureLeads name) (λ _ _. KeepsDisk) (AtEnd Done) (At s0 out) (At s2 after)
+    pub line_put : (after : SinkState) → OutPassed (measurement_line sum ∷ []) out after → Outcome (MeasureLeads name) (λ _ _. KeepsDisk) (AtEnd Done) (At s0 out) (At s2 after)
     line_put after passed = record {
-      events = Before ++ Puts (sum_line sum) ∷ [];
+      events = Before ++ Puts (measurement_line sum) ∷ [];
       stands = all_lead;
-      happened = passed_then Before (Puts (sum_line sum) ∷ []) (At s0 out) (At s2 out) (At s2 after) before_passed (passed_pieces (Puts (sum_line sum) ∷ []) (with_host world s2) out after refl refl passed) (none_honest (files_of s0));
+      happened = passed_then Before (Puts (measurement_line sum) ∷ []) (At s0 out) (At s2 out) (At s2 after) before_passed (passed_pieces (Puts (measurement_line sum) ∷ []) (with_host world s2) out after refl refl passed) (none_honest (files_of s0));
       leaves = kept;
     }
 
-    pub line_failed : (after : SinkState) (fault : Fault) → fault ≡ faults.Stream → OutFailed (sum_line sum) out after → Falls (MeasureLeads name) (λ _ _. KeepsDisk) fault (At s0 out) (At s2 after)
+    pub line_failed : (after : SinkState) (fault : Fault) → fault ≡ faults.Stream → OutFailed (measurement_line sum) out after → Falls (MeasureLeads name) (λ _ _. KeepsDisk) fault (At s0 out) (At s2 after)
     line_failed after fault is failed =
-        out_fails (MeasureLeads name) Kept Before [] Done fault (At s0 out) (At s2 out) (At s2 after) (sum_line sum) is all_lead before_passed (failed_piece (sum_line sum) (with_host world s2) out after failed) kept
+        out_fails (MeasureLeads name) Kept Before [] Done fault (At s0 out) (At s2 out) (At s2 after) (measurement_line sum) is all_lead before_passed (failed_piece (measurement_line sum) (with_host world s2) out after failed) kept

@@ -25,7 +25,7 @@ use Rattle.pf_tool.specs.Events.{Event, Answers, Draws, Puts, answers_in, words_
 use Rattle.pf_tool.specs.Endings.{Ending, Done, Refused, BadName, BadLayout, Absent}
 use Rattle.pf_tool.specs.Happened.{Passed}
 use Rattle.pf_tool.specs.InputFiles.{asked, InputReads, InputOver}
-use Rattle.pf_tool.specs.Measuring.{sum_line, IsPageFile, PagesLead, page_absent, pages_measured, TextLeads, text_refused, text_listed, MeasureLeads, layout_unread, layout_read, MeasureOver, over_unread, over_refused, over_absent, over_measured, PutMeasurement}
+use Rattle.pf_tool.specs.Measuring.{measurement_line, IsPageFile, PagesLead, page_absent, pages_measured, TextLeads, text_refused, text_listed, MeasureLeads, layout_unread, layout_read, MeasureOver, over_unread, over_refused, over_absent, over_measured, PutMeasurement}
 use Rattle.pf_tool.proofs.Asking.{asked_answers, asked_words, asked_pieces, asked_then}
 use Rattle.pf_tool.proofs.Composing.{answers_then, words_then, pieces_then, no_first}
 use Rattle.pf_tool.proofs.DecryptLaws.{split_front}
@@ -75,7 +75,7 @@ measure_silent layout ending other es first (layout_read text front rest reads l
 text_words : (text : List ℕ) (es : List Event) (ending : Ending) → TextLeads text es ending → words_in es ≡ []
 text_words text es ending (text_refused fault lists is ends) = ap (λ (l : List Event). words_in l) is
 text_words text es ending (text_listed layout lists (page_absent these page name measured named is ends)) = ap (λ (l : List Event). words_in l) is ∙ asked_words these
-text_words text es ending (text_listed layout lists (pages_measured these sum measured is ends)) = ap (λ (l : List Event). words_in l) is ∙ line_words these (sum_line sum)
+text_words text es ending (text_listed layout lists (pages_measured these sum measured is ends)) = ap (λ (l : List Event). words_in l) is ∙ line_words these (measurement_line sum)
 
 pub measure_undrawn : (layout : Name) (es : List Event) (ending : Ending) → MeasureLeads layout es ending → words_in es ≡ []
 measure_undrawn layout es ending (layout_unread reads) = input_words layout es (Err ending) reads
@@ -176,11 +176,11 @@ pages_alike layout es others more e f (page_absent these page name measured name
     let names = one_name (file_at (slice_get layout.pages other)) name name2 (subst (λ (k : ℕ). IsPageFile layout k name) place named) named2 in
     (ends ∙ ap (λ (n : Name). Refused (Absent n)) names ∙ sym ends2, none)
 pages_alike layout es others more e f (page_absent these page name measured named is ends) (pages_measured those sum measured2 is2 ends2) same may =
-    let all : these ++ more ≡ those = ap (λ (l : List Answer). l ++ more) (sym (ap (λ (l : List Event). answers_in l) is ∙ asked_answers these)) ∙ same ∙ ap (λ (l : List Event). answers_in l) is2 ∙ line_answers those (sum_line sum) in
+    let all : these ++ more ≡ those = ap (λ (l : List Answer). l ++ more) (sym (ap (λ (l : List Event). answers_in l) is ∙ asked_answers these)) ∙ same ∙ ap (λ (l : List Event). answers_in l) is2 ∙ line_answers those (measurement_line sum) in
     never_whole layout these those more all page sum measured measured2
 pages_alike layout es others more e f (pages_measured these sum measured is ends) second same (inl other) = absurd (other ends)
 pages_alike layout es others more e f (pages_measured these sum measured is ends) (page_absent those page name measured2 named is2 ends2) same (inr none) =
-    let whole : these ++ [] ≡ those = ap (λ (l : List Answer). these ++ l) (sym none) ∙ ap (λ (l : List Answer). l ++ more) (sym (ap (λ (l : List Event). answers_in l) is ∙ line_answers these (sum_line sum))) ∙ same
+    let whole : these ++ [] ≡ those = ap (λ (l : List Answer). these ++ l) (sym none) ∙ ap (λ (l : List Answer). l ++ more) (sym (ap (λ (l : List Event). answers_in l) is ∙ line_answers these (measurement_line sum))) ∙ same
     ∙ ap (λ (l : List Event). answers_in l) is2 ∙ asked_answers those in
     never_whole layout those these [] (append-nil those ∙ sym whole ∙ append-nil these) page sum measured2 measured
 pages_alike layout es others more e f (pages_measured these sum measured is ends) (pages_measured those sum2 measured2 is2 ends2) same (inr none) = (ends ∙ sym ends2, none)
@@ -238,8 +238,8 @@ module _ (layout : Name) (files : Files) where
       (of_files files listed these (Err (measures.NotFound page)) (subst (λ (l : List Answer). AllByRecursion (IsAnswerOf files) l) (ap (λ (l : List Event). answers_in l) is ∙ asked_answers these) all) measured)
       named (ap (λ (l : List Event). pieces_in l) is ∙ asked_pieces these) ends
   text_over text es ending over (text_listed listed lists (pages_measured these sum measured is ends)) all =
-      over_measured text listed sum over lists (of_files files listed these (Ok sum) (subst (λ (l : List Answer). AllByRecursion (IsAnswerOf files) l) (ap (λ (l : List Event). answers_in l) is ∙ line_answers these (sum_line sum)) all) measured)
-      (ap (λ (l : List Event). pieces_in l) is ∙ line_pieces these (sum_line sum)) ends
+      over_measured text listed sum over lists (of_files files listed these (Ok sum) (subst (λ (l : List Answer). AllByRecursion (IsAnswerOf files) l) (ap (λ (l : List Event). answers_in l) is ∙ line_answers these (measurement_line sum)) all) measured)
+      (ap (λ (l : List Event). pieces_in l) is ∙ line_pieces these (measurement_line sum)) ends
 
   pub measure_over : (es : List Event) (ending : Ending) → MeasureLeads layout es ending → AllByRecursion (IsAnswerOf files) (answers_in es) → MeasureOver layout files (pieces_in es) ending
   measure_over es ending (layout_unread reads) all = over_unread (input_over files layout es (Err ending) reads all) (input_pieces layout es (Err ending) reads)
@@ -306,13 +306,13 @@ module _ (layout : Name) (files : Files) where
       let same = same_layout text text2 listed listed2 over over2 lists lists2 in
       let again : MeasuresFiles files listed (Ok sum2) = subst (λ (l : Listed). MeasuresFiles files l (Ok sum2)) same measured2 in
       let sums : sum ≡ sum2 = measured.1 ∙ sym again.1 in
-      (put ∙ ap (λ (s : List ℕ). sum_line s ∷ []) sums ∙ sym put2, ends ∙ sym ends2)
+      (put ∙ ap (λ (s : List ℕ). measurement_line s ∷ []) sums ∙ sym put2, ends ∙ sym ends2)
 
   -- so far the output took a front of it: nothing, or the line behind all else
   text_last : (text : List ℕ) (es : List Event) (ending : Ending) → TextLeads text es ending → (pieces_in es ≡ []) ⊎ ((xs : List Event) × (p : List ℕ) × (es ≡ xs ++ Puts p ∷ []) × (pieces_in xs ≡ []))
   text_last text es ending (text_refused fault lists is ends) = inl (ap (λ (l : List Event). pieces_in l) is)
   text_last text es ending (text_listed listed lists (page_absent these page name measured named is ends)) = inl (ap (λ (l : List Event). pieces_in l) is ∙ asked_pieces these)
-  text_last text es ending (text_listed listed lists (pages_measured these sum measured is ends)) = inr (asked these, sum_line sum, is, asked_pieces these)
+  text_last text es ending (text_listed listed lists (pages_measured these sum measured is ends)) = inr (asked these, measurement_line sum, is, asked_pieces these)
 
   measure_last : (es : List Event) (ending : Ending) → MeasureLeads layout es ending → (pieces_in es ≡ []) ⊎ ((xs : List Event) × (p : List ℕ) × (es ≡ xs ++ Puts p ∷ []) × (pieces_in xs ≡ []))
   measure_last es ending (layout_unread reads) = inl (input_pieces layout es (Err ending) reads)
@@ -353,9 +353,9 @@ measure_put layout es ending these old new (layout_read text front rest reads (t
 measure_put layout es ending these old new (layout_read text front rest reads (text_listed listed lists (pages_measured those sum measured is ends)) all) done same took =
     let first = input_asked layout front (Ok text) reads in
     let answers : answers_in es ≡ first.0 ++ those = ap (λ (l : List Event). answers_in l) all ∙ answers_then front rest
-    ∙ ap₂ (λ (a b : List Answer). a ++ b) (ap (λ (l : List Event). answers_in l) first.1 ∙ asked_answers first.0) (ap (λ (l : List Event). answers_in l) is ∙ line_answers those (sum_line sum)) in
-    let pieces : pieces_in es ≡ sum_line sum ∷ [] = ap (λ (l : List Event). pieces_in l) all ∙ pieces_then front rest ∙ ap (λ (l : List (List ℕ)). l ++ pieces_in rest) (input_pieces layout front (Ok text) reads)
-    ∙ ap (λ (l : List Event). pieces_in l) is ∙ line_pieces those (sum_line sum) in
+    ∙ ap₂ (λ (a b : List Answer). a ++ b) (ap (λ (l : List Event). answers_in l) first.1 ∙ asked_answers first.0) (ap (λ (l : List Event). answers_in l) is ∙ line_answers those (measurement_line sum)) in
+    let pieces : pieces_in es ≡ measurement_line sum ∷ [] = ap (λ (l : List Event). pieces_in l) all ∙ pieces_then front rest ∙ ap (λ (l : List (List ℕ)). l ++ pieces_in rest) (input_pieces layout front (Ok text) reads)
+    ∙ ap (λ (l : List Event). pieces_in l) is ∙ line_pieces those (measurement_line sum) in
     record {
       text = text;
       listed = listed;
@@ -366,5 +366,5 @@ measure_put layout es ending these old new (layout_read text front rest reads (t
       read = subst (λ (l : List Event). InputReads layout l (Ok text)) first.1 reads;
       lists = lists;
       measured = measured;
-      put = subst (λ (l : List ℕ). Both old.out.bytes new.out.bytes (IsMore l)) (ap (λ (l : List (List ℕ)). concat l) pieces ∙ append-nil (sum_line sum)) took;
+      put = subst (λ (l : List ℕ). Both old.out.bytes new.out.bytes (IsMore l)) (ap (λ (l : List (List ℕ)). concat l) pieces ∙ append-nil (measurement_line sum)) took;
     }

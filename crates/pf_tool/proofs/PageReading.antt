@@ -24,7 +24,7 @@ use Rattle.pf_tool.specs.Endings.{Ending, Done, Refused, Absent, Stop}
 use Rattle.pf_tool.specs.Faults.{fault_line, fault_status}
 use Rattle.pf_tool.specs.Happened.{HostPassed, HostFailed}
 use Rattle.pf_tool.specs.InputFiles.{asked}
-use Rattle.pf_tool.specs.Measuring.{sum_line, IsPageFile, PagesLead, page_absent, pages_measured, PagesMeasured, NamesFile, file_named, no_room}
+use Rattle.pf_tool.specs.Measuring.{measurement_line, IsPageFile, PagesLead, page_absent, pages_measured, PagesMeasured, NamesFile, file_named, no_room}
 use Rattle.pf_tool.specs.Outcomes.{Falls}
 use Rattle.pf_tool.specs.declared.fault.Fault.{Fault}
 use Rattle.pf_tool.specs.declared.fault.Fault.TheVariants as faults
@@ -162,11 +162,11 @@ module _ (layout : Listed) (old new : HostState) where
         let given = contents ++ padded [] ∷ some.1 in
         let sum = measurement layout given in
         let gives_all : Gives layout.pages all given = subst (λ (l : List Page). Gives l all given) (sym whole) (gives_join front page others before here some.0 contents (padded []) some.1 gives (page_empty page name at size of) some.2) in
-        let rest : List Event = asked some.0 ++ Puts (sum_line sum) ∷ [] in
+        let rest : List Event = asked some.0 ++ Puts (measurement_line sum) ∷ [] in
         let parts : asked all ≡ asked (before ++ LengthWas name (Some size) ∷ []) ++ Answers (Gave name at PAGE []) ∷ asked some.0 =
         ap asked (sym (append_assoc before (LengthWas name (Some size) ∷ []) (Gave name at PAGE [] ∷ some.0))) ∙ asked_then (before ++ LengthWas name (Some size) ∷ []) (Gave name at PAGE [] ∷ some.0) in
-        let joined : asked all ++ Puts (sum_line sum) ∷ [] ≡ asked (before ++ LengthWas name (Some size) ∷ []) ++ Answers (Gave name at PAGE []) ∷ rest =
-        ap (λ (l : List Event). l ++ Puts (sum_line sum) ∷ []) parts ∙ append_assoc (asked (before ++ LengthWas name (Some size) ∷ [])) (Answers (Gave name at PAGE []) ∷ asked some.0) (Puts (sum_line sum) ∷ []) in
+        let joined : asked all ++ Puts (measurement_line sum) ∷ [] ≡ asked (before ++ LengthWas name (Some size) ∷ []) ++ Answers (Gave name at PAGE []) ∷ rest =
+        ap (λ (l : List Event). l ++ Puts (measurement_line sum) ∷ []) parts ∙ append_assoc (asked (before ++ LengthWas name (Some size) ∷ [])) (Answers (Gave name at PAGE []) ∷ asked some.0) (Puts (measurement_line sum) ∷ []) in
         (rest, pages_measured all sum (Whole given gives_all refl) (sym joined) refl)
 
     -- the call for the length failed, or the one for the bytes

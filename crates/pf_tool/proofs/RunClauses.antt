@@ -22,7 +22,7 @@ use Rattle.pf_tool.specs.Faults.{fault_status}
 use Rattle.pf_tool.specs.Outcomes.{IsAhead, StopsAt, ComesOut, Concludes}
 use Rattle.pf_tool.specs.Reports.{Reported, Reports}
 use Rattle.pf_tool.specs.Requests.{Request, Decrypt, Encrypt, Manifest, Sums, Measure}
-use Rattle.pf_tool.specs.Runs.{Leads, LeavesHost, Runs, Usage, Causes, ByWords, Content, Decided, NoneCounted, Honestly, as_files_give, starved, Honest, Stays}
+use Rattle.pf_tool.specs.Runs.{Leads, LeavesHost, Runs, Usage, Causes, ByWords, Content, Decided, NoneCounted, Honestly, as_files_give, starved, HonestRun, Stays}
 use Rattle.pf_tool.proofs.RunStops.{not_two, reports_of, stop_low, reported_said, said, status_of, host_counted, random_counted, out_counted, all_passed, none_failed, input_kept, undrawn, unput, done_at_zero}
 use Rattle.pf_tool.proofs.RunLaws.{silent, spoken, decided, none_left, over, over_front}
 use Rattle.pf_tool.proofs.DecryptLaws.{decrypt_undrawn}
@@ -163,7 +163,7 @@ module _ (request : Request) (old new : World) (status : ℕ) (run : Runs reques
       both_weaker (IsMore (bytes_in es)) (TakesFront (concat pieces)) old.out.bytes new.out.bytes happened.out.told (λ before now more. front_taken (bytes_in es) front.0 (concat pieces) before now front.1 more)) both.0 both.1)
       (λ both. absurd (none.log both.1)) (said Starved old.log new.log status reports)
 
-  pub run_honest : Honest request old new status
+  pub run_honest : HonestRun request old new status
   run_honest files is none = honest_at run.stop run.outcome.events files is none run.outcome.stands run.outcome.happened run.reports
 
   pub run_not_two : status ≡ 2 → ⊥

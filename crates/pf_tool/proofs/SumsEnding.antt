@@ -27,7 +27,7 @@ use Rattle.pf_tool.specs.ManifestFiles.{manifest_unread, no_manifest, manifest_s
 use Rattle.pf_tool.specs.Manifests.{FitsOutput}
 use Rattle.pf_tool.specs.Outcomes.{IsAhead, StopsAt, Outcome, Falls, ComesOut}
 use Rattle.pf_tool.specs.PlainFiles.{written_events, WritesWhole, IsExactly, LeavesWhole}
-use Rattle.pf_tool.specs.Summing.{sum_lines, line_pieces, HasSums, file_events, WritesSums, FilesLead, files_summed, SumsLead, output_unfit, manifest_fails, manifest_there, LeavesText, LeavesSums, IsSummed, SumsLeave}
+use Rattle.pf_tool.specs.Summing.{sum_lines, line_pieces, HasSums, file_events, WritesSums, FilesLead, files_summed, SumsLead, output_unfit, manifest_fails, manifest_there, LeavesSumsText, LeavesSums, IsSummed, SumsLeave}
 use Rattle.pf_tool.specs.TextOutput.{PutsText}
 use Rattle.pf_tool.specs.declared.fault.Fault.{Fault}
 use Rattle.pf_tool.specs.declared.fault.Fault.TheVariants as faults
@@ -117,7 +117,7 @@ module _ (seen : Seen) (sums : List (List ℕ)) where
       lines_passed : Passed Lines old mid
       lines_passed = subst (λ (l : List Event). Passed l old mid) puts.stands.are puts.happened
 
-      text_left : (es : List Event) (stop : Stop) → StopsAt (WritesWhole output text) es stop → LeavesWhole output text (tried es stop) stop mid.host new.host → LeavesText output seen sums (Lines ++ tried es stop) stop old.host new.host
+      text_left : (es : List Event) (stop : Stop) → StopsAt (WritesWhole output text) es stop → LeavesWhole output text (tried es stop) stop mid.host new.host → LeavesSumsText output seen sums (Lines ++ tried es stop) stop old.host new.host
       text_left es stop stands left = record {
         done = λ is. (text, has, ap (λ (l : List Event). Lines ++ l) (subst (λ (s : Stop). StopsAt (WritesWhole output text) es s → tried es s ≡ written_events output text) (sym is) (λ (w : WritesWhole output text es Done). w.are) stands));
         disk = leaves_behind Lines (tried es stop) stop output (λ f. Unit {0}) (IsExactly text) (λ _ _ file. (text : List ℕ) × HasSums seen sums text × (file ≡ Some text)) (λ d file known is. (text, has, is)) old.host mid.host new.host puts.leaves

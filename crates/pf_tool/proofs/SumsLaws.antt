@@ -18,11 +18,11 @@ use Rattle.pf_io.specs.Names.{IsName, side_of}
 use Rattle.pf_io.specs.SideFile.{file_steps}
 use Rattle.pf_io.specs.Streams.{SinkState}
 use Rattle.pf_tool.specs.Events.{Event, Puts, answers_in, words_in, pieces_in, bytes_in}
-use Rattle.pf_tool.specs.Endings.{Ending, Done, Refused, BadName, TooLarge, Absent}
+use Rattle.pf_tool.specs.Endings.{Ending, Done, Refused, BadName, TooLarge, NotFound}
 use Rattle.pf_tool.specs.InputFiles.{asked}
 use Rattle.pf_tool.specs.ManifestFiles.{ManifestReads, ManifestFrom}
 use Rattle.pf_tool.specs.Manifests.{FitsOutput}
-use Rattle.pf_tool.specs.Summing.{sum_lines, line_pieces, file_events, FilesLead, file_absent, file_large, files_summed, SumsLead, output_unfit, manifest_fails, manifest_there, WroteSums, SumsOver, over_unfit, over_unread, over_absent, over_large, over_summed, WroteFile, PutSums}
+use Rattle.pf_tool.specs.Summing.{sum_lines, line_pieces, file_events, FilesLead, file_absent, file_large, files_summed, SumsLead, output_unfit, manifest_fails, manifest_there, WroteSums, SumsOver, over_unfit, over_unread, over_absent, over_large, over_summed, WroteOutput, PutSums}
 use Rattle.pf_tool.proofs.Asking.{asked_answers, asked_words, asked_pieces, asked_then}
 use Rattle.pf_tool.proofs.Composing.{answers_then, words_then, pieces_then, no_first}
 use Rattle.pf_tool.proofs.EntryLaws.{Said, said_one, gives_said, end_said, SaidIn, said_in_one, sums_said_in, first_said_in}
@@ -85,7 +85,7 @@ module _ (output : Option Name) (seen : Seen) where
   -- how the sums end by the answers, and what is answered behind them
   abbrev EndsSo : Result (List (List ℕ)) AllFault → List Answer → Ending → Type 0
   EndsSo (Ok sums) tail ending = ending ≡ Done
-  EndsSo (Err (all_faults.At name sum_faults.NotFound)) tail ending = (tail ≡ []) × (ending ≡ Refused (Absent name))
+  EndsSo (Err (all_faults.At name sum_faults.NotFound)) tail ending = (tail ≡ []) × (ending ≡ Refused (NotFound name))
   EndsSo (Err (all_faults.At name sum_faults.TooLarge)) tail ending = (tail ≡ []) × (ending ≡ Refused TooLarge)
   EndsSo (Err (all_faults.At name sum_faults.Host)) tail ending = ⊥
   EndsSo (Err all_faults.Memory) tail ending = ⊥
@@ -262,7 +262,7 @@ module _ (files : Files) where
 
   abbrev ending_so : Result (List (List ℕ)) AllFault → Ending
   ending_so (Ok sums) = Done
-  ending_so (Err (all_faults.At name sum_faults.NotFound)) = Refused (Absent name)
+  ending_so (Err (all_faults.At name sum_faults.NotFound)) = Refused (NotFound name)
   ending_so (Err (all_faults.At name sum_faults.TooLarge)) = Refused TooLarge
   ending_so (Err (all_faults.At name sum_faults.Host)) = Done
   ending_so (Err all_faults.Memory) = Done
@@ -295,7 +295,7 @@ module _ (files : Files) where
   over_one_of manifest output pieces others ending other (over_unfit unfit none ends) second = both_so pieces others ending other [] (Refused BadName) (over_unfit_one manifest output others other unfit second) none ends
   over_one_of manifest output pieces others ending other (over_unread fits from none) second = both_so pieces others ending other [] ending (over_unread_one manifest output others other ending fits from second) none refl
   over_one_of manifest output pieces others ending other (over_absent seen name fits from first none ends) second =
-      both_so pieces others ending other [] (Refused (Absent name))
+      both_so pieces others ending other [] (Refused (NotFound name))
       (over_seen_one manifest output seen (Err (all_faults.At name sum_faults.NotFound)) others other fits from (first_said_in files seen.lists.trusted name sum_faults.NotFound tt first) second) none ends
   over_one_of manifest output pieces others ending other (over_large seen name fits from first none ends) second =
       both_so pieces others ending other [] (Refused TooLarge)
@@ -349,7 +349,7 @@ sums_front manifest output files es more ending given pieces leads all over = fr
 -- what came where the work is done
 
 put_of : (manifest : Name) (output : Option Name) (seen : Seen) (sums : List (List ℕ)) (text : List ℕ) (es first : List Event) (these those : List Answer) (old new : SinkState) → ManifestReads manifest first (Ok seen) → Gives seen.lists.trusted these sums
-    → es ≡ first ++ (asked these ++ Goes output seen sums text) → WroteFile output seen sums (file_answers output text) → answers_in es ≡ those → Both old.bytes new.bytes (IsMore (bytes_in es)) → PutSums manifest output those old new
+    → es ≡ first ++ (asked these ++ Goes output seen sums text) → WroteOutput output seen sums (file_answers output text) → answers_in es ≡ those → Both old.bytes new.bytes (IsMore (bytes_in es)) → PutSums manifest output those old new
 put_of manifest output seen sums text es first these those old new reads gives is wrote same took =
     let by = seen_asked manifest first (Ok seen) reads in
     let goes = Goes output seen sums text in

@@ -12,7 +12,8 @@ use Rattle.template_text.specs.declared.fault.RenderFault.{RenderFault}
 use Rattle.template_text.specs.declared.fault.RenderFault.TheVariants as renders
 use Rattle.pf_tool.specs.Events.{Event, Answers, Draws, Puts}
 
--- Why a command is refused. `NotFound` has a name of the command line, and `Absent` one that an input lists.
+-- Why a command is refused. `Absent` has the file of a page that a layout lists, and `NotFound` any other name: of the command
+-- line, or that a manifest trusts.
 pub data Refusal : Type 0 where
   BadName : Refusal
   NotFound : (name : Name) → Refusal
@@ -32,7 +33,8 @@ pub data Ending : Type 0 where
   Damaged : (node : ℕ) → (kind : Kind) → Ending
   Refused : (why : Refusal) → Ending
 
--- endings that are found in a text that was read: memory may be wanting for the reading of the text, and then for these too
+-- Endings that are found in a text that was read: memory may be wanting for the reading of the text, and then for these too. The
+-- name of a page's file is such a part of a layout.
 abbrev pub MayStarve : Ending → Type 0
 MayStarve Done = ⊥
 MayStarve (Damaged node kind) = ⊥

@@ -28,11 +28,11 @@ pub record HostFailed (answer : Answer) (old new : HostState) : Type 0 where
   pub writes : new.writes ≡ writes_after (answer ∷ []) old.writes
 
 -- these words were taken
-abbrev pub IsTaken : List (List ℕ) → List (List ℕ) → List (List ℕ) → Type 0
-IsTaken words before now = before ≡ words ++ now
+abbrev pub AreWordsTaken : List (List ℕ) → List (List ℕ) → List (List ℕ) → Type 0
+AreWordsTaken words before now = before ≡ words ++ now
 
 pub record WordsPassed (words : List (List ℕ)) (old new : WordsState) : Type 0 where
-  pub told : Both old.left new.left (IsTaken words)
+  pub told : Both old.left new.left (AreWordsTaken words)
   pub calm : new.faults ≡ old.faults
   pub untouched : words ≡ [] → new ≡ old
 

@@ -19,8 +19,8 @@ use Rattle.pf_tool.specs.declared.fault.Fault.TheVariants as faults
 use Rattle.pf_tool.specs.declared.why.Why.TheVariants as whys
 
 -- 64 lower-case digits
-abbrev pub sum_line : List ℕ → List ℕ
-sum_line sum = line (encode_lower sum)
+abbrev pub measurement_line : List ℕ → List ℕ
+measurement_line sum = line (encode_lower sum)
 
 -- the name of the file of a page of the layout
 abbrev pub IsPageFile : Listed → ℕ → Name → Type 0
@@ -29,7 +29,7 @@ IsPageFile layout page name = file_at (slice_get layout.pages page) ≡ Some nam
 -- What follows a layout: the answers that its measurement asks for, and the line; or the file of a page is absent.
 pub data PagesLead (layout : Listed) (events : List Event) (ending : Ending) : Type 0 where
   page_absent : (these : List Answer) (page : ℕ) (name : Name) → Measures layout these (Err (measures.NotFound page)) → IsPageFile layout page name → events ≡ asked these → ending ≡ Refused (Absent name) → PagesLead layout events ending
-  pages_measured : (these : List Answer) (sum : List ℕ) → Measures layout these (Ok sum) → events ≡ asked these ++ Puts (sum_line sum) ∷ [] → ending ≡ Done → PagesLead layout events ending
+  pages_measured : (these : List Answer) (sum : List ℕ) → Measures layout these (Ok sum) → events ≡ asked these ++ Puts (measurement_line sum) ∷ [] → ending ≡ Done → PagesLead layout events ending
 
 -- what follows the text of a layout
 pub data TextLeads (text : List ℕ) (events : List Event) (ending : Ending) : Type 0 where
@@ -47,7 +47,7 @@ pub data MeasureOver (layout : Name) (files : Files) (pieces : List (List ℕ)) 
   over_refused : (text : List ℕ) (fault : LayoutFault) → InputOver files layout (Ok text) → ReadsTo text (Err fault) → pieces ≡ [] → ending ≡ Refused (BadLayout fault) → MeasureOver layout files pieces ending
   over_absent : (text : List ℕ) (listed : Listed) (page : ℕ) (name : Name) → InputOver files layout (Ok text) → ReadsTo text (Ok listed) → MeasuresFiles files listed (Err (measures.NotFound page)) → IsPageFile listed page name → pieces ≡ []
       → ending ≡ Refused (Absent name) → MeasureOver layout files pieces ending
-  over_measured : (text : List ℕ) (listed : Listed) (sum : List ℕ) → InputOver files layout (Ok text) → ReadsTo text (Ok listed) → MeasuresFiles files listed (Ok sum) → pieces ≡ sum_line sum ∷ [] → ending ≡ Done → MeasureOver layout files pieces ending
+  over_measured : (text : List ℕ) (listed : Listed) (sum : List ℕ) → InputOver files layout (Ok text) → ReadsTo text (Ok listed) → MeasuresFiles files listed (Ok sum) → pieces ≡ measurement_line sum ∷ [] → ending ≡ Done → MeasureOver layout files pieces ending
 
 -- At status 0 the answers that were told are those of a text, which lists a layout, and those that its measurement asks for; and
 -- the output took the line of the measurement.
@@ -61,7 +61,7 @@ pub record PutMeasurement (layout : Name) (these : List Answer) (old new : World
   pub read : InputReads layout (asked of_text) (Ok text)
   pub lists : ReadsTo text (Ok listed)
   pub measured : Measures listed of_pages (Ok sum)
-  pub put : Both old.out.bytes new.out.bytes (IsMore (sum_line sum))
+  pub put : Both old.out.bytes new.out.bytes (IsMore (measurement_line sum))
 
 -- a layout was read, and nothing else happened
 pub record LayoutRead (name : Name) (layout : Listed) (old new : World) : Type 0 where

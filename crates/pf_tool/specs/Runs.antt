@@ -108,8 +108,8 @@ pub data Honestly (request : Request) (files : Files) (old new : World) (status 
   starved : ((pieces : List (List ℕ)) (ending : Ending) → Over request files pieces ending → Both old.out.bytes new.out.bytes (TakesFront (concat pieces))) → status ≡ 5 → WroteAll memory_line old.log new.log
       → Honestly request files old new status
 
-abbrev pub Honest : Request → World → World → ℕ → Type 0
-Honest request old new status = (files : Files) → files_of old.host ≡ Some files → NoneCounted old new → Honestly request files old new status
+abbrev pub HonestRun : Request → World → World → ℕ → Type 0
+HonestRun request old new status = (files : Files) → files_of old.host ≡ Some files → NoneCounted old new → Honestly request files old new status
 
 -- files give one output and one ending
 abbrev pub OneOver : Type 0

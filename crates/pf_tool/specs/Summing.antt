@@ -14,7 +14,7 @@ use Rattle.pf_io.specs.SideFile.{file_steps}
 use Rattle.pf_io.specs.Streams.{SinkState}
 use Rattle.pf_io.specs.Unchanged.{KeepsDisk}
 use Rattle.pf_tool.specs.Events.{Event, Puts}
-use Rattle.pf_tool.specs.Endings.{Ending, Done, Refused, BadName, TooLarge, Absent, Stop, AtEnd}
+use Rattle.pf_tool.specs.Endings.{Ending, Done, Refused, BadName, TooLarge, NotFound, Stop, AtEnd}
 use Rattle.pf_tool.specs.Happened.{HostPassed}
 use Rattle.pf_tool.specs.InputFiles.{asked}
 use Rattle.pf_tool.specs.ManifestFiles.{ManifestReads, ManifestFrom}
@@ -49,7 +49,7 @@ pub record WritesSums (output : Option Name) (seen : Seen) (sums : List (List �
 
 -- What follows a manifest: a file is absent or too large; or all sums are there, and they go out.
 pub data FilesLead (output : Option Name) (seen : Seen) (events : List Event) (ending : Ending) : Type 0 where
-  file_absent : (these : List Answer) (slices : ℕ) (name : Name) → AllEnd seen.lists.trusted these slices (Err (all_faults.At name sum_faults.NotFound)) → events ≡ asked these → ending ≡ Refused (Absent name) → FilesLead output seen events ending
+  file_absent : (these : List Answer) (slices : ℕ) (name : Name) → AllEnd seen.lists.trusted these slices (Err (all_faults.At name sum_faults.NotFound)) → events ≡ asked these → ending ≡ Refused (NotFound name) → FilesLead output seen events ending
   file_large : (these : List Answer) (slices : ℕ) (name : Name) → AllEnd seen.lists.trusted these slices (Err (all_faults.At name sum_faults.TooLarge)) → events ≡ asked these → ending ≡ Refused TooLarge → FilesLead output seen events ending
   files_summed : (these : List Answer) (sums : List (List ℕ)) (rest : List Event) → Gives seen.lists.trusted these sums → WritesSums output seen sums rest ending → events ≡ asked these ++ rest → FilesLead output seen events ending
 
@@ -60,13 +60,13 @@ pub data SumsLead (manifest : Name) (output : Option Name) (events : List Event)
   manifest_there : (seen : Seen) (first rest : List Event) → FitsOutput output → ManifestReads manifest first (Ok seen) → FilesLead output seen rest ending → events ≡ first ++ rest → SumsLead manifest output events ending
 
 -- what is left of the writing: where it is done the file has a text with the sums, and at every moment it is as before or has one
-pub record LeavesText (output : Name) (seen : Seen) (sums : List (List ℕ)) (tried : List Event) (stop : Stop) (old new : HostState) : Type 0 where
+pub record LeavesSumsText (output : Name) (seen : Seen) (sums : List (List ℕ)) (tried : List Event) (stop : Stop) (old new : HostState) : Type 0 where
   pub done : stop ≡ AtEnd Done → (text : List ℕ) × HasSums seen sums text × (tried ≡ map Puts (line_pieces seen sums) ++ written_events output text)
   pub disk : LeavesBySide output (λ _ _ file. (text : List ℕ) × HasSums seen sums text × (file ≡ Some text)) tried stop old new
 
 abbrev pub LeavesSums : Option Name → Seen → List (List ℕ) → List Event → Stop → HostState → HostState → Type 0
 LeavesSums None seen sums tried stop old new = KeepsDisk old new
-LeavesSums (Some output) seen sums tried stop old new = LeavesText output seen sums tried stop old new
+LeavesSums (Some output) seen sums tried stop old new = LeavesSumsText output seen sums tried stop old new
 
 -- the events of a run that is done, by the manifest and the sums: the text that was written has them
 pub record WroteSums (manifest output : Name) (events : List Event) : Type 0 where
@@ -96,14 +96,14 @@ SumsLeave manifest (Some output) tried stop old new = LeavesSummed manifest outp
 pub data SumsOver (manifest : Name) (output : Option Name) (files : Files) (pieces : List (List ℕ)) (ending : Ending) : Type 0 where
   over_unfit : ¬ (FitsOutput output) → pieces ≡ [] → ending ≡ Refused BadName → SumsOver manifest output files pieces ending
   over_unread : FitsOutput output → ManifestFrom files manifest (Err ending) → pieces ≡ [] → SumsOver manifest output files pieces ending
-  over_absent : (seen : Seen) (name : Name) → FitsOutput output → ManifestFrom files manifest (Ok seen) → IsFirstRefused files seen.lists.trusted name sum_faults.NotFound → pieces ≡ [] → ending ≡ Refused (Absent name) → SumsOver manifest output files pieces ending
+  over_absent : (seen : Seen) (name : Name) → FitsOutput output → ManifestFrom files manifest (Ok seen) → IsFirstRefused files seen.lists.trusted name sum_faults.NotFound → pieces ≡ [] → ending ≡ Refused (NotFound name) → SumsOver manifest output files pieces ending
   over_large : (seen : Seen) (name : Name) → FitsOutput output → ManifestFrom files manifest (Ok seen) → IsFirstRefused files seen.lists.trusted name sum_faults.TooLarge → pieces ≡ [] → ending ≡ Refused TooLarge → SumsOver manifest output files pieces ending
   over_summed : (seen : Seen) (sums : List (List ℕ)) → FitsOutput output → ManifestFrom files manifest (Ok seen) → AreSumsIn files seen.lists.trusted sums → pieces ≡ line_pieces seen sums → ending ≡ Done → SumsOver manifest output files pieces ending
 
 -- what is answered where the file gets a text with the sums
-abbrev pub WroteFile : Option Name → Seen → List (List ℕ) → List Answer → Type 0
-WroteFile None seen sums these = these ≡ []
-WroteFile (Some output) seen sums these = (text : List ℕ) × HasSums seen sums text × (these ≡ file_steps output (side_of output) text)
+abbrev pub WroteOutput : Option Name → Seen → List (List ℕ) → List Answer → Type 0
+WroteOutput None seen sums these = these ≡ []
+WroteOutput (Some output) seen sums these = (text : List ℕ) × HasSums seen sums text × (these ≡ file_steps output (side_of output) text)
 
 -- At status 0 the answers that were told are those of a manifest, those of its files, and those of the writing of OUT, whose text
 -- has the sums; and the output took their lines.
@@ -116,7 +116,7 @@ pub record PutSums (manifest : Name) (output : Option Name) (these : List Answer
   pub all : these ≡ of_manifest ++ (of_files ++ of_output)
   pub read : ManifestReads manifest (asked of_manifest) (Ok seen)
   pub summed : Gives seen.lists.trusted of_files sums
-  pub wrote : WroteFile output seen sums of_output
+  pub wrote : WroteOutput output seen sums of_output
   pub put : Both old.bytes new.bytes (IsMore (sum_lines seen.lists.trusted sums))
 
 -- all files were summed, and nothing else happened

@@ -5,7 +5,7 @@ ghost use Rattle.pf_io.specs.Host.{KeepsFiles};
 ghost use Rattle.pf_io.specs.Unchanged.{KeepsDisk};
 ghost use Rattle.pf_tool.specs.World.{World, with_host, with_out};
 ghost use Rattle.pf_tool.specs.Outcomes.{Falls, ComesOut};
-ghost use Rattle.pf_tool.specs.Measuring.{sum_line, LayoutRead, PagesMeasured, NamesFile, PagesLead, MeasureLeads};
+ghost use Rattle.pf_tool.specs.Measuring.{measurement_line, LayoutRead, PagesMeasured, NamesFile, PagesLead, MeasureLeads};
 
 use crate::fault::Fault;
 use crate::input_file::read_input;
@@ -63,7 +63,7 @@ fn measure_pages<H: Host>(
 
 // A sum as a line of 64 lower-case digits.
 fn line_of(sum: &[u8; 32]) -> [u8; 65]
-    ensures { result ≡ sum_line sum.now }
+    ensures { result ≡ measurement_line sum.now }
 {
     let mut line = [b'\n'; 65];
     let Ok(()) = hex::encode_to_slice(&sum[..], &mut line[..64]) else {

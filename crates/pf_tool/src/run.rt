@@ -4,7 +4,7 @@ ghost use Rattle.pf_io.specs.Streams.{SourceState};
 ghost use Rattle.pf_tool.specs.Requests.{Request, texts, AskFor, AskForNothing, request_of};
 ghost use Rattle.pf_tool.specs.World.{world_of};
 ghost use Rattle.pf_tool.specs.Outcomes.{Concludes};
-ghost use Rattle.pf_tool.specs.Runs.{Runs, Usage, Causes, ByWords, Content, Decided, Honest, OneOver, OnDisks, Stays};
+ghost use Rattle.pf_tool.specs.Runs.{Runs, Usage, Causes, ByWords, Content, Decided, HonestRun, OneOver, OnDisks, Stays};
 
 use crate::decrypt::decrypt;
 use crate::encrypt::encrypt;
@@ -79,7 +79,7 @@ pub fn run<H: Host, S: Source, K: Sink, L: Sink, R: Words>(
     ensures decided { (request : Request) → AskFor (texts words.now) request → Decided request (world_of (H.state host.old) (S.state input.old) (K.state out.old) (L.state log.old) (R.state random.old)) (world_of (H.state host.new) (S.state input.new) (K.state out.new) (L.state log.new) (R.state random.new)) result }
 
     // Over an honest host, where nothing fails, what comes is what its files give, and they give one ending.
-    ensures honest { (request : Request) → AskFor (texts words.now) request → Honest request (world_of (H.state host.old) (S.state input.old) (K.state out.old) (L.state log.old) (R.state random.old)) (world_of (H.state host.new) (S.state input.new) (K.state out.new) (L.state log.new) (R.state random.new)) result }
+    ensures honest { (request : Request) → AskFor (texts words.now) request → HonestRun request (world_of (H.state host.old) (S.state input.old) (K.state out.old) (L.state log.old) (R.state random.old)) (world_of (H.state host.new) (S.state input.new) (K.state out.new) (L.state log.new) (R.state random.new)) result }
     ensures one_ending { OneOver }
 
     // On an honest disk, whatever fails: what a crash at any moment leaves, and what stands in the end.

@@ -1,7 +1,7 @@
 use Rattle.std.proofs.Common.{subst}
 use Rattle.pf_tool.specs.World.{world_of}
 use Rattle.pf_tool.specs.Requests.{Request, request_of, texts}
-use Rattle.pf_tool.specs.Runs.{Runs, ByWords, Content, Decided, Honest, OnDisks, Stays}
+use Rattle.pf_tool.specs.Runs.{Runs, ByWords, Content, Decided, HonestRun, OnDisks, Stays}
 use Rattle.pf_tool.proofs.RunLaws.{one_request, over_one}
 use Rattle.pf_tool.proofs.RunClauses.{run_causes, run_by_words, run_content, run_decided, run_honest, run_not_two, run_stays}
 use Rattle.pf_tool.proofs.RunDisk.{run_disk}
@@ -77,7 +77,7 @@ returns-in-Some-clause-honest g c other asks =
     let new = world_of (g.H.Host.state c.run_command.new.host) (g.S.Source.state c.args.input.now) (g.K.Sink.state c.run_command.new.out) (g.L.Sink.state c.run_command.new.log) (g.R.Words.state c.run_command.new.random) in
     let status = c.run_command.result in
     let run : Runs request old new status = c.run_command.ensures (g.S.Source.state c.args.input.now) in
-    subst (λ (r : Request). Honest r old new status) (one_request (texts c.args.words.now) request other c.in-Some.ensures.found asks) (run_honest request old new status run)
+    subst (λ (r : Request). HonestRun r old new status) (one_request (texts c.args.words.now) request other c.in-Some.ensures.found asks) (run_honest request old new status run)
 
 pub returns-in-Some-clause-one_ending : goal.returns-in-Some-clause-one_ending
 returns-in-Some-clause-one_ending g c =
