@@ -1,0 +1,1 @@
+//! Sessions over a host in memory.
