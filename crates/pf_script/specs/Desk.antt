@@ -22,6 +22,11 @@ pub record IsSeated (key : List ℕ) (session : SessionState) : Type 0 where
   pub key_is : session.key ≡ key
   pub clean : session.broken ≡ false → session.changed ≡ false → session.tree.dirty ≡ List.[]
 
+-- so for the session of a seat, if it has one
+abbrev pub IsSeatOf : List ℕ → Option SessionState → Type 0
+IsSeatOf key None = Unit {0}
+IsSeatOf key (Some session) = IsSeated key session
+
 -- What holds of each desk: it has eight seats, and no two of them have one name.
 pub record IsDesk (desk : DeskState) : Type 0 where
   pub eight : length desk.seats ≡ SEATS

@@ -49,10 +49,10 @@ passes_end seat at why = (size : ℕ) × HasContent seat size × (size < at) × 
 
 -- the last block of node 0 that was given says another version than 1.0; and it opens, and has another path than the name
 abbrev pub other_version : Name → List Answer → Rule
-other_version name given why = (block : List ℕ) (major minor : ℕ) × IsLast name given block × (length block ≡ 4096) × (flag_at block ≡ 0) × IsPlainFault block (OtherVersion major minor) × (why ≡ whys.BadVersion major minor)
+other_version name given why = (block : List ℕ) × (major : ℕ) × (minor : ℕ) × IsLast name given block × (length block ≡ 4096) × (flag_at block ≡ 0) × IsPlainFault block (OtherVersion major minor) × (why ≡ whys.BadVersion major minor)
 
 abbrev pub other_path : List ℕ → Name → List Answer → Rule
-other_path key name given why = (block : List ℕ) (secret : MetaSecret) × IsLast name given block × OpensTo key block secret × (name ≢ secret.path) × (why ≡ whys.WrongPath secret.path)
+other_path key name given why = (block : List ℕ) × (secret : MetaSecret) × IsLast name given block × OpensTo key block secret × (name ≢ secret.path) × (why ≡ whys.WrongPath secret.path)
 
 -- the rules of an opening
 abbrev pub opening_rules : List ℕ → Name → List Answer → List Rule

@@ -1,4 +1,12 @@
 // The desk of a script: its seats, and a step of it.
+ghost use Rattle.std.specs.Prelude.{◌≡◌, ◌<◌, ◌↔◌, IfSome, None, replicate};
+ghost use Rattle.pf_io.specs.Host.{WhereTold};
+ghost use Rattle.pf_script.specs.Desk.{session_at};
+ghost use Rattle.pf_script.specs.DeskSteps.{Asks, KeepsBooks, CountsReply, CountsEnd, Wants, WhereWanting, WhereReplied};
+ghost use Rattle.pf_script.specs.Script.{seat_of_line};
+ghost use Rattle.pf_script.specs.Words.{SEATS as SEAT_COUNT};
+ghost use Rattle.pf_script.specs.declared.line.ScriptLine.TheVariants.{Close as CloseLine};
+
 use crate::changing::{fill_bytes, set_size, write_bytes};
 use crate::looking::read_bytes;
 use crate::opening::{create_file, open_file};
@@ -7,6 +15,7 @@ use crate::{Reply, ScriptLine, Why};
 use pf_io::{Host, Memory, Words};
 use pf_session::Session;
 use std::alloc::Global;
+use std::marker::Model;
 
 // How many seats there are.
 const SEATS: usize = 8;
@@ -19,6 +28,16 @@ pub struct Desk {
     seats: [Option<Session>; SEATS],
 }
 
+impl Model for Desk {
+    ghost use Rattle.pf_script.specs.Desk.{DeskState, IsDesk};
+
+    ghost Value = { DeskState };
+
+    ghost view = { λ d. record { key = d.key; seats = d.seats } };
+
+    ghost invariant = { λ d. IsDesk (record { key = d.key; seats = d.seats }) };
+}
+
 fn has_name(seat: &Option<Session>, name: &str) -> bool {
     match seat {
         Some(session) => session.path().bytes() == name.as_bytes(),
@@ -28,7 +47,10 @@ fn has_name(seat: &Option<Session>, name: &str) -> bool {
 
 impl Desk {
     /// Eight empty seats.
-    pub fn new(alloc: Global, key: [u8; 16]) -> Desk {
+    pub fn new(alloc: Global, key: [u8; 16]) -> Desk
+        ensures key { result.key ≡ key }
+        ensures seats { result.seats ≡ replicate SEAT_COUNT None }
+    {
         Desk {
             alloc,
             key,
@@ -76,19 +98,27 @@ impl Desk {
     }
 
     fn close<H: Host, R: Words>(&mut self, host: &mut H, random: &mut R, seat: u8) -> Reply {
-        match close_seat(host, random, &mut self.seats[seat as usize]) {
-            Some(reply) => reply,
-            None => Reply::Refused { why: Why::SeatEmpty },
-        }
+        close_seat(host, random, &mut self.seats[seat as usize])
     }
 
-    /// What a line asks for, with the reply to it.
+    /// Does what a line asks for, and replies to it.
+    ///
+    /// A refusal by rule, and want of memory, leave all seats as they were. A host fault or a damage of a change leaves its
+    /// seat broken, and want of memory of a `write`, `fill` or `size` may do so too. A blank line, `view`, `flush`, `draw`
+    /// and `close` want no memory.
     pub fn step<H: Host, R: Words>(
         &mut self,
         host: &mut H,
         random: &mut R,
         line: &ScriptLine,
-    ) -> Result<Reply, Memory> {
+    ) -> Result<Reply, Memory>
+        requires { IfSome (seat_of_line line.now) (λ seat. seat < SEAT_COUNT) }
+        ensures key { self.new.key ≡ self.old.key }
+        ensures asks { WhereReplied result (λ reply. WhereTold (H.state host.old) (H.state host.new) (λ given. Asks line.now reply self.old self.new given (H.state host.old) (H.state host.new) (R.state random.old) (R.state random.new))) }
+        ensures books { KeepsBooks self.old self.new (H.state host.old) (H.state host.new) }
+        ensures counts { CountsReply result (H.state host.old) (H.state host.new) (R.state random.old) (R.state random.new) }
+        ensures wants { WhereWanting result (Wants line.now self.old self.new (H.state host.old) (H.state host.new) (R.state random.old) (R.state random.new)) }
+    {
         match line {
             ScriptLine::Blank => Ok(Reply::None),
             ScriptLine::Create { seat, name } => self.create(host, random, *seat, name.as_str()),
@@ -126,13 +156,25 @@ impl Desk {
         }
     }
 
-    /// Empties a seat after the last line, with the reply to its closing. None where it was empty.
+    /// Empties a seat after the last line, with the reply to its closing, which is that of a line `close`. None exactly where
+    /// it was empty; then nothing is asked.
     pub fn end<H: Host, R: Words>(
         &mut self,
         host: &mut H,
         random: &mut R,
         seat: u8,
-    ) -> Option<Reply> {
-        close_seat(host, random, &mut self.seats[seat as usize])
+    ) -> Option<Reply>
+        requires { seat < SEAT_COUNT }
+        ensures key { self.new.key ≡ self.old.key }
+        ensures none { (result ≡ None) ↔ (session_at self.old seat ≡ None) }
+        ensures empty { session_at self.new seat ≡ None }
+        ensures asks { IfSome result (λ reply. WhereTold (H.state host.old) (H.state host.new) (λ given. Asks (CloseLine seat) reply self.old self.new given (H.state host.old) (H.state host.new) (R.state random.old) (R.state random.new))) }
+        ensures books { KeepsBooks self.old self.new (H.state host.old) (H.state host.new) }
+        ensures counts { CountsEnd result self.old self.new (H.state host.old) (H.state host.new) (R.state random.old) (R.state random.new) }
+    {
+        if self.seats[seat as usize].is_none() {
+            return None;
+        }
+        Some(self.close(host, random, seat))
     }
 }

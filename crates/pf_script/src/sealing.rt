@@ -44,16 +44,18 @@ pub(crate) fn draw_nonce<R: Words>(random: &mut R, seat: &mut Option<Session>) -
     }
 }
 
-/// The line `close`, which leaves the seat empty whatever comes. None where it was empty.
+/// The line `close`, which leaves the seat empty whatever comes.
 pub(crate) fn close_seat<H: Host, R: Words>(
     host: &mut H,
     random: &mut R,
     seat: &mut Option<Session>,
-) -> Option<Reply> {
-    let session = seat.take()?;
+) -> Reply {
+    let Some(session) = seat.take() else {
+        return Reply::Refused { why: Why::SeatEmpty };
+    };
     let lost = session.broken();
     match session.close(host, random) {
-        Ok(()) => Some(Reply::Closed { lost }),
-        Err(fault) => Some(flush_fault(fault)),
+        Ok(()) => Reply::Closed { lost },
+        Err(fault) => flush_fault(fault),
     }
 }
