@@ -1,14 +1,12 @@
 // The command `encrypt`.
-ghost use Rattle.std.specs.Prelude.{◌≡◌, ◌++◌, ◌↔◌, IsTrue};
-ghost use Rattle.pf_io.specs.Names.{IsTarget};
+ghost use Rattle.std.specs.Prelude.{◌≡◌, ◌++◌, ◌↔◌, IsTrue, List, ℕ, false, OnOk, IfErr};
 ghost use Rattle.pf_tool.specs.World.{World, with_host, with_random};
-ghost use Rattle.pf_tool.specs.Outcomes.{ComesOut};
-ghost use Rattle.pf_tool.specs.Encrypting.{IsInput, Seals, EncryptLeads, EncryptLeaves};
-ghost use Rattle.pf_tool.specs.Making.{LeavesSealed};
+ghost use Rattle.pf_tool.specs.SealingInput.{InputWritten, InputStops, SealsInput};
+ghost use Rattle.pf_tool.specs.Encrypting.{IsInput, EncryptGoes};
 
 use crate::fault::Fault;
 use crate::key::read_key;
-use crate::session_faults::appending_fault;
+use crate::session_faults::piece_fault;
 use crate::why::Why;
 use crate::words::Encrypt;
 use pf_io::{Host, Words, is_name, is_target};
@@ -44,13 +42,17 @@ fn write_input<H: Host, R: Words>(
     input: &str,
     session: &mut Session,
 ) -> Result<(), Fault<'static>>
+    requires whole { session.old.broken ≡ false }
+    requires empty { session.old.tree.size ≡ 0 }
+    ensures written { OnOk result ((content : List ℕ) × InputWritten input.now content session.old session.new (H.state host.old) (H.state host.new) (R.state random.old) (R.state random.new)) }
+    ensures stops { IfErr result (λ fault. InputStops input.now session.old fault (H.state host.old) (H.state host.new) (R.state random.old) (R.state random.new)) }
 {
     let mut piece = [0; PIECE];
     loop {
         let at = session.size();
         let given = host.read_at(input, at, &mut piece)?;
         if let Err(fault) = session.write(host, random, at, &piece[..given]) {
-            return Err(appending_fault(fault));
+            return Err(piece_fault(fault));
         }
         if given < PIECE {
             return Ok(());
@@ -67,6 +69,7 @@ fn seal_input<H: Host, R: Words>(
     input: &str,
     output: &str,
 ) -> Result<(), Fault<'static>>
+    ensures { SealsInput user.now input.now output.now result (H.state host.old) (H.state host.new) (R.state random.old) (R.state random.new) }
 {
     let mut session = Session::create_beside(alloc, host, random, user, output, output)?;
     write_input(host, random, input, &mut session)?;
@@ -81,6 +84,8 @@ pub(crate) fn encrypt<'a, H: Host, R: Words>(
     random: &mut R,
     command: &Encrypt<'a>,
 ) -> Result<(), Fault<'a>>
+    ensures { (world : World) → EncryptGoes command.now.key.now command.now.input.now command.now.output.now result
+        (with_random (with_host world (H.state host.old)) (R.state random.old)) (with_random (with_host world (H.state host.new)) (R.state random.new)) }
 {
     let user = read_key(host, command.key)?;
     if !is_target(command.output) || !is_input(command.input, command.output) {

@@ -1,9 +1,14 @@
 // Why a call of a session ends a command.
+ghost use Rattle.std.specs.Prelude.{◌≡◌};
+ghost use Rattle.pf_tool.specs.Faults.{beside_fault, flush_fault, MayMeetPiece, IsPieceFault};
+
 use crate::fault::Fault;
 use crate::why::Why;
 use pf_session::{BesideFault, FlushFault, OpenFault, WriteFault};
 
 impl From<BesideFault> for Fault<'_> {
+    ghost from_gives = { λ fault made. made ≡ beside_fault fault };
+
     fn from(fault: BesideFault) -> Self {
         match fault {
             BesideFault::BadName => Fault::Refused(Why::BadName),
@@ -15,6 +20,8 @@ impl From<BesideFault> for Fault<'_> {
 }
 
 impl From<FlushFault> for Fault<'_> {
+    ghost from_gives = { λ fault made. made ≡ flush_fault fault };
+
     fn from(fault: FlushFault) -> Self {
         match fault {
             FlushFault::Words => Fault::Random,
@@ -24,8 +31,11 @@ impl From<FlushFault> for Fault<'_> {
     }
 }
 
-/// The fault of a write of at most 32,768 bytes behind all others.
-pub(crate) fn appending_fault(fault: WriteFault) -> Fault<'static> {
+/// The fault of a piece that is not written. It is never too long, and begins where the content ends.
+pub(crate) fn piece_fault(fault: WriteFault) -> Fault<'static>
+    requires { MayMeetPiece fault }
+    ensures { IsPieceFault fault result }
+{
     match fault {
         WriteFault::TooLarge => Fault::Refused(Why::TooLarge),
         WriteFault::Words => Fault::Random,
