@@ -13,6 +13,7 @@ mod Drawing
 mod HeldTree
 mod SessionWrites
 mod PieceGiving
+mod SessionBegun
 mod InputDisk
 pub mod Numbered
 pub mod SameBlocks
