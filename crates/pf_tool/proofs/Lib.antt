@@ -14,6 +14,7 @@ mod HeldTree
 mod SessionWrites
 mod PieceGiving
 mod SessionBegun
+mod EncryptFinding
 mod InputDisk
 pub mod Numbered
 pub mod SameBlocks
