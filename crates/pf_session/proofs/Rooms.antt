@@ -59,7 +59,7 @@ is_flushed old new before after random random' (had_words nonce keys came (flush
 pub write_allowed : (at n size : ℕ) → n ≤ 32768 → at + n ≤ 2 ^ 32 → at ≤ size → (fault : WriteFault) → WriteRefused at n size fault → ⊥
 write_allowed at n size short small within writes.TooLong refused = omega (arith, short, refused)
 write_allowed at n size short small within writes.TooLarge refused = omega (arith, small, refused.1)
-write_allowed at n size short small within (writes.PastEnd said) refused = omega (arith, within, refused.1.1.0)
+write_allowed at n size short small within (writes.PastEnd said) refused = omega (arith, within, refused.2)
 write_allowed at n size short small within writes.Words refused = refused
 write_allowed at n size short small within (writes.Damaged damage) refused = refused
 write_allowed at n size short small within writes.Host refused = refused
@@ -67,11 +67,14 @@ write_allowed at n size short small within writes.Memory refused = refused
 
 pub size_allowed : (n size : ℕ) → n ≤ 2 ^ 32 → n ≤ size + 32768 → (fault : SizeFault) → SizeRefused n size fault → ⊥
 size_allowed n size small near sizes.TooLarge refused = omega (arith, small, refused)
-size_allowed n size small near (sizes.TooFar said) refused = omega (arith, near, refused.1.0)
+size_allowed n size small near (sizes.TooFar said) refused = omega (arith, near, refused.1)
 size_allowed n size small near sizes.Words refused = refused
 size_allowed n size small near (sizes.Damaged damage) refused = refused
 size_allowed n size small near sizes.Host refused = refused
 size_allowed n size small near sizes.Memory refused = refused
+
+pub not_empty : (bytes : List ℕ) → 0 < length bytes → ¬ (bytes ≡ [])
+not_empty bytes some none = let zero : length bytes ≡ 0 = ap (λ (l : List ℕ). length l) none in omega arith
 
 -- the range of a change of size
 module _ (n size : ℕ) (small : n ≤ 2 ^ 32) (near : n ≤ size + 32768) where

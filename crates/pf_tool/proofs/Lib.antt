@@ -10,13 +10,12 @@ pub mod PageReading
 pub mod LayoutReading
 mod Lists
 mod Drawing
-mod SideDisk
-mod SealDisk
-mod SideMaking
+mod HeldTree
+mod SessionWrites
+mod PieceGiving
+mod SessionBegun
+mod EncryptFinding
 mod InputDisk
-mod InputSealing
-mod SideBehind
-mod EncryptEnding
 pub mod Numbered
 pub mod SameBlocks
 pub mod Following
