@@ -46,6 +46,10 @@ abbrev pub HasItsName : Option SessionState → Name → Type 0
 HasItsName None name = ⊥
 HasItsName (Some session) name = name ≡ session.name
 
+abbrev pub HasPath : Option SessionState → List ℕ → Type 0
+HasPath None path = ⊥
+HasPath (Some session) path = session.path ≡ path
+
 -- another seat than the k-th has the name
 abbrev pub OtherHas : DeskState → ℕ → Name → Type 0
 OtherHas desk k name = (j : ℕ) × (j ≢ k) × HasItsName (session_at desk j) name
@@ -90,11 +94,6 @@ is_words_fault other = false
 abbrev pub CountsReply : Result Reply Memory → HostState → HostState → WordsState → WordsState → Type 0
 CountsReply (Ok reply) before after random random' = CountsFault (is_host_fault reply) before.faults after.faults × CountsFault (is_words_fault reply) random.faults random'.faults
 CountsReply (Err fault) before after random random' = (after.faults ≡ before.faults) × (random'.faults ≡ random.faults)
-
--- so at the end, where nothing is done for an empty seat
-abbrev pub CountsEnd : Option Reply → DeskState → DeskState → HostState → HostState → WordsState → WordsState → Type 0
-CountsEnd None old new before after random random' = (new ≡ old) × (after ≡ before) × (random' ≡ random)
-CountsEnd (Some reply) old new before after random random' = CountsReply (Ok reply) before after random random'
 
 -- lines that take no memory
 abbrev pub TakesNone : ScriptLine → Type 0
@@ -168,3 +167,8 @@ pub record DeskGoes (line : ScriptLine) (result : Result Reply Memory) (old new 
   pub books : KeepsBooks old new before after
   pub counts : CountsReply result before after random random'
   pub wants : WhereWanting result (Wants line old new before after random random')
+
+-- the closing of a seat after the last line: nothing is done for an empty one
+abbrev pub EndGoes : ℕ → Option Reply → DeskState → DeskState → HostState → HostState → WordsState → WordsState → Type 0
+EndGoes seat None old new before after random random' = (new ≡ old) × (after ≡ before) × (random' ≡ random)
+EndGoes seat (Some reply) old new before after random random' = DeskGoes (lines.Close seat) (Ok reply) old new before after random random'
