@@ -35,11 +35,15 @@ pub record WasSeen (seen : Seen) (given : List Answer) (before after : HostState
   pub of_words : CountsFault seen.words_failed random.faults random'.faults
 
 -- Whatever the seat shows, and whatever was sealed before: some acts were done, and where with their sheets nothing is forged, the line is answered on the seat as it may be.
+abbrev pub SeatTurns : List ℕ → Bool → ScriptLine → Seen → Reply → Option SessionState → Option SessionState → List Answer → Type 0
+SeatTurns key taken line seen reply old new given =
+    (sealed : List Sheet) (seat : Seat) → Shows sealed seat old
+    → (acts : List Act) × (Unforged key (sealed ++ sheets_of acts) given → (left : Seat) × SeatTurn (on_carried key sealed) key taken seat line seen reply acts left × Shows (sealed ++ sheets_of acts) left new)
+
 pub record SeatAsks (key : List ℕ) (taken : Bool) (line : ScriptLine) (reply : Reply) (old new : Option SessionState) (given : List Answer) (before after : HostState) (random random' : WordsState) : Type 0 where
   pub seen : Seen
   pub was_seen : WasSeen seen given before after random random'
-  pub turns : (sealed : List Sheet) (seat : Seat) → Shows sealed seat old
-      → (acts : List Act) × (Unforged key (sealed ++ sheets_of acts) given → (left : Seat) × SeatTurn (on_carried key sealed) key taken seat line seen reply acts left × Shows (sealed ++ sheets_of acts) left new)
+  pub turns : SeatTurns key taken line seen reply old new given
 
 -- the name of a seat's session
 abbrev pub HasItsName : Option SessionState → Name → Type 0
