@@ -33,3 +33,4 @@ pub mod Refusing
 pub mod Flushed
 pub mod SeatCalls
 pub mod FlushLine
+pub mod CloseLine
