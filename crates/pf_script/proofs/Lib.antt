@@ -34,3 +34,4 @@ pub mod Flushed
 pub mod SeatCalls
 pub mod FlushLine
 pub mod CloseLine
+pub mod Desking
