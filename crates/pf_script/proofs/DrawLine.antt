@@ -20,7 +20,7 @@ use Rattle.pf_script.specs.declared.reply.Reply.TheVariants as replies
 use Rattle.pf_script.proofs.Flushed.{SeenOf}
 use Rattle.pf_script.proofs.OfScript.{of_drawn}
 use Rattle.pf_script.proofs.ReadKeeping.{draw_keeps}
-use Rattle.pf_script.proofs.Refusing.{none_then, none_taken}
+use Rattle.pf_script.proofs.Refusing.{at_last, none_then, none_taken}
 use Rattle.pf_script.proofs.SeatCalls.{seen_by, SheetTurns, whole_turns, shows_same, goes_on}
 
 -- the reply to a drawing
@@ -31,40 +31,34 @@ draw_result (Err fault) = replies.WordsFault
 module _ (key : List ℕ) (k : ℕ) (old : SessionState) (whole : old.broken ≡ false) (new : SessionState) where
   again_turns : (nonce : List ℕ) → old.drawn ≡ Some nonce → new ≡ old → SheetTurns key false (lines.Draw k) (seen_by [] [] false false) (replies.Drawn nonce) old (Some new) []
   again_turns nonce was same sealed base among linked backed =
-      let own = seat_on base old in (
-        [],
-        λ unforged. (
-          Own own,
-          accepted (none_then [] (Own own) own refl whole tt) (record { host = refl; random = refl }) (drawn_again k own nonce was refl),
-          shows_same sealed (Own own) (Some new) (subst (λ (s : SessionState). Shows sealed (Own own) (Some s)) (sym same) (whole_file base old whole among linked backed refl refl)),
-        ),
-      )
+      let own = seat_on base old in
+      at_last [] (λ unforged. (
+        Own own,
+        accepted (none_then [] (Own own) own refl whole tt) (record { host = refl; random = refl }) (drawn_again k own nonce was refl),
+        shows_same sealed (Own own) (Some new) (subst (λ (s : SessionState). Shows sealed (Own own) (Some s)) (sym same) (whole_file base old whole among linked backed refl refl)),
+      ))
 
   lost_turns : (words : List (List ℕ)) → old.drawn ≡ None → new ≡ old → SheetTurns key false (lines.Draw k) (seen_by [] words false true) replies.WordsFault old (Some new) []
   lost_turns words none same sealed base among linked backed =
-      let own = seat_on base old in (
-        [],
-        λ unforged. (
-          Own own,
-          words_failed (record { host = refl; random = refl }) (no_nonce k own none) refl,
-          shows_same sealed (Own own) (Some new) (subst (λ (s : SessionState). Shows sealed (Own own) (Some s)) (sym same) (whole_file base old whole among linked backed refl refl)),
-        ),
-      )
+      let own = seat_on base old in
+      at_last [] (λ unforged. (
+        Own own,
+        words_failed (record { host = refl; random = refl }) (no_nonce k own none) refl,
+        shows_same sealed (Own own) (Some new) (subst (λ (s : SessionState). Shows sealed (Own own) (Some s)) (sym same) (whole_file base old whole among linked backed refl refl)),
+      ))
 
   new_turns : (first second : List ℕ) → old.drawn ≡ None → new ≡ record old { drawn = Some (first ++ second) }
       → SheetTurns key false (lines.Draw k) (seen_by [] (first ∷ second ∷ []) false false) (replies.Drawn (first ++ second)) old (Some new) []
   new_turns first second none same sealed base among linked backed =
       let own = seat_on base old in
-      let drawn : SessionState = record old { drawn = Some (first ++ second) } in (
-        [],
-        λ unforged. (
-          Own (record own { drawn = Some (first ++ second) }),
-          accepted (none_then [] (Own own) own refl whole tt) (record { host = refl; random = refl }) (draws_now k own first second none refl),
-          shows_same sealed (Own (record own { drawn = Some (first ++ second) })) (Some new)
-              (subst (λ (s : SessionState). Shows sealed (Own (record own { drawn = Some (first ++ second) })) (Some s)) (sym same)
-              (whole_file base drawn whole among linked (record { path_is = backed.path_is; nonce_is = backed.nonce_is; backs = backed.backs }) refl refl)),
-        ),
-      )
+      let drawn : SessionState = record old { drawn = Some (first ++ second) } in
+      at_last [] (λ unforged. (
+        Own (record own { drawn = Some (first ++ second) }),
+        accepted (none_then [] (Own own) own refl whole tt) (record { host = refl; random = refl }) (draws_now k own first second none refl),
+        shows_same sealed (Own (record own { drawn = Some (first ++ second) })) (Some new)
+            (subst (λ (s : SessionState). Shows sealed (Own (record own { drawn = Some (first ++ second) })) (Some s)) (sym same)
+            (whole_file base drawn whole among linked (record { path_is = backed.path_is; nonce_is = backed.nonce_is; backs = backed.backs }) refl refl)),
+      ))
 
 pub draw_goes : (key : List ℕ) (k : ℕ) (old new : SessionState) (result : Result (List ℕ) WordsFault) (host : HostState) (random random' : WordsState) → IsSeated key old → old.broken ≡ false
     → DrawGoes result old new random random' → SeatGoes key false (lines.Draw k) (Ok (draw_result result)) (Some old) (Some new) host host random random'
