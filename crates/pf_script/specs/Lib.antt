@@ -17,4 +17,5 @@ pub mod Rules
 pub mod Turns
 pub mod Desk
 pub mod DeskSteps
+pub mod SeatReplies
 pub mod ScriptRuns

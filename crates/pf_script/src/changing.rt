@@ -1,4 +1,10 @@
 // The lines `write`, `fill` and `size`.
+ghost use Rattle.std.specs.Prelude.{◌≡◌, ◌^◌, ◌≤◌, ℕ, List, IfOk, replicate, false};
+ghost use Rattle.pf_script.specs.Desk.{IsSeatOf};
+ghost use Rattle.pf_script.specs.DeskSteps.{SeatGoes};
+ghost use Rattle.pf_script.specs.SeatReplies.{write_reply as reply_of_write, size_reply, IsNoLimit, SizesGo};
+ghost use Rattle.pf_script.specs.declared.line.ScriptLine.TheVariants as lines;
+
 use crate::{Reply, Why};
 use pf_io::{Bytes, Host, Memory, Words};
 use pf_session::{Session, SizeFault, WriteFault, Written};
@@ -10,7 +16,9 @@ const LONGEST: u64 = 32_768;
 const LARGEST: u64 = 1 << 32;
 
 // The reply to a write of so many bytes.
-fn write_reply(written: Result<Written, WriteFault>, count: u64) -> Result<Reply, Memory> {
+fn write_reply(written: Result<Written, WriteFault>, count: u64) -> Result<Reply, Memory>
+    ensures { result ≡ reply_of_write count written }
+{
     let why = match written {
         Ok(Written { flushed_before }) => {
             return Ok(Reply::Written {
@@ -36,7 +44,9 @@ pub(crate) fn write_bytes<H: Host, R: Words>(
     seat: &mut Option<Session>,
     at: u64,
     bytes: &[u8],
-) -> Result<Reply, Memory> {
+) -> Result<Reply, Memory>
+    ensures { (key : List ℕ) (k : ℕ) → IsSeatOf key seat.old → SeatGoes key false (lines.Write k at bytes.now) result seat.old seat.new (H.state host.old) (H.state host.new) (R.state random.old) (R.state random.new) }
+{
     let Some(session) = seat else {
         return Ok(Reply::Refused { why: Why::SeatEmpty });
     };
@@ -48,7 +58,9 @@ pub(crate) fn write_bytes<H: Host, R: Words>(
 }
 
 // So many copies of a byte.
-fn copies(alloc: Global, count: usize, byte: u8) -> Result<Bytes, Memory> {
+fn copies(alloc: Global, count: usize, byte: u8) -> Result<Bytes, Memory>
+    ensures { IfOk result (λ bytes. bytes ≡ replicate count byte) }
+{
     let mut bytes = Bytes::zeroed(alloc, count)?;
     bytes.as_mut_slice().fill(byte);
     Ok(bytes)
@@ -63,7 +75,9 @@ pub(crate) fn fill_bytes<H: Host, R: Words>(
     at: u64,
     count: u64,
     byte: u8,
-) -> Result<Reply, Memory> {
+) -> Result<Reply, Memory>
+    ensures { (key : List ℕ) (k : ℕ) → IsSeatOf key seat.old → SeatGoes key false (lines.Fill k at count byte) result seat.old seat.new (H.state host.old) (H.state host.new) (R.state random.old) (R.state random.new) }
+{
     let Some(session) = seat else {
         return Ok(Reply::Refused { why: Why::SeatEmpty });
     };
@@ -79,7 +93,10 @@ pub(crate) fn fill_bytes<H: Host, R: Words>(
 }
 
 // The reply to a change of the size that failed.
-fn size_fault(fault: SizeFault) -> Result<Reply, Memory> {
+fn size_fault(fault: SizeFault) -> Result<Reply, Memory>
+    requires { IsNoLimit fault }
+    ensures { result ≡ size_reply fault }
+{
     match fault {
         SizeFault::Words => Ok(Reply::WordsFault),
         SizeFault::Damaged(damage) => Ok(Reply::DamagedNode { damage }),
@@ -95,7 +112,11 @@ fn resize<H: Host, R: Words>(
     random: &mut R,
     session: &mut Session,
     size: u64,
-) -> Result<(), SizeFault> {
+) -> Result<(), SizeFault>
+    requires whole { session.old.broken ≡ false }
+    requires small { size ≤ 2 ^ 32 }
+    ensures { SizesGo result size session.old session.new (H.state host.old) (H.state host.new) (R.state random.old) (R.state random.new) }
+{
     while session.size() + LONGEST < size {
         let next = session.size() + LONGEST;
         session.set_size(host, random, next)?;
@@ -110,7 +131,9 @@ pub(crate) fn set_size<H: Host, R: Words>(
     random: &mut R,
     seat: &mut Option<Session>,
     size: u64,
-) -> Result<Reply, Memory> {
+) -> Result<Reply, Memory>
+    ensures { (key : List ℕ) (k : ℕ) → IsSeatOf key seat.old → SeatGoes key false (lines.Size k size) result seat.old seat.new (H.state host.old) (H.state host.new) (R.state random.old) (R.state random.new) }
+{
     let Some(session) = seat else {
         return Ok(Reply::Refused { why: Why::SeatEmpty });
     };

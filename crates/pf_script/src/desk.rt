@@ -1,17 +1,17 @@
 // The desk of a script: its seats, and a step of it.
-ghost use Rattle.std.specs.Prelude.{◌≡◌, ◌<◌, ◌↔◌, IfSome, None, replicate};
-ghost use Rattle.pf_io.specs.Host.{WhereTold};
+ghost use Rattle.std.specs.Prelude.{◌≡◌, ◌<◌, ◌↔◌, IsTrue, IfSome, Ok, None, replicate};
+ghost use Rattle.pf_io.specs.Words.{WordsState};
 ghost use Rattle.pf_script.specs.Desk.{session_at};
-ghost use Rattle.pf_script.specs.DeskSteps.{Asks, KeepsBooks, CountsReply, CountsEnd, Wants, WhereWanting, WhereReplied};
+ghost use Rattle.pf_script.specs.DeskSteps.{HasPath, OtherHas, DeskGoes, EndGoes};
 ghost use Rattle.pf_script.specs.Script.{seat_of_line};
 ghost use Rattle.pf_script.specs.Words.{SEATS as SEAT_COUNT};
-ghost use Rattle.pf_script.specs.declared.line.ScriptLine.TheVariants.{Close as CloseLine};
+ghost use Rattle.pf_script.specs.declared.line.ScriptLine.TheVariants as lines;
 
 use crate::changing::{fill_bytes, set_size, write_bytes};
 use crate::looking::read_bytes;
-use crate::opening::{create_file, open_file};
+use crate::opening::{create_file, open_file, view_file};
 use crate::sealing::{close_seat, draw_nonce, flush_seat};
-use crate::{Reply, ScriptLine, Why};
+use crate::{Reply, ScriptLine};
 use pf_io::{Host, Memory, Words};
 use pf_session::Session;
 use std::alloc::Global;
@@ -38,9 +38,12 @@ impl Model for Desk {
     ghost invariant = { λ d. IsDesk (record { key = d.key; seats = d.seats }) };
 }
 
-fn has_name(seat: &Option<Session>, name: &str) -> bool {
+// Whether the seat has a file of this path.
+fn has_path(seat: &Option<Session>, path: &str) -> bool
+    ensures { IsTrue result ↔ HasPath seat.now path.now }
+{
     match seat {
-        Some(session) => session.path().bytes() == name.as_bytes(),
+        Some(session) => session.path().bytes() == path.as_bytes(),
         None => false,
     }
 }
@@ -59,9 +62,11 @@ impl Desk {
     }
 
     // Whether another seat has the name.
-    fn is_taken(&self, seat: usize, name: &str) -> bool {
+    fn is_taken(&self, seat: usize, name: &str) -> bool
+        ensures { IsTrue result ↔ OtherHas self.now seat name.now }
+    {
         for k in 0..SEATS {
-            if k != seat && has_name(&self.seats[k], name) {
+            if k != seat && has_path(&self.seats[k], name) {
                 return true;
             }
         }
@@ -74,30 +79,31 @@ impl Desk {
         random: &mut R,
         seat: u8,
         name: &str,
-    ) -> Result<Reply, Memory> {
+    ) -> Result<Reply, Memory>
+        requires { seat < SEAT_COUNT }
+        ensures { DeskGoes (lines.Create seat name.now) result self.old self.new (H.state host.old) (H.state host.new) (R.state random.old) (R.state random.new) }
+    {
         let seat = seat as usize;
         let taken = self.is_taken(seat, name);
         let key = self.key;
         create_file(self.alloc, host, random, &key, &mut self.seats[seat], name, taken)
     }
 
-    fn open<H: Host>(&mut self, host: &mut H, seat: u8, name: &str) -> Result<Reply, Memory> {
+    fn open<H: Host>(&mut self, host: &mut H, seat: u8, name: &str) -> Result<Reply, Memory>
+        requires { seat < SEAT_COUNT }
+        ensures { (words : WordsState) → DeskGoes (lines.Open seat name.now) result self.old self.new (H.state host.old) (H.state host.new) words words }
+    {
         let seat = seat as usize;
         let taken = self.is_taken(seat, name);
         let key = self.key;
         open_file(self.alloc, host, &key, &mut self.seats[seat], name, taken)
     }
 
-    // Files of a manifest are not viewed, as long as there is none.
-    fn view(&self, seat: u8) -> Reply {
-        let why = match self.seats[seat as usize] {
-            Some(_) => Why::SeatBusy,
-            None => Why::NoManifest,
-        };
-        Reply::Refused { why }
-    }
-
-    fn close<H: Host, R: Words>(&mut self, host: &mut H, random: &mut R, seat: u8) -> Reply {
+    fn close<H: Host, R: Words>(&mut self, host: &mut H, random: &mut R, seat: u8) -> Reply
+        requires { seat < SEAT_COUNT }
+        ensures goes { DeskGoes (lines.Close seat) (Ok result) self.old self.new (H.state host.old) (H.state host.new) (R.state random.old) (R.state random.new) }
+        ensures empty { session_at self.new seat ≡ None }
+    {
         close_seat(host, random, &mut self.seats[seat as usize])
     }
 
@@ -113,23 +119,27 @@ impl Desk {
         line: &ScriptLine,
     ) -> Result<Reply, Memory>
         requires { IfSome (seat_of_line line.now) (λ seat. seat < SEAT_COUNT) }
-        ensures key { self.new.key ≡ self.old.key }
-        ensures asks { WhereReplied result (λ reply. WhereTold (H.state host.old) (H.state host.new) (λ given. Asks line.now reply self.old self.new given (H.state host.old) (H.state host.new) (R.state random.old) (R.state random.new))) }
-        ensures books { KeepsBooks self.old self.new (H.state host.old) (H.state host.new) }
-        ensures counts { CountsReply result (H.state host.old) (H.state host.new) (R.state random.old) (R.state random.new) }
-        ensures wants { WhereWanting result (Wants line.now self.old self.new (H.state host.old) (H.state host.new) (R.state random.old) (R.state random.new)) }
+        ensures goes { DeskGoes line.now result self.old self.new (H.state host.old) (H.state host.new) (R.state random.old) (R.state random.new) }
     {
         match line {
             ScriptLine::Blank => Ok(Reply::None),
             ScriptLine::Create { seat, name } => self.create(host, random, *seat, name.as_str()),
             ScriptLine::Open { seat, name } => self.open(host, *seat, name.as_str()),
-            ScriptLine::View { seat, .. } => Ok(self.view(*seat)),
-            ScriptLine::Read { seat, at, count } => {
-                read_bytes(self.alloc, host, &mut self.seats[*seat as usize], *at, *count)
-            }
-            ScriptLine::Write { seat, at, bytes } => {
-                write_bytes(host, random, &mut self.seats[*seat as usize], *at, bytes.as_slice())
-            }
+            ScriptLine::View { seat, .. } => Ok(view_file(&self.seats[*seat as usize])),
+            ScriptLine::Read { seat, at, count } => read_bytes(
+                self.alloc,
+                host,
+                &mut self.seats[*seat as usize],
+                *at,
+                *count,
+            ),
+            ScriptLine::Write { seat, at, bytes } => write_bytes(
+                host,
+                random,
+                &mut self.seats[*seat as usize],
+                *at,
+                bytes.as_slice(),
+            ),
             ScriptLine::Fill {
                 seat,
                 at,
@@ -165,12 +175,9 @@ impl Desk {
         seat: u8,
     ) -> Option<Reply>
         requires { seat < SEAT_COUNT }
-        ensures key { self.new.key ≡ self.old.key }
         ensures none { (result ≡ None) ↔ (session_at self.old seat ≡ None) }
         ensures empty { session_at self.new seat ≡ None }
-        ensures asks { IfSome result (λ reply. WhereTold (H.state host.old) (H.state host.new) (λ given. Asks (CloseLine seat) reply self.old self.new given (H.state host.old) (H.state host.new) (R.state random.old) (R.state random.new))) }
-        ensures books { KeepsBooks self.old self.new (H.state host.old) (H.state host.new) }
-        ensures counts { CountsEnd result self.old self.new (H.state host.old) (H.state host.new) (R.state random.old) (R.state random.new) }
+        ensures goes { EndGoes seat result self.old self.new (H.state host.old) (H.state host.new) (R.state random.old) (R.state random.new) }
     {
         if self.seats[seat as usize].is_none() {
             return None;

@@ -1,4 +1,10 @@
 // The line `read`.
+ghost use Rattle.std.specs.Prelude.{◌≡◌, ◌-◌, ◌≤◌, ℕ, List, Some, min, false};
+ghost use Rattle.pf_io.specs.Words.{WordsState};
+ghost use Rattle.pf_script.specs.Desk.{IsSeatOf, IsSeated};
+ghost use Rattle.pf_script.specs.DeskSteps.{SeatGoes};
+ghost use Rattle.pf_script.specs.declared.line.ScriptLine.TheVariants as lines;
+
 use crate::{Reply, Why};
 use node_tree::TreeFault;
 use pf_io::{Bytes, Host, Memory};
@@ -9,7 +15,9 @@ use std::alloc::Global;
 const LONGEST: u64 = 32_768;
 
 // How many bytes a content of this size has from a place on, at most `count`.
-fn reach(size: u64, at: u64, count: u64) -> u64 {
+fn reach(size: u64, at: u64, count: u64) -> u64
+    ensures { result ≡ min count (size - at) }
+{
     if at < size {
         count.min(size - at)
     } else {
@@ -23,7 +31,11 @@ fn read_content<H: Host>(
     session: &mut Session,
     at: u64,
     count: u64,
-) -> Result<Reply, Memory> {
+) -> Result<Reply, Memory>
+    requires whole { session.old.broken ≡ false }
+    requires few { count ≤ 32768 }
+    ensures { (key : List ℕ) (k : ℕ) (words : WordsState) → IsSeated key session.old → SeatGoes key false (lines.Read k at count) result (Some session.old) (Some session.new) (H.state host.old) (H.state host.new) words words }
+{
     let count = reach(session.size(), at, count);
     let mut bytes = Bytes::zeroed(alloc, count as usize)?;
     match session.read(host, at, bytes.as_mut_slice()) {
@@ -41,7 +53,9 @@ pub(crate) fn read_bytes<H: Host>(
     seat: &mut Option<Session>,
     at: u64,
     count: u64,
-) -> Result<Reply, Memory> {
+) -> Result<Reply, Memory>
+    ensures { (key : List ℕ) (k : ℕ) (words : WordsState) → IsSeatOf key seat.old → SeatGoes key false (lines.Read k at count) result seat.old seat.new (H.state host.old) (H.state host.new) words words }
+{
     let Some(session) = seat else {
         return Ok(Reply::Refused { why: Why::SeatEmpty });
     };
