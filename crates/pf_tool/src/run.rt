@@ -11,6 +11,7 @@ use crate::encrypt::encrypt;
 use crate::fault::Fault;
 use crate::manifest::write_manifest;
 use crate::measuring::measure_layout;
+use crate::script::run_script;
 use crate::sums::write_sums;
 use crate::words::{Command, command_of};
 use pf_io::{Host, Sink, Source, Words};
@@ -27,20 +28,25 @@ fn conclude<L: Sink>(ended: Result<(), Fault<'_>>, log: &mut L) -> u8
 }
 
 // Runs a command, and says how it ended.
-fn run_command<H: Host, K: Sink, L: Sink, R: Words>(
+fn run_command<H: Host, S: Source, K: Sink, L: Sink, R: Words>(
     alloc: Global,
     command: &Command<'_>,
     host: &mut H,
+    input: &mut S,
     out: &mut K,
     log: &mut L,
     random: &mut R,
 ) -> u8
-    ensures { (input : SourceState) → Runs (request_of command.now) (world_of (H.state host.old) input (K.state out.old) (L.state log.old) (R.state random.old))
-        (world_of (H.state host.new) input (K.state out.new) (L.state log.new) (R.state random.new)) result }
+    ensures { Runs (request_of command.now) (world_of (H.state host.old) (S.state input.old) (K.state out.old) (L.state log.old) (R.state random.old))
+        (world_of (H.state host.new) (S.state input.new) (K.state out.new) (L.state log.new) (R.state random.new)) result }
 {
     match command {
         Command::Decrypt(command) => conclude(decrypt(alloc, host, command, out), log),
         Command::Encrypt(command) => conclude(encrypt(alloc, host, random, command), log),
+        Command::Session(command) => match run_script(alloc, host, input, out, random, command) {
+            Ok(status) => status,
+            Err(fault) => fault.report(log),
+        },
         Command::Manifest(command) => conclude(write_manifest(alloc, host, command, out), log),
         Command::Sums(command) => conclude(write_sums(alloc, host, command, out), log),
         Command::Measure(command) => conclude(measure_layout(alloc, host, command, out), log),
@@ -90,7 +96,7 @@ pub fn run<H: Host, S: Source, K: Sink, L: Sink, R: Words>(
     ensures unread { S.state input.new ≡ S.state input.old }
 {
     match command_of(words) {
-        Some(command) => run_command(alloc, &command, host, out, log, random),
+        Some(command) => run_command(alloc, &command, host, input, out, log, random),
         None => Fault::NoCommand.report(log),
     }
 }

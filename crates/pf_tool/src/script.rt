@@ -1,0 +1,56 @@
+// The command `session`.
+use crate::fault::Fault;
+use crate::key::read_key;
+use crate::script_lines::{answer_lines, first_of, say};
+use crate::words::Session;
+use pf_io::{Host, Sink, Source, StreamFault, Words};
+use pf_script::{Desk, LineReader, Reply};
+use std::alloc::Global;
+
+// Closes a seat, writes a reply that is none to a closing that went well, and answers its status.
+fn close_seat<H: Host, K: Sink, R: Words>(
+    host: &mut H,
+    out: &mut K,
+    random: &mut R,
+    desk: &mut Desk,
+    seat: u8,
+) -> Result<u8, StreamFault> {
+    match desk.end(host, random, seat) {
+        None | Some(Reply::Closed { .. }) => Ok(0),
+        fault => say(out, &fault),
+    }
+}
+
+// Closes the seats in order. Gives the status of the first closing that failed, or 0.
+fn close_seats<H: Host, K: Sink, R: Words>(
+    host: &mut H,
+    out: &mut K,
+    random: &mut R,
+    desk: &mut Desk,
+) -> Result<u8, StreamFault> {
+    let mut status = 0;
+    for seat in 0..8 {
+        let next = close_seat(host, out, random, desk, seat)?;
+        status = first_of(status, next);
+    }
+    Ok(status)
+}
+
+/// Answers the script that the input is, and then closes its files. Gives the status of the first reply that is not
+/// accepted, or 0.
+pub(crate) fn run_script<'a, H: Host, S: Source, K: Sink, R: Words>(
+    alloc: Global,
+    host: &mut H,
+    input: &mut S,
+    out: &mut K,
+    random: &mut R,
+    command: &Session<'a>,
+) -> Result<u8, Fault<'a>> {
+    let user = read_key(host, command.key)?;
+    let mut reader = LineReader::new(alloc)?;
+    let mut desk = Desk::new(alloc, user);
+    let lines = answer_lines(alloc, host, input, out, random, &mut reader, &mut desk)?;
+    let closings = close_seats(host, out, random, &mut desk)?;
+    out.write(b"end\n")?;
+    Ok(first_of(lines, closings))
+}
