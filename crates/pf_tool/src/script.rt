@@ -1,4 +1,10 @@
 // The command `session`.
+ghost use Rattle.std.specs.Prelude.{◌<◌};
+ghost use Rattle.pf_io.specs.Streams.{SourceState, SinkState};
+ghost use Rattle.pf_script.specs.LineReading.{ReaderState};
+ghost use Rattle.pf_tool.specs.World.{world_of};
+ghost use Rattle.pf_tool.specs.Scripting.{at, ClosingGoes, ClosingsEnd, ScriptGoes};
+
 use crate::fault::Fault;
 use crate::key::read_key;
 use crate::script_lines::{answer_lines, first_of, say};
@@ -14,7 +20,11 @@ fn close_seat<H: Host, K: Sink, R: Words>(
     random: &mut R,
     desk: &mut Desk,
     seat: u8,
-) -> Result<u8, StreamFault> {
+) -> Result<u8, StreamFault>
+    requires { seat < 8 }
+    ensures { (reader : ReaderState) (input : SourceState) (log : SinkState) → ClosingGoes seat result (at desk.old reader (world_of (H.state host.old) input (K.state out.old) log (R.state random.old)))
+        (at desk.new reader (world_of (H.state host.new) input (K.state out.new) log (R.state random.new))) }
+{
     match desk.end(host, random, seat) {
         None | Some(Reply::Closed { .. }) => Ok(0),
         fault => say(out, &fault),
@@ -27,7 +37,10 @@ fn close_seats<H: Host, K: Sink, R: Words>(
     out: &mut K,
     random: &mut R,
     desk: &mut Desk,
-) -> Result<u8, StreamFault> {
+) -> Result<u8, StreamFault>
+    ensures { (reader : ReaderState) (input : SourceState) (log : SinkState) → ClosingsEnd result (at desk.old reader (world_of (H.state host.old) input (K.state out.old) log (R.state random.old)))
+        (at desk.new reader (world_of (H.state host.new) input (K.state out.new) log (R.state random.new))) }
+{
     let mut status = 0;
     for seat in 0..8 {
         let next = close_seat(host, out, random, desk, seat)?;
@@ -45,7 +58,10 @@ pub(crate) fn run_script<'a, H: Host, S: Source, K: Sink, R: Words>(
     out: &mut K,
     random: &mut R,
     command: &Session<'a>,
-) -> Result<u8, Fault<'a>> {
+) -> Result<u8, Fault<'a>>
+    ensures { (log : SinkState) → ScriptGoes command.now.key.now result (world_of (H.state host.old) (S.state input.old) (K.state out.old) log (R.state random.old))
+        (world_of (H.state host.new) (S.state input.new) (K.state out.new) log (R.state random.new)) }
+{
     let user = read_key(host, command.key)?;
     let mut reader = LineReader::new(alloc)?;
     let mut desk = Desk::new(alloc, user);
