@@ -1,5 +1,5 @@
 -- What a session put out: the text of a run of its script, over the answers of the host and the random words.
-use Rattle.std.specs.Prelude.{⊤, ◌≡◌, ◌≢◌, ◌⊎◌, ℕ, zero, suc, ◌≤◌, Bool, true, cond, List, [], ◌∷◌, ◌++◌, length, take, map, replicate, Option, Some, IfSome}
+use Rattle.std.specs.Prelude.{⊤, ◌≡◌, ◌≢◌, ◌⊎◌, ℕ, zero, suc, Bool, true, cond, List, [], ◌∷◌, ◌++◌, length, take, map, replicate, Option, Some, IfSome}
 use Rattle.std.specs.List.{flat_map, fold}
 use Rattle.node_tree.specs.Sheet.{Sheet}
 use Rattle.pf_io.specs.Answered.{WereTold}
@@ -67,7 +67,6 @@ ClosesSeats (suc more) k state closed E =
 -- the first seats are closed, and all of them where `end` followed
 pub record ClosesFirst (transcript : Transcript) (state : ScriptState) : Type 0 where
   pub count : ℕ
-  pub within : count ≤ SEATS
   pub all : transcript.ended ≡ true → count ≡ SEATS
   pub closes : ClosesSeats count 0 state transcript.closed (λ last. ⊤)
 
