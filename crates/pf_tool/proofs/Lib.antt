@@ -9,6 +9,7 @@ pub mod InputLaws
 pub mod PageReading
 pub mod LayoutReading
 mod Lists
+mod Conversing
 mod Drawing
 mod HeldTree
 mod SessionWrites
