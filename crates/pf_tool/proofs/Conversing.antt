@@ -1,5 +1,5 @@
 -- The lines of a script as they are read, and the closings.
-use Rattle.std.proofs.Common.{◌≡◌, ◌≢◌, ◌↔◌, ℕ, List, [], ◌++◌, refl, sym, Option, Some, None, Result, Ok, Err}
+use Rattle.std.proofs.Common.{◌≡◌, ◌≢◌, ◌↔◌, ◌∙◌, ℕ, List, [], ◌++◌, refl, sym, ap, replicate, Option, Some, None, Result, Ok, Err}
 use Rattle.std.proofs.lemmas.List.{append-nil}
 use Rattle.pf_io.specs.Host.{HostState, Both, IsMore, ReadsAsImage}
 use Rattle.pf_io.specs.Streams.{SourceState, SinkState}
@@ -7,15 +7,17 @@ use Rattle.pf_io.specs.Writing.{WroteAll}
 use Rattle.pf_io.specs.Words.{WordsState}
 use Rattle.pf_script.specs.Desk.{DeskState, session_at}
 use Rattle.pf_script.specs.DeskSteps.{EndGoes}
+use Rattle.pf_session.specs.State.{SessionState}
 use Rattle.pf_script.specs.declared.reply.Reply.{Reply}
 use Rattle.pf_io.specs.declared.faults.StreamFault.{StreamFault}
 use Rattle.pf_script.specs.LineReading.{ReaderState, Advances, LinesGoOn, AnswersAgain}
 use Rattle.pf_script.specs.declared.next_line.NextLine.{NextLine}
 use Rattle.pf_script.specs.declared.stage.Stage.{Stage}
 use Rattle.pf_script.specs.declared.stage.Stage.TheVariants as stages
-use Rattle.pf_tool.specs.World.{world_of}
+use Rattle.pf_script.specs.Words.{SEATS}
+use Rattle.pf_tool.specs.World.{World, world_of}
 use Rattle.pf_tool.specs.Replying.{SaysClosing}
-use Rattle.pf_tool.specs.Scripting.{at, ReadsOn, went_on, was_over, SeatClosed, ClosingGoes}
+use Rattle.pf_tool.specs.Scripting.{at, begins, ReadsOn, went_on, was_over, SeatClosed, ClosingGoes}
 
 -- the reader as a call of it says
 pub reads_on : (next : Result NextLine StreamFault) (old new : ReaderState) (from to : SourceState) → (old.stage ≡ stages.Open → Advances next old new from to) → (old.stage ≡ stages.Open → LinesGoOn next old new from to)
@@ -40,3 +42,9 @@ pub closing_goes : (seat : ℕ) (result : Result ℕ StreamFault) (reply : Optio
     → EndGoes seat reply d0 d1 h0 h1 r0 r1 → ReadsAsImage h1 → SaysClosing result reply o0 o1 → ClosingGoes seat result (at d0 reader (world_of h0 input o0 log r0)) (at d1 reader (world_of h1 input o1 log r1))
 closing_goes seat (Ok status) reply d0 d1 reader h0 h1 input o0 o1 log r0 r1 none ends image says = (reply, record { ends = ends; none = none; reader = refl; input = refl; log = refl; image = image }, says.1, says.0)
 closing_goes seat (Err fault) reply d0 d1 reader h0 h1 input o0 o1 log r0 r1 none ends image says = record { reply = reply; closed = record { ends = ends; none = none; reader = refl; input = refl; log = refl; image = image }; failed = says }
+
+-- a new desk and a new reader are where a script begins
+pub begins_is : (user : List ℕ) (world : World) (desk : DeskState) (reader : ReaderState) → desk.key ≡ user → desk.seats ≡ replicate SEATS None → reader ≡ record { line = []; pending = []; reads = 0; stage = stages.Open } → at desk reader world ≡ begins user world
+begins_is user world desk reader key seats fresh =
+    ap (λ (k : List ℕ). at (record { key = k; seats = desk.seats }) reader world) key ∙ ap (λ (s : List (Option SessionState)). at (record { key = user; seats = s }) reader world) seats
+    ∙ ap (λ (r : ReaderState). at (record { key = user; seats = replicate SEATS None }) r world) fresh

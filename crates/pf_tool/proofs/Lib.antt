@@ -10,6 +10,7 @@ pub mod PageReading
 pub mod LayoutReading
 mod Lists
 mod Conversing
+mod LineCounting
 mod Drawing
 mod HeldTree
 mod SessionWrites
