@@ -11,6 +11,7 @@ pub mod LayoutReading
 mod Lists
 mod Conversing
 mod LineCounting
+mod ScriptCounting
 mod Drawing
 mod HeldTree
 mod SessionWrites
