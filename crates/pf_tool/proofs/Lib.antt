@@ -15,6 +15,9 @@ mod SessionWrites
 mod PieceGiving
 mod SessionBegun
 mod EncryptFinding
+mod PieceAnswers
+mod SheetWrites
+mod PiecesStand
 mod InputDisk
 pub mod Numbered
 pub mod SameBlocks
