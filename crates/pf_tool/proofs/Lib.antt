@@ -18,6 +18,7 @@ mod EncryptFinding
 mod PieceAnswers
 mod SheetWrites
 mod PiecesStand
+mod InputStands
 mod InputDisk
 pub mod Numbered
 pub mod SameBlocks
