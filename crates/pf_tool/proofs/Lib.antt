@@ -19,6 +19,7 @@ mod PieceAnswers
 mod SheetWrites
 mod PiecesStand
 mod InputStands
+mod SealCounts
 mod InputDisk
 pub mod Numbered
 pub mod SameBlocks
