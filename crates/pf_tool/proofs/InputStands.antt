@@ -41,7 +41,7 @@ honest_both P Q R None p q go = tt
 part_length : (n : ℕ) (ys file : List ℕ) → ys ≡ take n file → take (length ys) file ≡ ys
 part_length n ys file is = ap (λ (k : ℕ). take k file) (ap (λ (l : List ℕ). length l) is ∙ length-take n file) ∙ take_min n file ∙ sym is
 
-part_join : (n : ℕ) (xs ys file : List ℕ) → xs ≡ take (length xs) file → ys ≡ take n (drop (length xs) file) → xs ++ ys ≡ take (length (xs ++ ys)) file
+pub part_join : (n : ℕ) (xs ys file : List ℕ) → xs ≡ take (length xs) file → ys ≡ take n (drop (length xs) file) → xs ++ ys ≡ take (length (xs ++ ys)) file
 part_join n xs ys file front behind =
     sym (ap (λ (k : ℕ). take k file) (length-append xs ys) ∙ take-add (length xs) (length ys) file ∙ ap₂ (λ (a b : List ℕ). a ++ b) (sym front) (part_length n ys (drop (length xs) file) behind))
 
@@ -100,7 +100,7 @@ module _ (input : Name) (user : List ℕ) (output : Name) (first : Sheet) (old :
 
   -- what the file had when the session was begun
   module _ (ne : input ≢ side_of output) where
-    gave_of : (at : ℕ) (piece : List ℕ) (mid given : HostState) → KeepsBeside output before mid → GavePiece input at piece mid given → OnHonest before (λ files. piece ≡ take PIECE (drop at (contents (files input))))
+    pub gave_of : (at : ℕ) (piece : List ℕ) (mid given : HostState) → KeepsBeside output before mid → GavePiece input at piece mid given → OnHonest before (λ files. piece ≡ take PIECE (drop at (contents (files input))))
     gave_of at piece mid given alone gave =
         alone_read output input (λ file. piece ≡ take PIECE (drop at (contents file))) before mid ne alone (IfSome_then (files_of mid) gave.passed.honest (λ (f : Files) all. all.0))
 

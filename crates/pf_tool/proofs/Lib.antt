@@ -20,6 +20,8 @@ mod SheetWrites
 mod PiecesStand
 mod InputStands
 mod SealCounts
+mod WriteFails
+mod SealStops
 mod InputDisk
 pub mod Numbered
 pub mod SameBlocks
