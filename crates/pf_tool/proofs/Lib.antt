@@ -22,7 +22,9 @@ mod InputStands
 mod SealCounts
 mod WriteFails
 mod SealStops
-mod InputDisk
+mod SealDisks
+mod SealSummary
+mod SideBehind
 pub mod Numbered
 pub mod SameBlocks
 pub mod Following
