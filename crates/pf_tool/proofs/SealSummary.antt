@@ -144,10 +144,10 @@ module _ (user : List ℕ) (input output : Name) (ne : input ≢ side_of output)
 
     -- all of the input was copied
     module _ (content : List ℕ) (whole : SessionState) (copied : HostState) (more : WordsState) (written : InputWritten input content session whole begun copied words more) where
-      started : Standing user output First [] session
+      abbrev started : Standing user output First [] session
       started = begun_stands user output session before begun random words b
 
-      c : IsCopied input user output First content whole begun copied words more
+      abbrev c : IsCopied input user output First content whole begun copied words more
       c = is_copied input user output First session begun words started content whole copied more written
 
       abbrev Given : List (List ℕ)
@@ -303,11 +303,10 @@ same_fault why other same = cc
 module _ (user : List ℕ) (input output : Name) (ne : input ≢ side_of output) (before after : HostState) (random random' : WordsState) where
   module _ (begun : HostState) (words : WordsState) (session : SessionState) (b : Begun user output session before begun random words) (content : List ℕ) (whole : SessionState) (copied : HostState) (more : WordsState)
       (written : InputWritten input content session whole begun copied words more) where
-    copy : IsCopied input user output (empty_sheet output b.nonce) content whole begun copied words more
+    abbrev copy : IsCopied input user output (empty_sheet output b.nonce) content whole begun copied words more
     copy = is_copied input user output (empty_sheet output b.nonce) session begun words (begun_stands user output session before begun random words b) content whole copied more written
 
     publish_not : (why : FlushFault) → PublishGoes (Err why) whole copied after more random' → Sealing user input output (Err (flush_fault why)) before after random random'
-      unfolding c copy started
     publish_not why (ending.not_flushed other mid flush keeps is) =
         let same = same_fault why other is in
         subst (λ (w : FlushFault). Sealing user input output (Err (flush_fault w)) before after random random') (sym same)
@@ -321,7 +320,6 @@ module _ (user : List ℕ) (input output : Name) (ne : input ≢ side_of output)
     publish_not why (published mid between nonce keys came goes keeps asked two each is) = absurd (no_publish tt why is)
 
     publish_done : PublishGoes (Ok tt) whole copied after more random' → Sealing user input output (Ok tt) before after random random'
-      unfolding c copy started
     publish_done (ending.not_flushed other mid flush keeps is) = absurd (no_flush tt other is)
     publish_done (not_named mid between nonce keys came goes keeps asked two each is) = absurd (no_flush tt _ is)
     publish_done (published mid between nonce keys came goes keeps asked two each is) =
