@@ -55,5 +55,6 @@ mod EntryReading
 mod SumsEnding
 mod RunLaws
 mod RunClauses
+mod EncryptRuns
 mod RunDisk
 pub mod ContentRuns
