@@ -56,5 +56,6 @@ mod SumsEnding
 mod RunLaws
 mod RunClauses
 mod EncryptRuns
+mod EncryptClauses
 mod RunDisk
 pub mod ContentRuns
