@@ -3,7 +3,7 @@ use Rattle.std.proofs.Common.{◌≡◌, ◌≢◌, ◌⊎◌, inl, inr, ⊎_eli
 use Rattle.std.specs.Prelude.{Contains, ◌&&◌, bytes_eq, option_map}
 use Rattle.std.specs.List.{AllByRecursion, concat}
 use Rattle.std.proofs.lemmas.List.{append-nil, append_cancel_left}
-use Rattle.std.proofs.lemmas.List.Elements.{filter-append}
+use Rattle.std.proofs.lemmas.Option.{IfSome_then}
 use Rattle.node_layout.specs.Metadata.{MOST_SIZE}
 use Rattle.pf_io.specs.Counts.{counted}
 use Rattle.pf_io.specs.Answered.{IsAnswerOf, WereTold}
@@ -214,3 +214,79 @@ module _ (key input output : Name) (old new : World) (status : ℕ) (ended : Res
 
     pub found_honest : Honestly (Encrypt key input output) files old new status
     found_honest = by_end (seal_end ended mid.host new.host mid.random new.random s.counts)
+
+  done_zero : ended ≡ Ok tt → status ≡ 0
+  done_zero is = (subst (λ (e : Result (Unit {0}) Fault). Concludes e old.log new.log status) is concludes).0
+
+  not_zero : (n : ℕ) → 1 ≤ n → end_status ended ≡ n → status ≡ 0 → ⊥
+  not_zero n some is zero_is = ⊎_elim (λ both. omega (arith, both.0, is, zero_is, some)) (λ both. omega (arith, both.0, zero_is)) said
+
+  zero_done : status ≡ 0 → SealEnd ended mid.host new.host mid.random new.random → ended ≡ Ok tt
+  zero_done zero_is (was_done is host random) = is
+  zero_done zero_is (was_large is host random) = absurd (not_zero 3 (omega arith) (ap end_status is) zero_is)
+  zero_done zero_is (was_starved is host random) = absurd (not_zero 5 (omega arith) (ap end_status is) zero_is)
+  zero_done zero_is (host_failed is host random) = absurd (not_zero 4 (omega arith) (ap end_status is) zero_is)
+  zero_done zero_is (no_word is host random) = absurd (not_zero 6 (omega arith) (ap end_status is) zero_is)
+
+  is_done : status ≡ 0 → ended ≡ Ok tt
+  is_done zero_is = zero_done zero_is (seal_end ended mid.host new.host mid.random new.random s.counts)
+
+  may : MayBe ended mid.host new.host → MayBeNew old new status
+  may (inl is) = inl (done_zero is)
+  may (inr once) = inr (once ∙ ap counted found.passed.host.calm)
+
+  abbrev Version : Disk → Option (List ℕ) → Type 0
+  Version disk file = IsVersion key input output disk file
+
+  module _ (content : List ℕ) where
+    abbrev Fixed : Disk → Option (List ℕ) → Type 0
+    Fixed disk file = HasVersion user output content file
+
+    -- the disk is as before, with the key and the content
+    record AsBefore (d e : Disk) : Type 0 where
+      same : e ≡ d
+      user_is : user ≡ user_on d key
+      content_is : content ≡ content_on d input
+
+    version : (d e : Disk) → AsBefore d e → (file : Option (List ℕ)) → HasVersion user output content file → Version d file
+    version d e known file has = subst (λ (u : List ℕ). HasVersion u output (content_on d input) file) known.user_is (subst (λ (c : List ℕ). HasVersion user output c file) known.content_is has)
+
+    left : (d e : Disk) → AsBefore d e → (image : Image) → OutputLeft output Fixed (MayBe ended mid.host new.host) e image → OutputLeft output Version (MayBeNew old new status) d image
+    left d e known image was =
+        let w = subst (λ (x : Disk). OutputLeft output Fixed (MayBe ended mid.host new.host) x image) known.same was in
+        record { here = ⊎_elim (λ before. inl before) (λ both. inr (may both.0, version d e known (image output) both.1)) w.here; others = w.others }
+
+    new_version : (d e : Disk) → AsBefore d e → (file : Option File) → IsNewFile (Fixed d) file → IsNewFile (Version d) file
+    new_version d e known file f = record { file = f.file; there = f.there; settled = f.settled; is_new = version d e known (Some f.file.bytes) f.is_new }
+
+    ends : (d e f : Disk) → AsBefore d e → OutputEnds output Fixed (MayBe ended mid.host new.host) (ended ≡ Ok tt) e f → OutputEnds output Version (MayBeNew old new status) (status ≡ 0) d f
+    ends d e f known was =
+        let w = subst (λ (x : Disk). OutputEnds output Fixed (MayBe ended mid.host new.host) (ended ≡ Ok tt) x f) known.same was in
+        record {
+          done = λ zero_is. new_version d e known (f output) (w.done (is_done zero_is));
+          here = ⊎_elim (λ before. inl before) (λ both. inr (may both.0, new_version d e known (f output) both.1)) w.here;
+          others = w.others;
+        }
+
+    from_start : (o p q : Option Honest) → Both o p (Ran IsImage Stays) → IfSome (option_map (λ (h : Honest). reading h.now) o) (λ files. user ≡ take 16 (contents (files key)))
+        → IfSome (option_map (λ (h : Honest). reading h.now) p) (λ files. content ≡ contents (files input)) → Both p q (Ran (OutputLeft output Fixed (MayBe ended mid.host new.host)) (OutputEnds output Fixed (MayBe ended mid.host new.host) (ended ≡ Ok tt)))
+        → Both o q (Ran (OutputLeft output Version (MayBeNew old new status)) (OutputEnds output Version (MayBeNew old new status) (status ≡ 0)))
+    from_start (Some a) (Some m) (Some b) kept user_is content_is ran =
+        let w = ran_weaker IsImage (OutputLeft output Version (MayBeNew old new status)) Stays Stays (Some a) (Some m) kept (λ d image is. record { here = inl (is output); others = λ other ne apart. is other }) (λ d e same. same) in
+        let known : AsBefore a.now m.now = record { same = kept.ends; user_is = user_is; content_is = subst (λ (d : Disk). content ≡ content_on d input) kept.ends content_is } in
+        let first : Ran (OutputLeft output Version (MayBeNew old new status)) AsBefore a m = record { leaves = w.leaves; ends = known } in
+        goes_on_ran (OutputLeft output Version (MayBeNew old new status)) (OutputLeft output Fixed (MayBe ended mid.host new.host)) AsBefore (OutputEnds output Fixed (MayBe ended mid.host new.host) (ended ≡ Ok tt))
+        (OutputEnds output Version (MayBeNew old new status) (status ≡ 0)) (Some a) (Some m) (Some b) first ran left ends
+    from_start None None None kept user_is content_is ran = tt
+    from_start (Some a) None q kept user_is content_is ran = absurd kept
+    from_start None (Some m) q kept user_is content_is ran = absurd kept
+    from_start (Some a) (Some m) None kept user_is content_is ran = absurd ran
+    from_start None None (Some b) kept user_is content_is ran = absurd ran
+
+  -- what stands on the disk
+  pub found_disk : LeavesOutput output (IsVersion key input output) old new status
+  found_disk = by s.disk where
+    by : SealDisk user input output ended mid.host new.host → LeavesOutput output (IsVersion key input output) old new status
+    by (kept_out never alone) =
+        alone_left output Version (MayBeNew old new status) (status ≡ 0) old.host new.host (λ zero_is. never (is_done zero_is)) (alone_then output old.host mid.host new.host (kept_alone output old.host mid.host found.disk) alone)
+    by (new_out content same ran) = from_start content old.host.honest mid.host.honest new.host.honest found.disk (IfSome_then (files_of old.host) found.passed.host.honest (λ (f : Files) all. all.1.0)) same ran

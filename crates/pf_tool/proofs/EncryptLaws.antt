@@ -47,6 +47,10 @@ module _ (key input output : Name) where
   pub encrypt_spoken : (ending : Ending) → EncryptRefused key input output [] ending → ending ≡ Refused BadName
   encrypt_spoken ending leads = (unnamed_alone ending leads).1
 
+  -- then it is the key's name that is none
+  pub words_alone : (ending : Ending) → EncryptRefused key input output [] ending → IsName key → ⊥
+  words_alone ending refused named = (unnamed_alone ending refused).0 named
+
   pub encrypt_silent : (ending other : Ending) (es : List Event) → EncryptRefused key input output [] ending → EncryptRefused key input output es other → (es ≡ []) × (ending ≡ other)
   encrypt_silent ending other es first second =
       let one = unnamed_alone ending first in

@@ -57,5 +57,6 @@ mod RunLaws
 mod RunClauses
 mod EncryptRuns
 mod EncryptClauses
+mod RunChoices
 mod RunDisk
 pub mod ContentRuns
