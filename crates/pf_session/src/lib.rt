@@ -15,6 +15,9 @@ mod fault;
 mod file_name;
 mod flushing;
 mod laws;
+mod moving;
+#[cfg(test)]
+mod moving_tests;
 mod node_zero;
 mod open_fault;
 mod opening;
@@ -26,7 +29,7 @@ mod session;
 #[cfg(test)]
 mod tests;
 
-pub use fault::{BesideFault, CreateFault, FlushFault, SizeFault, WriteFault, Written};
+pub use fault::{BesideFault, CreateFault, FlushFault, MoveFault, SizeFault, WriteFault, Written};
 pub use laws::openings_are_decided;
 pub use open_fault::OpenFault;
 pub use session::Session;
