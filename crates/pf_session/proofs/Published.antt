@@ -2,7 +2,7 @@
 use Rattle.std.proofs.Common.{◌≡◌, ◌≢◌, ◌⊎◌, inl, inr, ⊎_elim, ℕ, List, [], ◌∷◌, length, refl, ap, sym, subst, ◌∙◌, arith, length-append, Bool, true, false, Option, Some, None, IfSome, Result, Ok, Err}
 use Rattle.std.specs.Prelude.{codes}
 use Rattle.node_tree.specs.Sheet.{Sheet, Stands}
-use Rattle.pf_io.specs.Disk.{Name, File, Disk, Image, IsImage, IsImageAt, IsSettledFile}
+use Rattle.pf_io.specs.Disk.{Name, File, Disk, Image, IsImage, IsImageAt, IsSettledFile, read_of}
 use Rattle.pf_io.specs.Host.{Files, Swapped, HostState, Both, OnDisk, contents, files_of}
 use Rattle.pf_io.specs.Words.{WordsState}
 use Rattle.pf_io.specs.Moments.{Honest, Does, Ran, Ends, Where}
@@ -17,7 +17,9 @@ use Rattle.pf_session.specs.Restored.{KeepsBeside}
 use Rattle.pf_session.specs.Drawing.{WordsCame}
 use Rattle.pf_session.specs.Flushing.{SealsEach, SealGoes, node_short, call_failed, flushed, FlushGoes, no_words, had_words, IsUndamaged, UndamagedFlush}
 use Rattle.pf_session.specs.Aside.{LeavesOthers, LeavesNamed, LeavesAllBut, KeepsAllBut, LeavesApart, KeepsApart, Aside}
-use Rattle.pf_session.specs.Reopening.{LeftAs, HasSheet}
+use Rattle.pf_session.specs.Reopening.{LeftAs, ReadsAs, HasSheet}
+use Rattle.pf_session.specs.Sealing.{StandsNext}
+use Rattle.pf_session.proofs.Versions.{file_beside}
 use Rattle.pf_session.specs.Making.{done_of}
 use Rattle.pf_session.specs.Ending.{KeptOr, PublishedIf, PublishesEach, PublishGoes, not_named, published}
 use Rattle.pf_session.specs.Asking.{NoCall, AnotherCall, Asked}
@@ -32,6 +34,10 @@ recovery_apart name same = omega (arith, ap (λ (l : List ℕ). length l) same, 
 
 recovery_other : (name : Name) → recovery_of name ≢ name
 recovery_other name same = omega (arith, ap (λ (l : List ℕ). length l) same, length-append name (codes ".recovery"))
+
+-- the name reads as the sheet that it has
+pub has_reads : (key : List ℕ) (name : Name) (sheet : Sheet) (d : Disk) → HasSheet key name sheet d → ReadsAs key name sheet d
+has_reads key name sheet d has = subst (λ (o : Option File). Stands (contents (read_of o)) key sheet) (sym has.there) has.stands
 
 both_and : {A : Type 0} (P Q : A → A → Type 0) (o p : Option A) → Both o p P → Both o p Q → Both o p (λ a b. P a b × Q a b)
 both_and P Q (Some a) (Some b) one two = (one, two)
@@ -131,12 +137,20 @@ sealed_by_flush session mid before after random random' (had_words nonce keys ca
 sealed_by_flush session mid before after random random' (had_words nonce keys came (flushed tree done keeps settled seals new is)) =
     record { name_is = ap (λ (s : SessionState). s.name) new; nonce = nonce; keys = keys; came = came; goes = flushed tree done keeps settled seals new is; seals = seals }
 
+-- a side file with a sheet has the next one in the end
+side_stands : (session : SessionState) (sheet next : Sheet) (before after : HostState) → session.beside ≡ true → StandsNext session.key (file_of session) sheet next before after
+    → Both before.honest after.honest (Where (HasSheet session.key (side_of session.name) sheet) (Ends (λ _. HasSheet session.key (side_of session.name) next)))
+side_stands session sheet next before after beside stands =
+    both_weaker (Where (ReadsAs session.key (side_of session.name) sheet) (Ends (λ _. HasSheet session.key (side_of session.name) next))) _ before.honest after.honest
+    (subst (λ (n : Name). StandsNext session.key n sheet next before after) (file_beside session beside) stands)
+    (λ a b go has. go (has_reads session.key (side_of session.name) sheet a.now has))
+
 -- the sheet that it sealed takes the name
 pub publishes_each : {T E : Type 0} (r : Result T E) (nonce : List ℕ) (keys : List (List ℕ)) (session mid : SessionState) (before between after : HostState) → session.beside ≡ true → SealsEach true nonce keys session mid before between
     → KeepsBeside session.name before between → OnDisk between after (Does (AtOnce r (Swaps (side_of session.name) session.name))) → PublishesEach (done_of r) nonce keys session before after
 publishes_each r nonce keys session mid before between after beside seals keeps does sheet linked backed =
     let next = seals sheet linked backed in
-    (next.next, next.is_next, published_run session next.next r sheet before.honest between.honest after.honest (next.apart beside refl) keeps does)
+    (next.next, next.is_next, published_run session next.next r sheet before.honest between.honest after.honest (side_stands session sheet next.next before between beside (next.stands refl)) keeps does)
 
 -- no damage
 pub not_damaged : (result : Result (Unit {0}) FlushFault) (session : SessionState) (before : HostState) → IsUndamaged result → UndamagedFlush result session before

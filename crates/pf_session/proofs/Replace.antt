@@ -160,11 +160,10 @@ module _ (name side : Name) (apart : side ≢ name) where
     side_stands : (d e f : Disk) → HasCopied (clean_below tree.dirty (node_count tree.size)) d e → SealsFile key next tree.dirty side e f → SideStands key name side sheet next apart d f
     side_stands d e f copied sealed = record {
       others = others_then side d e f copied.others sealed.others;
-      stands = λ stood.
+      stands = λ reads.
           let c = copied.copies in
           let s = sealed.there c.file c.there in
-          let stands : Stands (contents (read_of (d name))) key sheet = subst (λ (o : Option (List ℕ)). Stands (contents o) key sheet) (sym stood.as_sheet.whole) stood.as_sheet.stands in
-          (s.0, s.1, s.2, stands_next key path nonce sheet tree keys next (contents (read_of (d name))) c.file.bytes s.0.bytes key_length has stands (as_sealed.size ∙ shape.size) s.3.longer
+          (s.0, s.1, s.2, stands_next key path nonce sheet tree keys next (contents (read_of (d name))) c.file.bytes s.0.bytes key_length has reads (as_sealed.size ∙ shape.size) s.3.longer
             (λ k i among low high. ((c.within k among).1, c.same k i among low high)) s.3);
     }
 

@@ -30,7 +30,7 @@ module _ (s : SessionState) (nonce : List ℕ) (keys : List (List ℕ)) (before 
   failed_each fault u seals sheet linked backed =
       let next = next_of sheet linked backed in
       let on = seals sheet next.0 (has_next sheet linked backed) in
-      record { next = next.0; is_next = next.1; on_next = λ done. absurd (false≢true done); named = on.named; apart = λ beside done. absurd (false≢true done) }
+      record { next = next.0; is_next = next.1; on_next = λ done. absurd (false≢true done); named = on.named; stands = λ done. absurd (false≢true done) }
 
   pub seal_fails : (fault : FlushFault) (t u : SessionState) → t ≡ record s { tree = t.tree } → u ≡ record t { broken = true } → KeepsShape s.tree t.tree → KeptAtDamage (Err fault) s.tree t.tree → VersionGoes (Err fault) nonce keys s t.tree before after → KeepsName s before after
       → SealsOns (Err fault) nonce keys s before after → SealGoes (Err fault) nonce keys s u before after
@@ -59,7 +59,7 @@ module _ (s : SessionState) (nonce : List ℕ) (keys : List (List ℕ)) (before 
             is_next = next.1;
             on_next = λ done. record { backed = record { path_is = sym next.1.path_is; nonce_is = sym next.1.nonce_is; backs = b.backs }; now_is = b.content_is };
             named = on.named;
-            apart = on.apart;
+            stands = on.stands;
           } in
       flushed mid goes keeps (subst (λ (x : TreeState). IsSettled mid x) (sym same) settled) (subst (λ (x : SessionState). SealsEach true nonce keys s x before after) (sym whole) each)
       (whole ∙ ap (λ (x : TreeState). let y : SessionState = record s { nonce = nonce; drawn = None; tree = x; changed = false } in y) (sym same)) refl

@@ -16,7 +16,7 @@ use Rattle.pf_session.specs.Sealing.{LeavesOthers, ChangesAlone}
 use Rattle.pf_session.specs.declared.fault.FlushFault.{FlushFault}
 use Rattle.pf_session.proofs.Calls.{asked_neither, failed_neither}
 use Rattle.pf_session.proofs.CopyLoop.{copy_keeps}
-use Rattle.pf_session.proofs.Replacing.{side_apart, recovery_not_side, replaced, not_replaced}
+use Rattle.pf_session.proofs.Replacing.{side_apart, recovery_not_side, replaced, stands_replaced, not_replaced}
 use Rattle.pf_session.proofs.Replace.{same_shape, make_stops, copying_stops, sealing_stops, swapping_stops, all_replaced, alone_aside, swap_aside, make_ran, make_alone, then_alone, copy_ran, seal_ran, kept_same, kept_host}
 use Rattle.pf_session.proofs.sealing.replace.Goals as goal
 
@@ -382,6 +382,35 @@ returns-clause-replaces g c =
     λ sheet next has.
     let sealed = seal_ran name side apart key path nonce sheet tree mid keys next c.told-key has (c.in_ok-seal_nodes.ensures.sealed sheet next has) c.seal_nodes.ensures.shape s0.honest s2.honest s3.honest copied_disk c.seal_nodes.ensures.alone (c.in_ok-seal_nodes.ensures.seals sheet next has) in
     replaced key name side sheet next apart not_recovery done_swap s0.honest s3.honest s4.honest sealed c.in_ok-swap_name.ensures.disk
+
+pub returns-clause-stands : goal.returns-clause-stands
+returns-clause-stands g c =
+    let s0 = g.H.Host.state c.args.host.now in
+    let s1 = g.H.Host.state c.make.new.self in
+    let name = c.args.name.now in
+    let side = c.args.side.now in
+    let key = c.args.key.now in
+    let path = c.args.path.now in
+    let nonce = c.args.nonce.now in
+    let tree = c.args.tree.now in
+    let keys = c.args.keys.now in
+    let clean = clean_below tree.dirty (node_count tree.size) in
+    let apart : side ≢ name = λ same. side_apart name (sym c.requires.side ∙ same) in
+    let s2 = g.H.Host.state c.copy_clean.new.host in
+    let clean_is : clean_below c.args.dirty.now c.node_count.result ≡ clean = ap₂ clean_below c.requires.dirty (c.node_count.ensures ∙ ap node_count c.size.ensures.same) in
+    let made = asked_neither (Made side) s0 s1 refl refl c.in_ok-make.ensures.told c.in_ok-make.ensures.cause.still c.make.ensures.counts in
+    let s3 = g.H.Host.state c.seal_nodes.new.host in
+    let mid = c.seal_nodes.new.tree in
+    let copies : Copied name side clean s1 s2 = subst (λ (l : List ℕ). Copied name side l s1 s2) clean_is c.in_ok-copy_clean.ensures.goes in
+    let copies_disk : Both s1.honest s2.honest (Ran (LeavesOthers side) (CopiesInto name side clean)) = subst (λ (l : List ℕ). Both s1.honest s2.honest (Ran (LeavesOthers side) (CopiesInto name side l))) clean_is c.in_ok-copy_clean.ensures.disk in
+    let made_disk = make_ran name side apart (Unit {0}) HostFault tt s0.honest s1.honest c.in_ok-make.ensures.disk in
+    let copied_disk = copy_ran name side apart clean s0.honest s1.honest s2.honest made_disk copies_disk in
+    let alone : ChangesAlone side s0 s3 = then_alone name side apart _ _ s0.honest s2.honest s3.honest copied_disk c.seal_nodes.ensures.alone (λ d e m. m.others) (λ d e keeps. keeps) in
+    let s4 = g.H.Host.state c.swap_name.new.self in
+    let not_recovery : recovery_of name ≢ side = λ same. recovery_not_side name (same ∙ c.requires.side) in
+    λ sheet next has.
+    let sealed = seal_ran name side apart key path nonce sheet tree mid keys next c.told-key has (c.in_ok-seal_nodes.ensures.sealed sheet next has) c.seal_nodes.ensures.shape s0.honest s2.honest s3.honest copied_disk c.seal_nodes.ensures.alone (c.in_ok-seal_nodes.ensures.seals sheet next has) in
+    stands_replaced key name side sheet next apart not_recovery (Unit {0}) HostFault tt s0.honest s3.honest s4.honest sealed c.in_ok-swap_name.ensures.disk
 
 pub returns-in_err-copy_clean-clause-kept : goal.returns-in_err-copy_clean-clause-kept
 returns-in_err-copy_clean-clause-kept g c = kept_same c.from_residual-in_err-copy_clean.result c.args.tree.now
