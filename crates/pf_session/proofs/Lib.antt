@@ -25,3 +25,4 @@ pub mod Changed
 pub mod Rooms
 pub mod Versions
 pub mod Sealings
+pub mod CopiedFile
