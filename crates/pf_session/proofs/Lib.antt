@@ -26,3 +26,5 @@ pub mod Rooms
 pub mod Versions
 pub mod Sealings
 pub mod CopiedFile
+pub mod Apartness
+pub mod Renamed
