@@ -28,3 +28,4 @@ pub mod Sealings
 pub mod CopiedFile
 pub mod Apartness
 pub mod Renamed
+pub mod Relocated
