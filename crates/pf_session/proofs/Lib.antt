@@ -29,3 +29,4 @@ pub mod CopiedFile
 pub mod Apartness
 pub mod Renamed
 pub mod Relocated
+pub mod Carried
