@@ -30,3 +30,4 @@ pub mod Apartness
 pub mod Renamed
 pub mod Relocated
 pub mod Carried
+pub mod Moved

@@ -34,7 +34,7 @@ use Rattle.pf_session.proofs.Standing.{length-image, stands_next}
 
 -- the nodes of a sheet that a tree on it has not changed are in its file
 module _ (key : List ℕ) (sheet : Sheet) (tree : TreeState) (file : List ℕ) (key_length : length key ≡ 16) (backs : Backs sheet tree) (stands : Stands file key sheet) where
-  clean_whole : (k : ℕ) → Contains (clean_below tree.dirty (node_count tree.size)) k → 4096 * k + 4096 ≤ length file
+  pub clean_whole : (k : ℕ) → Contains (clean_below tree.dirty (node_count tree.size)) k → 4096 * k + 4096 ≤ length file
   clean_whole k among =
       let m = clean_member tree.dirty 1 (node_count tree.size - 1) k among in
       let low = m.0 in
@@ -151,7 +151,7 @@ seals_beside s nonce keys mid sheet next old new beside key_length has as_sealed
       record { file = q.0; there = q.1; settled = q.2; stands = stands_in_place s.key s.path nonce sheet s.tree mid keys next f.0.bytes q.0.bytes key_length has as_sealed shape f.2 q.3 }));
 }
 
-for_all : (P : Files → Type 0) (o : Option Files) → ((files : Files) → P files) → IfSome o P
+pub for_all : (P : Files → Type 0) (o : Option Files) → ((files : Files) → P files) → IfSome o P
 for_all P (Some files) each = each files
 for_all P None each = tt
 

@@ -159,7 +159,10 @@ pub record IsKeptOn (sheet : Sheet) (session : SessionState) : Type 0 where
   pub backed : IsBacked sheet session
   pub rests : session.changed ≡ false → RestsOn sheet session
 
--- so of its parts, where the new name is absent
+-- so of its parts, of a session that rests on the sheet, and where the new name is absent
+abbrev pub UndamagedAtRest : Result (Unit {0}) FlushFault → SessionState → HostState → Type 0
+UndamagedAtRest result session before = OnHonest before (λ files. (sheet : Sheet) → RestsOn sheet session → Stands (contents (files session.name)) session.key sheet → IsUndamaged result)
+
 abbrev pub UndamagedCarry : Result (Unit {0}) FlushFault → Name → SessionState → HostState → Type 0
 UndamagedCarry result to old before = OnHonest before (λ files. (sheet : Sheet) → IsKeptOn sheet old → Stands (contents (files old.name)) old.key sheet → files to ≡ None → IsUndamaged result)
 

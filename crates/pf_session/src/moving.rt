@@ -10,7 +10,7 @@ ghost use Rattle.pf_session.specs.Aside.{AsideBoth, LeavesOthers};
 ghost use Rattle.pf_session.specs.Copying.{clean_below};
 ghost use Rattle.pf_session.specs.Flushing.{host_part, words_part};
 ghost use Rattle.pf_session.specs.Making.{StepsGo, ReplaceUndamaged, done_of};
-ghost use Rattle.pf_session.specs.Moving.{CarryGoes, Carries, CarryEnds, MoveGoes, UndamagedMove, UndamagedCarry, after_carry, move_host_part, move_words_part};
+ghost use Rattle.pf_session.specs.Moving.{CarryGoes, Carries, CarryEnds, MoveGoes, UndamagedMove, UndamagedCarry, UndamagedAtRest, after_carry, move_host_part, move_words_part};
 ghost use Rattle.pf_session.specs.Relocating.{PutLeaves, MakesCopy, CopyFileGoes, NameImage, NameLeaves, RelocateImage, RelocateLeaves, RelocateGoes, put_steps, name_steps};
 
 
@@ -127,7 +127,7 @@ impl Session {
         ensures goes { CarryGoes result path.now nonce.now self.old (H.state host.old) (H.state host.new) }
         ensures carries { Carries (done_of result) path.now nonce.now self.old (H.state host.old) (H.state host.new) }
         ensures cause { HasCause (H.state host.old).faults (H.state host.new).faults (host_part result) }
-        ensures undamaged { ReplaceUndamaged result self.old.name (clean_below [] (node_count self.old.tree.size)) (H.state host.old) }
+        ensures undamaged { UndamagedAtRest result self.old (H.state host.old) }
     {
         let node = make_node(&self.key, path, nonce, &self.tree);
         let count = node_count(self.tree.size());
