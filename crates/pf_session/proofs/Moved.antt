@@ -21,7 +21,7 @@ use Rattle.pf_session.specs.Copying.{clean_below}
 use Rattle.pf_session.specs.Drawing.{IsDrawn, WordsCame, WordsLacked}
 use Rattle.pf_session.specs.Flushing.{SealsEach, SealGoes, node_short, call_failed, flushed, IsUndamaged, UndamagedFlush}
 use Rattle.pf_session.specs.Making.{ReplaceUndamaged, done_of}
-use Rattle.pf_session.specs.Moving.{CarryGoes, Carries, CarryEnds, carry_failed, carried, FlushesFirst, as_it_is, MoveLacksWords, flush_words, after_carry, IsKeptOn, UndamagedAtRest, UndamagedCarry}
+use Rattle.pf_session.specs.Moving.{CarryGoes, Carries, CarryEnds, flush_failed, carry_failed, carried, FlushesFirst, as_it_is, MoveLacksWords, flush_words, after_carry, IsKeptOn, UndamagedAtRest, UndamagedCarry}
 use Rattle.pf_session.specs.Reopening.{ReadsAs, HasSheet}
 use Rattle.pf_session.specs.declared.fault.FlushFault.{FlushFault}
 use Rattle.pf_session.specs.declared.fault.FlushFault.TheVariants as faults
@@ -141,3 +141,8 @@ module _ (old mid : SessionState) (nonce : List ℕ) (keys : List (List ℕ)) (b
           let at_name = subst (λ (b : Bool). Both before.honest between.honest (Where (ReadsAs old.key (cond b (side_of old.name) old.name) sheet) (Ends (λ _. HasSheet old.key (cond b (side_of old.name) old.name) seals.next)))) named next in
           flushed_then a between.honest sheet seals.next (subst (λ (o : Option Honest). Both o between.honest (Where (ReadsAs old.key old.name sheet) (Ends (λ _. HasSheet old.key old.name seals.next)))) is at_name) stands
           (record { stands = seals.on_next refl; clean = sealed.clean }) undamaged
+
+pub not_flushed_ends : (fault : FlushFault) (to : Name) (sealed : List ℕ) (keys : List (List ℕ)) (nonce : List ℕ) (old new : SessionState) (before after : HostState) (random between random' : WordsState) → old.changed ≡ true → WordsCame old.drawn (length old.tree.dirty) sealed keys random between
+    → IsDrawn nonce between random' → SealGoes (Err fault) sealed keys old new before after → Aside old.name before after → CarryEnds (Err fault) to old new before after random random'
+not_flushed_ends fault to sealed keys nonce old new before after random between random' changed came drawn goes aside =
+    flush_failed fault (record { sealed = sealed; keys = keys; nonce = nonce; between = between; is_changed = changed; came = came; drawn = drawn; goes = goes; aside = aside }) refl
