@@ -31,3 +31,4 @@ pub mod Renamed
 pub mod Relocated
 pub mod Carried
 pub mod Moved
+pub mod MovedTo
