@@ -58,7 +58,7 @@ since_before P None p (Some c) X all last = absurd all
 module _ (to : Name) (old : SessionState) (before start : HostState) (free : IsFree to before start) where
   still_absent : (mid : SessionState) (nonce : List ℕ) (between : HostState) (random random' : WordsState) → FlushesFirst old mid nonce start between random random' → mid.name ≢ to → OnDisk before between (λ a b. b.now to ≡ None)
   still_absent mid nonce between random random' (as_it_is calm same still drawn) ne = subst (λ (s : HostState). OnDisk before s (λ a b. b.now to ≡ None)) (sym still) free.absent
-  still_absent mid nonce between random random' (flushed sealed keys words changed came drawn goes aside) ne =
+  still_absent mid nonce between random random' (flushed sealed keys words changed came drawn goes aside reads) ne =
       let name_is = (is_sealed old mid sealed keys start between goes).name_is in
       both_then (λ a b. b.now to ≡ None) (Ran (LeavesApart old.name) (KeepsApart old.name)) (λ a b. b.now to ≡ None) before.honest start.honest between.honest free.absent aside
       (λ a b c none run. run.ends to (apart_name to old.name free.is_target (λ same. ne (name_is ∙ sym same))) ∙ none)
@@ -72,7 +72,7 @@ module _ (to : Name) (old : SessionState) (before start : HostState) (free : IsF
 
   name_kept : (mid : SessionState) (nonce : List ℕ) (between : HostState) (random random' : WordsState) → FlushesFirst old mid nonce start between random random' → mid.name ≡ old.name
   name_kept mid nonce between random random' (as_it_is calm same still drawn) = ap (λ (s : SessionState). s.name) same
-  name_kept mid nonce between random random' (flushed sealed keys words changed came drawn goes aside) = (is_sealed old mid sealed keys start between goes).name_is
+  name_kept mid nonce between random random' (flushed sealed keys words changed came drawn goes aside reads) = (is_sealed old mid sealed keys start between goes).name_is
 
   -- how it ends
 

@@ -95,7 +95,7 @@ returns-clause-ends g c =
     let keys = c.deref-2.result.now in
     let s2 = g.H.Host.state c.carry.new.host in
     let mid = c.seal.new.self in
-    ends c.carry.result to nonce s mid c.carry.new.self s0 s1 s2 r0 r2 (flushed sealed keys r1 c.requires.changed came_keys c.in_ok-own.ensures.drawn c.in_ok-seal.ensures.goes c.seal.ensures.aside)
+    ends c.carry.result to nonce s mid c.carry.new.self s0 s1 s2 r0 r2 (flushed sealed keys r1 c.requires.changed came_keys c.in_ok-own.ensures.drawn c.in_ok-seal.ensures.goes c.seal.ensures.aside (g.met.H.Host.reads_as_image c.seal.new.host))
     c.carry.ensures.goes c.carry.ensures.carries c.carry.ensures.state
 
 pub returns-clause-aside : goal.returns-clause-aside
