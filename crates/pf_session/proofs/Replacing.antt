@@ -17,16 +17,7 @@ use Rattle.pf_session.specs.Reopening.{ReopensAs, LeftAs, AsEither, Stood, Reads
 use Rattle.pf_session.specs.Sealing.{LeavesOthers, HasNext, HasSealed, SealsFile, StoodOrKept, StoodIf}
 use Rattle.pf_session.specs.Making.{done_of}
 use Rattle.pf_session.proofs.Disks.{first_change, next_changes, ends_weaker}
-use Rattle.pf_session.proofs.Standing.{stands_next}
-
-pub side_apart : (name : Name) → side_of name ≢ name
-side_apart name same = let l = ap (λ (n : Name). length n) same in omega (arith, l, length-append name (codes ".new"))
-
-pub recovery_apart : (name : Name) → recovery_of name ≢ name
-recovery_apart name same = let l = ap (λ (n : Name). length n) same in omega (arith, l, length-append name (codes ".recovery"))
-
-pub recovery_not_side : (name : Name) → recovery_of name ≢ side_of name
-recovery_not_side name same = let l = ap (λ (n : Name). length n) same in omega (arith, l, length-append name (codes ".recovery"), length-append name (codes ".new"))
+use Rattle.pf_session.proofs.Names.{recovery_apart}
 
 -- the name as it was leaves the sheet that it stood for
 pub kept_left : (key : List ℕ) (name : Name) (sheet : Sheet) (d : Disk) (image : Image) → Stood key name sheet d → IsImageAt (d name) (image name) → LeftAs key name sheet image

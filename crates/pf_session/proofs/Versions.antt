@@ -75,21 +75,7 @@ module _ (s : SessionState) (nonce : List ℕ) (keys : List (List ℕ)) (mid : T
     asked = same_asked _ _ NoCall old new (ap (λ (b : Bool). steps_by b s nonce keys goes.blocks mid) (sym beside)) goes.asked;
   }
   named_goes (Err faults.Words) beside shape goes = goes
-  named_goes (Err (faults.Damaged damage)) beside shape goes = (
-    beside,
-    record {
-      done = goes.done;
-      left = goes.left;
-      blocks = goes.blocks;
-      block = goes.block;
-      in_order = goes.in_order;
-      are_blocks = goes.are_blocks;
-      short = goes.short;
-      kind_is = goes.kind_is;
-      asked = goes.asked;
-      alone = goes.alone;
-    },
-  )
+  named_goes (Err (faults.Damaged damage)) beside shape goes = (beside, goes)
   named_goes (Err faults.Host) beside shape goes = record {
     blocks = goes.blocks;
     are_blocks = goes.are_blocks;
@@ -151,7 +137,7 @@ seals_beside s nonce keys mid sheet next old new beside key_length has as_sealed
       record { file = q.0; there = q.1; settled = q.2; stands = stands_in_place s.key s.path nonce sheet s.tree mid keys next f.0.bytes q.0.bytes key_length has as_sealed shape f.2 q.3 }));
 }
 
-for_all : (P : Files → Type 0) (o : Option Files) → ((files : Files) → P files) → IfSome o P
+pub for_all : (P : Files → Type 0) (o : Option Files) → ((files : Files) → P files) → IfSome o P
 for_all P (Some files) each = each files
 for_all P None each = tt
 
