@@ -1,5 +1,5 @@
 -- The names beside a session's name.
-use Rattle.std.proofs.Common.{◌≡◌, ◌≢◌, ℕ, List, length, ap, arith, append_assoc, length-append}
+use Rattle.std.proofs.Common.{◌≡◌, ◌≢◌, length, ap, arith, append_assoc, length-append}
 use Rattle.std.specs.Prelude.{codes}
 use Rattle.pf_io.specs.Disk.{Name}
 use Rattle.pf_io.specs.Names.{recovery_of, side_of, side_recovery_of}

@@ -1,9 +1,8 @@
 -- A side file that is flushed, and then takes the name.
-use Rattle.std.proofs.Common.{◌≡◌, ◌≢◌, ◌⊎◌, inl, inr, ⊎_elim, ℕ, List, [], ◌∷◌, length, refl, ap, sym, subst, ◌∙◌, arith, length-append, Bool, true, false, Option, Some, None, IfSome, Result, Ok, Err}
-use Rattle.std.specs.Prelude.{codes}
+use Rattle.std.proofs.Common.{◌≡◌, ◌≢◌, inl, inr, ⊎_elim, ℕ, List, [], ◌∷◌, length, refl, ap, sym, subst, ◌∙◌, Bool, true, false, Option, Some, None, Result, Ok, Err}
 use Rattle.node_tree.specs.Sheet.{Sheet, Stands}
-use Rattle.pf_io.specs.Disk.{Name, File, Disk, Image, IsImage, IsImageAt, IsSettledFile, read_of}
-use Rattle.pf_io.specs.Host.{Files, Swapped, HostState, Both, OnDisk, contents, files_of}
+use Rattle.pf_io.specs.Disk.{Name, File, Disk, Image, IsImage, IsImageAt, read_of}
+use Rattle.pf_io.specs.Host.{Swapped, HostState, Both, OnDisk, contents, files_of}
 use Rattle.pf_io.specs.Words.{WordsState}
 use Rattle.pf_io.specs.Moments.{Honest, Does, Ran, Ends, Where}
 use Rattle.pf_io.specs.Names.{recovery_of, side_of}
@@ -12,7 +11,6 @@ use Rattle.pf_io.proofs.Images.{settled_at, swapped_others}
 use Rattle.pf_io.proofs.Runs.{started, goes_on}
 use Rattle.pf_io.proofs.Telling.{both_then, both_weaker}
 use Rattle.pf_session.specs.State.{SessionState, file_of}
-use Rattle.pf_session.specs.Backing.{IsBacked}
 use Rattle.pf_session.specs.Restored.{KeepsBeside}
 use Rattle.pf_session.specs.Drawing.{WordsCame}
 use Rattle.pf_session.specs.Flushing.{SealsEach, SealGoes, node_short, call_failed, flushed, FlushGoes, no_words, had_words, IsUndamaged, UndamagedFlush}

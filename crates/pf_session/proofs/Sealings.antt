@@ -1,21 +1,20 @@
 -- The sealing of a session, from the writing of its version.
-use Rattle.std.proofs.Common.{◌≡◌, ℕ, Bool, true, false, List, [], length, refl, ap, ◌∙◌, sym, subst, None, Result, Ok, Err}
+use Rattle.std.proofs.Common.{◌≡◌, ℕ, true, false, List, length, refl, ap, ◌∙◌, sym, subst, None, Ok, Err}
 use Rattle.std.proofs.lemmas.Bool.{false≢true}
 use Rattle.pf_io.specs.Host.{HostState}
 use Rattle.node_layout.specs.Metadata.{IsPath}
-use Rattle.node_layout.specs.declared.damage.Damage.{Damage}
-use Rattle.node_tree.specs.Existing.{AreKeys, MayBeSealed}
+use Rattle.node_tree.specs.Existing.{AreKeys}
 use Rattle.node_tree.specs.Next.{NextSheet, KeepsShape, IsSealedAs, IsSettled}
 use Rattle.node_tree.specs.Sheet.{Sheet, IsLinked}
 use Rattle.node_tree.specs.State.{TreeState, IsSound}
 use Rattle.node_tree.specs.Stepping.{BacksWith}
 use Rattle.node_tree.proofs.Following.{next_exists}
 use Rattle.pf_session.specs.State.{SessionState}
-use Rattle.pf_session.specs.Backing.{IsBacked, StandsOn}
+use Rattle.pf_session.specs.Backing.{IsBacked}
 use Rattle.pf_session.specs.Sealing.{HasNext}
-use Rattle.pf_session.specs.Making.{done_of, KeptAtDamage}
-use Rattle.pf_session.specs.Flushing.{Seals, SealsEach, KeepsName, SealGoes, node_short, call_failed, flushed}
-use Rattle.pf_session.specs.Versions.{VersionGoes, SealsOn, SealsOns, SealedAll}
+use Rattle.pf_session.specs.Making.{KeptAtDamage}
+use Rattle.pf_session.specs.Flushing.{SealsEach, KeepsName, SealGoes, node_short, call_failed, flushed}
+use Rattle.pf_session.specs.Versions.{VersionGoes, SealsOns, SealedAll}
 use Rattle.pf_session.specs.declared.fault.FlushFault.{FlushFault}
 use Rattle.pf_session.specs.declared.fault.FlushFault.TheVariants as faults
 

@@ -1,15 +1,12 @@
-use Rattle.std.proofs.Common.{◌≡◌, ◌≢◌, ◌∷◌, [], ℕ, List, length, refl, ap, ap₂, ◌∙◌, sym, subst, Result, Ok, Err}
+use Rattle.std.proofs.Common.{◌≡◌, ◌≢◌, ℕ, List, refl, ap, ap₂, ◌∙◌, sym, subst, Result, Ok, Err}
 use Rattle.std.proofs.lemmas.Result.{err_from_is_err_and}
 use Rattle.pf_io.specs.Counts.{HasCause}
-use Rattle.pf_io.specs.Disk.{Name}
 use Rattle.pf_io.specs.Host.{Made, Swapped, Both}
 use Rattle.pf_io.specs.Moments.{Ran}
-use Rattle.pf_io.specs.Steps.{KeepsOthers}
-use Rattle.pf_io.specs.Names.{side_of, recovery_of}
+use Rattle.pf_io.specs.Names.{recovery_of}
 use Rattle.pf_io.specs.declared.faults.HostFault.{HostFault}
 use Rattle.node_layout.specs.Places.{node_count}
-use Rattle.pf_session.specs.Asking.{NoCall, Asked}
-use Rattle.pf_session.specs.Copying.{clean_below, CopyGoes, CopyLeaves, Copied, CopiesInto}
+use Rattle.pf_session.specs.Copying.{clean_below, CopyGoes, Copied, CopiesInto}
 use Rattle.pf_session.specs.Flushing.{host_part}
 use Rattle.pf_session.specs.Making.{ReplaceGoes}
 use Rattle.pf_session.specs.Sealing.{LeavesOthers, ChangesAlone}
@@ -18,7 +15,7 @@ use Rattle.pf_session.proofs.Calls.{asked_neither, failed_neither}
 use Rattle.pf_session.proofs.CopyLoop.{copy_keeps}
 use Rattle.pf_session.proofs.Names.{side_apart, recovery_not_side}
 use Rattle.pf_session.proofs.Replacing.{replaced, stands_replaced, not_replaced}
-use Rattle.pf_session.proofs.Replace.{same_shape, make_stops, copying_stops, sealing_stops, swapping_stops, all_replaced, alone_aside, swap_aside, make_ran, make_alone, then_alone, copy_ran, seal_ran, kept_same, kept_host}
+use Rattle.pf_session.proofs.Replace.{make_stops, copying_stops, sealing_stops, swapping_stops, all_replaced, alone_aside, swap_aside, make_ran, make_alone, then_alone, copy_ran, seal_ran, kept_same, kept_host}
 use Rattle.pf_session.proofs.sealing.replace.Goals as goal
 
 pub returns-in_err-make-clause-goes : goal.returns-in_err-make-clause-goes

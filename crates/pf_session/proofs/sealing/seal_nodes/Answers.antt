@@ -1,8 +1,8 @@
-use Rattle.std.proofs.Common.{◌≡◌, ◌∷◌, [], ◌++◌, ℕ, List, length, replicate, refl, append_assoc, ap, ◌∙◌, sym, subst, arith, rules, Ok, Err}
+use Rattle.std.proofs.Common.{◌≡◌, ◌∷◌, [], ◌++◌, ℕ, List, length, append_assoc, ap, ◌∙◌, arith, rules}
 use Rattle.std.proofs.lemmas.Result.{err_from_is_err_and}
 use Rattle.pf_io.specs.declared.faults.HostFault.{HostFault}
 use Rattle.pf_io.specs.Host.{Answer, Wrote, Synced}
-use Rattle.pf_io.specs.Steps.{KeepsOthers, Changes, Writes, Syncs}
+use Rattle.pf_io.specs.Steps.{KeepsOthers}
 use Rattle.node_tree.specs.Sealing.{writes_of}
 use Rattle.node_tree.specs.State.{held_at}
 use Rattle.pf_session.specs.Asking.{NoCall}
