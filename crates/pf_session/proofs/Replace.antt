@@ -162,9 +162,13 @@ module _ (name side : Name) (apart : side ≢ name) where
       others = others_then side d e f copied.others sealed.others;
       stands = λ reads.
           let c = copied.copies in
-          let s = sealed.there c.file c.there in
-          (s.0, s.1, s.2, stands_next key path nonce sheet tree keys next (contents (read_of (d name))) c.file.bytes s.0.bytes key_length has reads (as_sealed.size ∙ shape.size) s.3.longer
-            (λ k i among low high. ((c.within k among).1, c.same k i among low high)) s.3);
+          let s = sealed.there c.file c.there in (
+            s.0,
+            s.1,
+            s.2,
+            stands_next key path nonce sheet tree keys next (contents (read_of (d name))) c.file.bytes s.0.bytes key_length has reads (as_sealed.size ∙ shape.size) s.3.longer
+                (λ k i among low high. ((c.within k among).1, c.same k i among low high)) s.3,
+          );
     }
 
     pub seal_ran : (o p q : Option Honest) → Both o p (Ran (LeavesOthers side) (HasCopied (clean_below tree.dirty (node_count tree.size)))) → Both p q (Ran (LeavesOthers side) (KeepsOthers side)) → Both p q (Ends (SealsFile key next tree.dirty side))

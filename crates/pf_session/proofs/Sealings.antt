@@ -49,16 +49,16 @@ module _ (s : SessionState) (nonce : List ℕ) (keys : List (List ℕ)) (before 
       let whole : u ≡ record s { nonce = nonce; drawn = None; tree = tree; changed = false } = is ∙ ap (λ (x : SessionState). let y : SessionState = record x { nonce = nonce; drawn = None; tree = tree; changed = false } in y) rest in
       let same : u.tree ≡ tree = ap (λ (x : SessionState). x.tree) is in
       let each : SealsEach true nonce keys s (record s { nonce = nonce; drawn = None; tree = tree; changed = false }) before after = λ sheet linked back.
-          let next = next_of sheet linked back in
-          let has = has_next sheet linked back in
-          let on = seals sheet next.0 has in
-          let b = backed next.0 (sealed sheet next.0 has) in
-          record {
-            next = next.0;
-            is_next = next.1;
-            on_next = λ done. record { backed = record { path_is = sym next.1.path_is; nonce_is = sym next.1.nonce_is; backs = b.backs }; now_is = b.content_is };
-            named = on.named;
-            stands = on.stands;
-          } in
+      let next = next_of sheet linked back in
+      let has = has_next sheet linked back in
+      let on = seals sheet next.0 has in
+      let b = backed next.0 (sealed sheet next.0 has) in
+      record {
+        next = next.0;
+        is_next = next.1;
+        on_next = λ done. record { backed = record { path_is = sym next.1.path_is; nonce_is = sym next.1.nonce_is; backs = b.backs }; now_is = b.content_is };
+        named = on.named;
+        stands = on.stands;
+      } in
       flushed mid goes keeps (subst (λ (x : TreeState). IsSettled mid x) (sym same) settled) (subst (λ (x : SessionState). SealsEach true nonce keys s x before after) (sym whole) each)
       (whole ∙ ap (λ (x : TreeState). let y : SessionState = record s { nonce = nonce; drawn = None; tree = x; changed = false } in y) (sym same)) refl

@@ -349,7 +349,6 @@ returns-in_err-swap_name-clause-kept g c =
     let p = err_from_is_err_and c.from_residual-in_err-swap_name.result c.from_residual-in_err-swap_name.ensures.1 in
     rw p.1 (kept_host p.0 c.args.tree.now c.seal_nodes.new.tree p.2)
 
-
 pub returns-in_err-copy_clean-clause-cause : goal.returns-in_err-copy_clean-clause-cause
 returns-in_err-copy_clean-clause-cause g c =
     let p = err_from_is_err_and c.from_residual-in_err-copy_clean.result c.from_residual-in_err-copy_clean.ensures.1 in
