@@ -142,3 +142,32 @@ fn where_too_many_nodes_would_be_dirty_the_session_is_flushed_first(rt: HostRunt
     assert_eq!(rt; session.dirty(), 10);
     Ok(())
 }
+
+// The last of 5000 bytes are 3.
+fn expect_threes(rt: &impl Abort, session: &mut Session, host: &mut MemHost) {
+    assert!(rt; !session.broken());
+    assert_eq!(rt; session.size(), 5000);
+    let mut to = [0; 200];
+    assert_eq!(rt; session.read(host, 4900, &mut to), Ok(100));
+    assert!(rt; to.iter().take(100).all(|byte| *byte == 3));
+}
+
+#[test]
+fn a_large_content_is_changed_again_after_it_was_opened(rt: HostRuntime) -> Result<(), Fail> {
+    let alloc = rt.alloc();
+    let mut host = MemHost::new(alloc);
+    let mut random = words_of(alloc, 120)?;
+    let mut session = new_file(&rt, alloc, &mut host, &mut random);
+    write_pieces(&rt, &mut session, &mut host, &mut random);
+    let grown = set_size(&rt, &mut session, &mut host, &mut random, 196_608);
+    assert_eq!(rt; grown, Ok(Written { flushed_before: true }));
+    flush(&rt, &mut session, &mut host, &mut random);
+    let mut session = reopened(&rt, alloc, &mut host);
+    write_pieces(&rt, &mut session, &mut host, &mut random);
+    let shrunk = set_size(&rt, &mut session, &mut host, &mut random, 5000);
+    assert_eq!(rt; shrunk, Ok(AT_ONCE));
+    flush(&rt, &mut session, &mut host, &mut random);
+    let mut session = reopened(&rt, alloc, &mut host);
+    expect_threes(&rt, &mut session, &mut host);
+    Ok(())
+}

@@ -23,8 +23,6 @@ mod opening_tests;
 mod reading;
 mod sealing;
 mod session;
-#[cfg(test)]
-mod tests;
 
 pub use fault::{BesideFault, CreateFault, FlushFault, SizeFault, WriteFault, Written};
 pub use laws::openings_are_decided;
