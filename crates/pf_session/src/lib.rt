@@ -13,7 +13,11 @@ mod drawing;
 mod ending;
 mod fault;
 mod file_name;
+#[cfg(test)]
+mod fixtures;
 mod flushing;
+#[cfg(test)]
+mod flushing_tests;
 mod laws;
 mod node_zero;
 mod open_fault;
