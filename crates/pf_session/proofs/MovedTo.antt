@@ -17,7 +17,7 @@ use Rattle.pf_session.specs.Aside.{LeavesApart, KeepsApart, LeavesApartBoth, Kee
 use Rattle.pf_session.specs.Creating.{LooksUp}
 use Rattle.pf_session.specs.Faults.{move_of_flush}
 use Rattle.pf_session.specs.Flushing.{IsUndamaged, host_part, words_part}
-use Rattle.pf_session.specs.Moving.{renamed, Carries, Moves, FlushesFirst, as_it_is, flushed, IsFree, CarryEnds, lacked_words, flush_failed, carry_failed, carried, MoveGoes, no_words, not_flushed, not_moved, moved, move_host_part, move_words_part, IsUndamagedMove, IsKeptOn, UndamagedCarry, UndamagedMove}
+use Rattle.pf_session.specs.Moving.{renamed, IsGone, Carries, Moves, FlushesFirst, as_it_is, flushed, IsFree, CarryEnds, lacked_words, flush_failed, carry_failed, carried, MoveGoes, no_words, not_flushed, not_moved, moved, move_host_part, move_words_part, IsUndamagedMove, IsKeptOn, UndamagedCarry, UndamagedMove}
 use Rattle.pf_session.specs.declared.fault.FlushFault.{FlushFault}
 use Rattle.pf_session.specs.declared.fault.FlushFault.TheVariants as flushes
 use Rattle.pf_session.specs.declared.fault.MoveFault.{MoveFault}
@@ -47,6 +47,14 @@ then_at_start P X o None (Some c) was next = absurd next
 then_at_start P X None (Some b) (Some c) was next = absurd was
 then_at_start P X (Some a) None None was next = absurd was
 
+-- what holds at the end of the last calls holds at the end of all
+since_before : (P : Honest → Type 0) (o p q : Option Honest) (X : Honest → Honest → Type 0) → Both o q X → Both p q (λ a b. P b) → Both o q (λ a b. P b)
+since_before P (Some a) (Some b) (Some c) X all last = last
+since_before P None p None X all last = tt
+since_before P (Some a) None (Some c) X all last = absurd last
+since_before P (Some a) p None X all last = absurd all
+since_before P None p (Some c) X all last = absurd all
+
 module _ (to : Name) (old : SessionState) (before start : HostState) (free : IsFree to before start) where
   still_absent : (mid : SessionState) (nonce : List ℕ) (between : HostState) (random random' : WordsState) → FlushesFirst old mid nonce start between random random' → mid.name ≢ to → OnDisk before between (λ a b. b.now to ≡ None)
   still_absent mid nonce between random random' (as_it_is calm same still drawn) ne = subst (λ (s : HostState). OnDisk before s (λ a b. b.now to ≡ None)) (sym still) free.absent
@@ -61,6 +69,10 @@ module _ (to : Name) (old : SessionState) (before start : HostState) (free : IsF
         then_at_start (λ h. h.now to ≡ None) (Ran (LeavesApartBoth mid.name to) (KeepsApartBoth mid.name to)) before.honest between.honest after.honest (still_absent mid nonce between random random' first ne) carries.aside;
     carries = carries;
   }
+
+  name_kept : (mid : SessionState) (nonce : List ℕ) (between : HostState) (random random' : WordsState) → FlushesFirst old mid nonce start between random random' → mid.name ≡ old.name
+  name_kept mid nonce between random random' (as_it_is calm same still drawn) = ap (λ (s : SessionState). s.name) same
+  name_kept mid nonce between random random' (flushed sealed keys words changed came drawn goes aside) = (is_sealed old mid sealed keys start between goes).name_is
 
   -- how it ends
 
@@ -83,6 +95,14 @@ module _ (to : Name) (old : SessionState) (before start : HostState) (free : IsF
   succeeds last new after random random' (carry_failed between mid nonce other first goes carries state is) named = absurd (cc)
   succeeds last new after random random' (carried between mid nonce first goes carries state is) named =
       moved start between mid nonce free first goes (moves true mid nonce between after random random' first carries) (named ∙ ap (λ (s : SessionState). let t : SessionState = record s { name = to; path = to } in t) state) refl
+
+  pub gone : (last : SessionState) (after : HostState) (random random' : WordsState) → CarryEnds (Ok tt) to old last start after random random' → AsideBoth old.name to before after → IsGone old.name before after
+  gone last after random random' (lacked_words lacks same still is) aside = absurd (cc)
+  gone last after random random' (flush_failed other unsealed is) aside = absurd (cc)
+  gone last after random random' (carry_failed between mid nonce other first goes carries state is) aside = absurd (cc)
+  gone last after random random' (carried between mid nonce first goes carries state is) aside =
+      since_before (λ h. h.now old.name ≡ None) before.honest between.honest after.honest (Ran (LeavesApartBoth old.name to) (KeepsApartBoth old.name to)) aside
+      (subst (λ (n : Name). IsGone n between after) (name_kept mid nonce between random random' first) (carries.gone refl))
 
   -- damages
 

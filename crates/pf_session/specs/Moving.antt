@@ -52,8 +52,13 @@ pub record MovesOn (done : Bool) (to : Name) (nonce : List ℕ) (base : Sheet) (
   pub moved : OnDisk before after (Where (λ disk. Stood session.key session.name base disk × (disk to ≡ None)) (Ran (λ disk. MovedAs session.key session.name base to next) (MovedIf done session.key session.name to next)))
   pub stands : done ≡ true → OnDisk before after (Where (λ disk. ReadsAs session.key session.name base disk × (disk to ≡ None)) (Ends (IsMoved session.key session.name to next)))
 
--- The file of a session of which nothing is to be sealed is moved.
+-- a name is absent in the end
+abbrev pub IsGone : Name → HostState → HostState → Type 0
+IsGone name before after = OnDisk before after (λ old new. new.now name ≡ None)
+
+-- The file of a session of which nothing is to be sealed is moved. Where this is done, the old name is absent.
 pub record Carries (done : Bool) (to : Name) (nonce : List ℕ) (session : SessionState) (before after : HostState) : Type 0 where
+  pub gone : done ≡ true → IsGone session.name before after
   pub aside : AsideBoth session.name to before after
   pub each : (base : Sheet) → IsLinked base → RestsOn base session → MovesOn done to nonce base session before after
 

@@ -14,7 +14,7 @@ use Rattle.pf_session.specs.declared.fault.MoveFault.TheVariants as faults
 use Rattle.pf_session.proofs.Questions.{length_asked, length_failed}
 use Rattle.pf_session.proofs.Created.{err_is, some_there, none_there}
 use Rattle.pf_session.proofs.Moved.{both_none, both_kept, both_on}
-use Rattle.pf_session.proofs.MovedTo.{is_free, fails, succeeds, undamaged, none_damaged, host_same, words_same}
+use Rattle.pf_session.proofs.MovedTo.{is_free, fails, succeeds, gone, undamaged, none_damaged, host_same, words_same}
 use Rattle.pf_session.proofs.session.Session.move_to.Goals as goal
 
 pub returns-in_err-side-clause-aside : goal.returns-in_err-side-clause-aside
@@ -150,6 +150,26 @@ returns-clause-goes g c =
     let named : c.rename.new.self ≡ record last { name = to; path = to } =
     c.rename.ensures ∙ ap (λ (n : Name). let t : SessionState = record last { name = n; path = c.in-Some.path } in t) c.in_ok-name.ensures ∙ ap (λ (n : Name). let t : SessionState = record last { name = to; path = n } in t) c.in-Some.ensures.same in
     succeeds to s s0 s1 free last c.rename.new.self s2 r0 r1 (subst (λ (n : Name). CarryEnds r n s last s1 s2 r0 r1) c.in-Some.ensures.same c.in_ok-move_file.ensures.ends) named
+
+pub returns-clause-gone : goal.returns-clause-gone
+returns-clause-gone g c =
+    let s0 = g.H.Host.state c.args.host.now in
+    let s1 = g.H.Host.state c.len.new.self in
+    let s2 = g.H.Host.state c.move_file.new.host in
+    let r0 = g.R.Words.state c.args.random.now in
+    let r1 = g.R.Words.state c.move_file.new.random in
+    let s = c.args.self.now in
+    let last = c.move_file.new.self in
+    let to = c.args.new.now in
+    let none = none_there c.in_ok-len.field-0 c.is_some.result c.is_some.ensures c.if-is_some.false in
+    let looks : LooksUp to None s0 s1 = record {
+      asked = length_asked to s0 s1 c.in_ok-len.field-0 None none c.in_ok-len.ensures.told c.in_ok-len.ensures.cause.still c.len.ensures.counts c.len.ensures.files c.in_ok-len.ensures.honest;
+      disk = kept_once s0 s1 c.len.ensures.disk;
+    } in
+    let free = is_free to s0 s1 (c.in-Some.ensures.named.0 refl) looks in
+    let r : Result (Unit {0}) FlushFault = Ok tt in
+    let all = both_on s.name to s0 s1 s2 (both_kept s.name to s0 s1 (kept_once s0 s1 c.len.ensures.disk)) (subst (λ (n : Name). AsideBoth s.name n s1 s2) c.in-Some.ensures.same c.move_file.ensures.aside) in
+    gone to s s0 s1 free last s2 r0 r1 (subst (λ (n : Name). CarryEnds r n s last s1 s2 r0 r1) c.in-Some.ensures.same c.in_ok-move_file.ensures.ends) all
 
 pub returns-clause-aside : goal.returns-clause-aside
 returns-clause-aside g c =
