@@ -13,7 +13,6 @@ ghost use Rattle.pf_session.specs.Making.{StepsGo, ReplaceUndamaged, done_of};
 ghost use Rattle.pf_session.specs.Moving.{CarryGoes, Carries, CarryEnds, IsGone, MoveGoes, UndamagedMove, UndamagedCarry, UndamagedAtRest, after_carry, move_host_part, move_words_part};
 ghost use Rattle.pf_session.specs.Relocating.{PutLeaves, MakesCopy, CopyFileGoes, NameImage, NameLeaves, RelocateImage, RelocateLeaves, RelocateGoes, put_steps, name_steps};
 
-
 use crate::copying::copy_clean;
 use crate::drawing::{draw_nonce, take_words};
 use crate::fault::{FlushFault, MoveFault};

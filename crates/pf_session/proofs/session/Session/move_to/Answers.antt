@@ -148,7 +148,7 @@ returns-clause-goes g c =
     let free = is_free to s0 s1 (c.in-Some.ensures.named.0 refl) looks in
     let r : Result (Unit {0}) FlushFault = Ok tt in
     let named : c.rename.new.self ≡ record last { name = to; path = to } =
-        c.rename.ensures ∙ ap (λ (n : Name). let t : SessionState = record last { name = n; path = c.in-Some.path } in t) c.in_ok-name.ensures ∙ ap (λ (n : Name). let t : SessionState = record last { name = to; path = n } in t) c.in-Some.ensures.same in
+    c.rename.ensures ∙ ap (λ (n : Name). let t : SessionState = record last { name = n; path = c.in-Some.path } in t) c.in_ok-name.ensures ∙ ap (λ (n : Name). let t : SessionState = record last { name = to; path = n } in t) c.in-Some.ensures.same in
     succeeds to s s0 s1 free last c.rename.new.self s2 r0 r1 (subst (λ (n : Name). CarryEnds r n s last s1 s2 r0 r1) c.in-Some.ensures.same c.in_ok-move_file.ensures.ends) named
 
 pub returns-clause-gone : goal.returns-clause-gone
