@@ -1,22 +1,10 @@
 //! Moves of protected files, and what a crash leaves of them.
+use crate::fixtures::{AT_ONCE, EACH_TEAR, KEY, flush, new_file, words_of, write};
 use crate::{MoveFault, OpenFault, Session};
 use pf_io::{ListWords, MemHost, Tear};
 use std::alloc::Global;
 use std::process::Abort;
 use std::test::Fail;
-
-const KEY: [u8; 16] = [7; 16];
-
-const EACH_TEAR: [Tear; 3] = [Tear::Kept, Tear::Lost, Tear::Fill(b'-')];
-
-// So many random words from one on, each another one.
-fn words_of(alloc: Global, from: u8, count: u8) -> Result<ListWords, Fail> {
-    let mut random = ListWords::new(alloc);
-    for word in 0..count {
-        random.push([from + word; 16])?;
-    }
-    Ok(random)
-}
 
 fn nonce_of(first: u8, second: u8) -> [u8; 32] {
     let mut nonce = [first; 32];
@@ -24,18 +12,25 @@ fn nonce_of(first: u8, second: u8) -> [u8; 32] {
     nonce
 }
 
-fn write(
+// A session on `a.pf` with a sealed content of 5000 bytes 5, which takes six words.
+fn sealed_file(
     rt: &impl Abort,
     alloc: Global,
-    session: &mut Session,
     host: &mut MemHost,
-    at: u64,
-    from: &[u8],
-) -> Result<(), Fail> {
-    let mut random = words_of(alloc, 0, 0)?;
-    assert!(rt; !session.broken());
-    assert!(rt; session.write(host, &mut random, at, from).is_ok());
-    Ok(())
+    random: &mut ListWords,
+) -> Session {
+    let mut session = new_file(rt, alloc, host, random);
+    assert_eq!(rt;
+        write(rt, &mut session, host, random, 0, &[5; 5000]),
+        Ok(AT_ONCE)
+    );
+    flush(rt, &mut session, host, random);
+    session
+}
+
+// The first byte becomes 6, which makes no node dirty.
+fn change(rt: &impl Abort, session: &mut Session, host: &mut MemHost, random: &mut ListWords) {
+    assert_eq!(rt; write(rt, session, host, random, 0, &[6]), Ok(AT_ONCE));
 }
 
 fn move_to(
@@ -48,18 +43,6 @@ fn move_to(
 ) -> Result<(), MoveFault> {
     assert!(rt; !session.broken() && !session.beside);
     session.move_to(alloc, host, random, new)
-}
-
-// A session on `a.pf` with a content of 5000 bytes 5, sealed.
-fn sealed_file(rt: &impl Abort, alloc: Global, host: &mut MemHost) -> Result<Session, Fail> {
-    let mut random = words_of(alloc, 100, 6)?;
-    let Ok(mut session) = Session::create(alloc, host, &mut random, &KEY, "a.pf", "a.pf") else {
-        panic!(rt; "not created");
-    };
-    write(rt, alloc, &mut session, host, 0, &[5; 5000])?;
-    assert!(rt; !session.broken());
-    assert_eq!(rt; session.flush(host, &mut random), Ok(()));
-    Ok(session)
 }
 
 // It opens under its own name as path; `None` where it is absent, else the first byte of its content of 5000 bytes.
@@ -85,141 +68,111 @@ fn first_of(rt: &impl Abort, session: Session, host: &mut MemHost) -> u8 {
 
 #[test]
 fn a_moved_file_has_its_content_under_the_new_name_and_path(rt: HostRuntime) -> Result<(), Fail> {
-    let mut host = MemHost::new(rt.alloc());
-    let mut session = sealed_file(&rt, rt.alloc(), &mut host)?;
-    let mut random = words_of(rt.alloc(), 0, 2)?;
-    assert_eq!(rt;
-        move_to(
-            &rt,
-            rt.alloc(),
-            &mut session,
-            &mut host,
-            &mut random,
-            "b.pf"
-        ),
-        Ok(())
-    );
+    let alloc = rt.alloc();
+    let mut host = MemHost::new(alloc);
+    let mut random = words_of(alloc, 8)?;
+    let mut session = sealed_file(&rt, alloc, &mut host, &mut random);
+    let moved = move_to(&rt, alloc, &mut session, &mut host, &mut random, "b.pf");
+    assert_eq!(rt; moved, Ok(()));
     assert_eq!(rt; session.path().as_str(), "b.pf");
-    assert_eq!(rt; session.nonce(), &nonce_of(0, 1));
+    assert_eq!(rt; session.nonce(), &nonce_of(6, 7));
     assert!(rt; !session.changed() && !session.broken());
-    assert_eq!(rt; first_byte(&rt, rt.alloc(), &mut host, "a.pf"), None);
-    assert_eq!(rt; first_byte(&rt, rt.alloc(), &mut host, "b.pf"), Some(5));
+    assert_eq!(rt; first_byte(&rt, alloc, &mut host, "a.pf"), None);
+    assert_eq!(rt; first_byte(&rt, alloc, &mut host, "b.pf"), Some(5));
     assert_eq!(rt; host.bytes("b.pf.new"), None);
     assert_eq!(rt; host.starved(), 0);
     Ok(())
 }
 
-// The first two words are the nonce of the flush, the next two are the keys of its dirty nodes, and the last two are the move's.
+// Two words are the nonce of the flush, two the keys of its dirty nodes, and two the nonce of the move.
 #[test]
 fn what_was_changed_is_flushed_under_words_of_its_own(rt: HostRuntime) -> Result<(), Fail> {
-    let mut host = MemHost::new(rt.alloc());
-    let mut session = sealed_file(&rt, rt.alloc(), &mut host)?;
-    write(&rt, rt.alloc(), &mut session, &mut host, 0, &[6])?;
-    write(&rt, rt.alloc(), &mut session, &mut host, 4000, &[5])?;
-    let mut random = words_of(rt.alloc(), 0, 6)?;
-    let moved = move_to(
-        &rt,
-        rt.alloc(),
-        &mut session,
-        &mut host,
-        &mut random,
-        "b.pf",
-    );
+    let alloc = rt.alloc();
+    let mut host = MemHost::new(alloc);
+    let mut random = words_of(alloc, 12)?;
+    let mut session = sealed_file(&rt, alloc, &mut host, &mut random);
+    change(&rt, &mut session, &mut host, &mut random);
+    let written = write(&rt, &mut session, &mut host, &mut random, 4000, &[5]);
+    assert_eq!(rt; written, Ok(AT_ONCE));
+    let moved = move_to(&rt, alloc, &mut session, &mut host, &mut random, "b.pf");
     assert_eq!(rt; moved, Ok(()));
-    assert_eq!(rt; session.nonce(), &nonce_of(4, 5));
+    assert_eq!(rt; session.nonce(), &nonce_of(10, 11));
     assert_eq!(rt; session.dirty(), 0);
-    assert_eq!(rt; first_byte(&rt, rt.alloc(), &mut host, "b.pf"), Some(6));
+    assert_eq!(rt; first_byte(&rt, alloc, &mut host, "b.pf"), Some(6));
     Ok(())
 }
 
 fn draw(rt: &impl Abort, session: &mut Session, random: &mut ListWords) -> [u8; 32] {
     assert!(rt; !session.broken());
-    let Ok(nonce) = session.draw(random) else {
-        panic!(rt; "not drawn");
-    };
-    nonce
+    match session.draw(random) {
+        Ok(nonce) => nonce,
+        Err(_fault) => panic!(rt; "not drawn"),
+    }
 }
 
 #[test]
 fn a_nonce_that_was_drawn_stays_for_the_next_flush(rt: HostRuntime) -> Result<(), Fail> {
-    let mut host = MemHost::new(rt.alloc());
-    let mut session = sealed_file(&rt, rt.alloc(), &mut host)?;
-    let mut random = words_of(rt.alloc(), 0, 6)?;
-    assert_eq!(rt; draw(&rt, &mut session, &mut random), nonce_of(0, 1));
-    assert_eq!(rt;
-        move_to(
-            &rt,
-            rt.alloc(),
-            &mut session,
-            &mut host,
-            &mut random,
-            "b.pf"
-        ),
-        Ok(())
-    );
-    assert_eq!(rt; session.nonce(), &nonce_of(2, 3));
-    assert_eq!(rt; draw(&rt, &mut session, &mut random), nonce_of(0, 1));
-    write(&rt, rt.alloc(), &mut session, &mut host, 0, &[6])?;
-    assert_eq!(rt;
-        move_to(
-            &rt,
-            rt.alloc(),
-            &mut session,
-            &mut host,
-            &mut random,
-            "c.pf"
-        ),
-        Ok(())
-    );
-    assert_eq!(rt; session.nonce(), &nonce_of(4, 5));
-    assert_eq!(rt; first_byte(&rt, rt.alloc(), &mut host, "c.pf"), Some(6));
+    let alloc = rt.alloc();
+    let mut host = MemHost::new(alloc);
+    let mut random = words_of(alloc, 12)?;
+    let mut session = sealed_file(&rt, alloc, &mut host, &mut random);
+    assert_eq!(rt; draw(&rt, &mut session, &mut random), nonce_of(6, 7));
+    let moved = move_to(&rt, alloc, &mut session, &mut host, &mut random, "b.pf");
+    assert_eq!(rt; moved, Ok(()));
+    assert_eq!(rt; session.nonce(), &nonce_of(8, 9));
+    assert_eq!(rt; draw(&rt, &mut session, &mut random), nonce_of(6, 7));
+    change(&rt, &mut session, &mut host, &mut random);
+    let moved = move_to(&rt, alloc, &mut session, &mut host, &mut random, "c.pf");
+    assert_eq!(rt; moved, Ok(()));
+    assert_eq!(rt; session.nonce(), &nonce_of(10, 11));
+    assert_eq!(rt; first_byte(&rt, alloc, &mut host, "c.pf"), Some(6));
     Ok(())
 }
 
 #[test]
 fn a_name_that_is_there_or_is_no_target_is_refused(rt: HostRuntime) -> Result<(), Fail> {
-    let mut host = MemHost::new(rt.alloc());
-    let mut session = sealed_file(&rt, rt.alloc(), &mut host)?;
+    let alloc = rt.alloc();
+    let mut host = MemHost::new(alloc);
+    let mut random = words_of(alloc, 8)?;
+    let mut session = sealed_file(&rt, alloc, &mut host, &mut random);
     host.put("b.pf", b"other")?;
-    let mut random = words_of(rt.alloc(), 0, 2)?;
     for name in ["a.pf", "b.pf"] {
-        let moved = move_to(&rt, rt.alloc(), &mut session, &mut host, &mut random, name);
+        let moved = move_to(&rt, alloc, &mut session, &mut host, &mut random, name);
         assert_eq!(rt; moved, Err(MoveFault::TargetExists));
     }
     for name in ["", "b.new", "b.recovery", "."] {
-        let moved = move_to(&rt, rt.alloc(), &mut session, &mut host, &mut random, name);
+        let moved = move_to(&rt, alloc, &mut session, &mut host, &mut random, name);
         assert_eq!(rt; moved, Err(MoveFault::BadName));
     }
     assert_eq!(rt; host.bytes("b.pf"), Some(&b"other"[..]));
-    assert_eq!(rt; first_byte(&rt, rt.alloc(), &mut host, "a.pf"), Some(5));
+    assert_eq!(rt; first_byte(&rt, alloc, &mut host, "a.pf"), Some(5));
+    Ok(())
+}
+
+// A move that needs four words, where so many were there for the file and the move.
+fn move_with_words(rt: &impl Abort, alloc: Global, words: u8) -> Result<(), Fail> {
+    let mut host = MemHost::new(alloc);
+    let mut random = words_of(alloc, words)?;
+    let mut session = sealed_file(rt, alloc, &mut host, &mut random);
+    change(rt, &mut session, &mut host, &mut random);
+    let moved = move_to(rt, alloc, &mut session, &mut host, &mut random, "b.pf");
+    assert_eq!(rt; moved, Err(MoveFault::Words));
+    assert!(rt; session.changed() && !session.broken());
+    assert_eq!(rt; session.path().as_str(), "a.pf");
+    assert_eq!(rt; first_byte(rt, alloc, &mut host, "a.pf"), Some(5));
+    assert_eq!(rt; first_byte(rt, alloc, &mut host, "b.pf"), None);
     Ok(())
 }
 
 #[test]
 fn want_of_words_leaves_the_session_and_its_file(rt: HostRuntime) -> Result<(), Fail> {
-    let mut host = MemHost::new(rt.alloc());
-    let mut session = sealed_file(&rt, rt.alloc(), &mut host)?;
-    write(&rt, rt.alloc(), &mut session, &mut host, 0, &[6])?;
-    for count in 0..4 {
-        let mut random = words_of(rt.alloc(), 0, count)?;
-        let moved = move_to(
-            &rt,
-            rt.alloc(),
-            &mut session,
-            &mut host,
-            &mut random,
-            "b.pf",
-        );
-        assert_eq!(rt; moved, Err(MoveFault::Words));
-        assert!(rt; session.changed() && !session.broken());
-        assert_eq!(rt; session.path().as_str(), "a.pf");
+    for words in 6..10 {
+        move_with_words(&rt, rt.alloc(), words)?;
     }
-    assert_eq!(rt; first_byte(&rt, rt.alloc(), &mut host, "a.pf"), Some(5));
-    assert_eq!(rt; first_byte(&rt, rt.alloc(), &mut host, "b.pf"), None);
     Ok(())
 }
 
-// The move makes so many calls where the session was flushed before it, and more where it was not.
+// A move makes so many calls where the session was flushed before it, and more where it was not.
 const CALLS: u64 = 11;
 
 const CALLS_WITH_FLUSH: u64 = 19;
@@ -233,14 +186,14 @@ fn stop_move(
     changed: bool,
 ) -> Result<(), Fail> {
     let mut host = MemHost::new(alloc);
-    let mut session = sealed_file(rt, alloc, &mut host)?;
+    let mut random = words_of(alloc, 10)?;
+    let mut session = sealed_file(rt, alloc, &mut host, &mut random);
     if changed {
-        write(rt, alloc, &mut session, &mut host, 0, &[6])?;
+        change(rt, &mut session, &mut host, &mut random);
     }
     let mut host = host.after_crash(Tear::Kept)?;
     host.put("c.pf", b"other")?;
     host.stop_at(calls);
-    let mut random = words_of(alloc, 0, 4)?;
     let moved = move_to(rt, alloc, &mut session, &mut host, &mut random, "b.pf");
     let all = if changed { CALLS_WITH_FLUSH } else { CALLS };
     assert_eq!(rt; moved.is_ok(), calls >= all, "{calls} calls");
@@ -267,11 +220,17 @@ fn expect_moved(
     let old = first_byte(rt, alloc, left, "a.pf");
     let new = first_byte(rt, alloc, left, "b.pf");
     assert_eq!(rt; old.is_some(), calls < all, "{calls} calls");
-    assert_eq!(rt; new.is_some(), calls + 1 >= all, "{calls} calls");
-    let flushed = changed && calls >= all - CALLS + 1;
+    assert_eq!(rt; new.is_some(), calls.saturating_add(1) >= all, "{calls} calls");
+    let flushed = changed && calls.saturating_add(CALLS) > all;
     let content = if flushed { 6 } else { 5 };
-    assert!(rt; old.is_none_or(|byte| byte == content), "{calls} calls");
-    assert!(rt; new.is_none_or(|byte| byte == content), "{calls} calls");
+    assert!(rt;
+        matches!(old, None) || old == Some(content),
+        "{calls} calls"
+    );
+    assert!(rt;
+        matches!(new, None) || new == Some(content),
+        "{calls} calls"
+    );
 }
 
 #[test]
