@@ -1,7 +1,8 @@
 //! Moves of protected files, and what a crash leaves of them.
 use crate::fixtures::{AT_ONCE, EACH_TEAR, KEY, flush, new_file, words_of, write};
 use crate::{MoveFault, OpenFault, Session};
-use pf_io::{ListWords, MemHost, Tear};
+use node_layout::{Damage, Kind};
+use pf_io::{Host, ListWords, MemHost, Tear};
 use std::alloc::Global;
 use std::process::Abort;
 use std::test::Fail;
@@ -172,6 +173,25 @@ fn want_of_words_leaves_the_session_and_its_file(rt: HostRuntime) -> Result<(), 
     Ok(())
 }
 
+#[test]
+fn a_short_node_breaks_the_session_and_leaves_the_old_name(rt: HostRuntime) -> Result<(), Fail> {
+    let alloc = rt.alloc();
+    let mut host = MemHost::new(alloc);
+    let mut random = words_of(alloc, 8)?;
+    let mut session = sealed_file(&rt, alloc, &mut host, &mut random);
+    assert_eq!(rt; host.cut("a.pf", 8_200), Ok(()));
+    let damage = Damage {
+        node: 2,
+        kind: Kind::Short,
+    };
+    let moved = move_to(&rt, alloc, &mut session, &mut host, &mut random, "b.pf");
+    assert_eq!(rt; moved, Err(MoveFault::Damaged(damage)));
+    assert!(rt; session.broken());
+    assert!(rt; host.bytes("a.pf").is_some());
+    assert_eq!(rt; host.bytes("b.pf"), None);
+    Ok(())
+}
+
 // A move makes so many calls where the session was flushed before it, and more where it was not.
 const CALLS: u64 = 11;
 
@@ -220,7 +240,11 @@ fn expect_moved(
     let old = first_byte(rt, alloc, left, "a.pf");
     let new = first_byte(rt, alloc, left, "b.pf");
     assert_eq!(rt; old.is_some(), calls < all, "{calls} calls");
-    assert_eq!(rt; new.is_some(), calls.saturating_add(1) >= all, "{calls} calls");
+    assert_eq!(rt;
+        new.is_some(),
+        calls.saturating_add(1) >= all,
+        "{calls} calls"
+    );
     let flushed = changed && calls.saturating_add(CALLS) > all;
     let content = if flushed { 6 } else { 5 };
     assert!(rt;
