@@ -18,7 +18,16 @@ mod SessionWrites
 mod PieceGiving
 mod SessionBegun
 mod EncryptFinding
-mod InputDisk
+mod PieceAnswers
+mod SheetWrites
+mod PiecesStand
+mod InputStands
+mod SealCounts
+mod WriteFails
+mod SealStops
+mod SealDisks
+mod SealSummary
+mod SideBehind
 pub mod Numbered
 pub mod SameBlocks
 pub mod Following
@@ -49,5 +58,8 @@ mod EntryReading
 mod SumsEnding
 mod RunLaws
 mod RunClauses
+mod EncryptRuns
+mod EncryptClauses
+mod RunChoices
 mod RunDisk
 pub mod ContentRuns
