@@ -12,6 +12,7 @@ mod Lists
 mod Conversing
 mod LineCounting
 mod ScriptCounting
+mod ScriptStreams
 mod Drawing
 mod HeldTree
 mod SessionWrites
@@ -58,6 +59,7 @@ mod EntryReading
 mod SumsEnding
 mod RunLaws
 mod RunClauses
+mod ScriptCauses
 mod EncryptRuns
 mod EncryptClauses
 mod RunChoices

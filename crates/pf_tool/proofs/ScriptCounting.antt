@@ -31,8 +31,8 @@ pub record Tally (status h0 h1 r0 r1 : ℕ) : Type 0 where
   pub no_want : status ≢ 5
 
 times_on : (n m count : ℕ) → counted_times m (counted_times n count) ≡ counted_times (n + m) count
-times_on zero m count = refl
-times_on (suc n) m count = times_on n m (counted count)
+times_on zero m count = let e : m ≡ zero + m = omega arith in ap (λ (k : ℕ). counted_times k count) e
+times_on (suc n) m count = let e : suc (n + m) ≡ suc n + m = omega arith in times_on n m (counted count) ∙ ap (λ (k : ℕ). counted_times k count) e
 
 pub tally_none : (h r : ℕ) → Tally 0 h h r r
 tally_none h r = record { hosts = 0; words = 0; host_is = refl; words_is = refl; calm = λ e. (refl, refl); host_fault = λ e. absurd (omega (arith, e)); words_fault = λ e. absurd (omega (arith, e)); most = omega arith; no_usage = λ e. omega (arith, e); no_want = λ e. omega (arith, e) }
@@ -147,6 +147,6 @@ pub tally_all : (start : At) (status : ℕ) (now : At) → AllLines start status
 tally_all start status now all = tally_still status start all.last now (tally_lines start status all.last all.lines) (tally_nothing all.last now all.ends.nothing)
 
 pub tally_closings : (start : At) (count status : ℕ) (now : At) → Closings start count status now → TallyAt status start now
-tally_closings start _ _ _ (none_closed count status now no none same) = subst (λ (s : ℕ). TallyAt s start now) (sym none) (subst (λ (a : At). TallyAt 0 start a) (sym same) (tally_none (h_of start) (r_of start)))
+tally_closings start _ _ _ (none_closed count status now nil none same) = subst (λ (s : ℕ). TallyAt s start now) (sym none) (subst (λ (a : At). TallyAt 0 start a) (sym same) (tally_none (h_of start) (r_of start)))
 tally_closings start _ _ _ (one_closed seat count earlier status reply mid now closings closed wrote next is) =
     subst (λ (s : ℕ). TallyAt s start now) (sym is) (tally_both earlier (closed_status reply) start mid now (tally_closings start seat earlier mid closings) (tally_closed seat reply mid now closed))
