@@ -19,7 +19,7 @@ use Rattle.pf_session.specs.declared.fault.Written.{Written}
 use Rattle.pf_script.specs.BookDebts.{Unchanged}
 use Rattle.pf_script.specs.BookSeats.{IsOfScript, Covers, KeepsUnder}
 use Rattle.pf_script.proofs.ActKeeping.{Idles, idle_keeps, SealsOn, SealsOnce, seal_keeps}
-use Rattle.pf_script.proofs.CallKeeping.{both_with, at_both, back_to, read_image, reads_after, step_backed, step_key, idle_same, flush_ended, ended_keeps, WasFlushed, was_flushed}
+use Rattle.pf_script.proofs.CallKeeping.{both_with, at_both, back_to, read_image, reads_after, step_kept, step_key, idle_same, flush_ended, ended_keeps, WasFlushed, was_flushed}
 
 module _ (old : SessionState) (mine : IsOfScript old) where
   -- a step with no flush before it
@@ -30,7 +30,7 @@ module _ (old : SessionState) (mine : IsOfScript old) where
     key_is = (step_key old mine new one step before after goes one goes.state).0;
     name_is = (step_key old mine new one step before after goes one goes.state).1;
     whole = λ _. whole;
-    backed = λ base backed stood whole_new. step_backed old mine new one step before after goes a is base backed stood whole_new;
+    kept = λ base kept stood whole_new. step_kept old mine new one step before after goes a is base kept.backed stood whole_new;
   }
 
   -- a step after a flush
@@ -47,7 +47,7 @@ module _ (old : SessionState) (mine : IsOfScript old) where
           path_is = seals.is_next.path_is ∙ mine.path_is;
           sealed = λ stood. reads_after (AsEither old.key old.name base seals.next) (StoodIf true old.key old.name seals.next) a m b (ran stood) only;
           on_next = λ _ whole stood.
-              step_backed mid mid_mine new one step between after goes m is_mid seals.next (seals.on_next refl).backed
+              step_kept mid mid_mine new one step between after goes m is_mid seals.next (seals.on_next refl).backed
               (subst (λ (s : SessionState). Stood s.key s.name seals.next m.now) (sym was.state) (ran stood).ends) whole;
         }
 

@@ -7,7 +7,7 @@ use Rattle.node_tree.specs.Sheet.{Sheet}
 use Rattle.pf_session.specs.Reopening.{ReopensAs, LeftAt, Stood}
 use Rattle.pf_script.specs.Book.{HasAt}
 use Rattle.pf_io.proofs.Images.{settled_reads}
-use Rattle.pf_script.proofs.Apartness.{longer, apart_recovery}
+use Rattle.pf_session.proofs.Apartness.{longer, apart_recovery}
 use Rattle.pf_script.proofs.NameMaps.{name_or, set_at-same, set_at-other}
 
 -- an image with other bytes at one name

@@ -6,7 +6,6 @@ pub mod Cutting
 pub mod Parts
 pub mod Advancing
 pub mod Phrasing
-pub mod Apartness
 pub mod NameMaps
 pub mod Ruling
 pub mod During
@@ -27,4 +26,5 @@ pub mod OpenKeeping
 pub mod ReadKeeping
 pub mod OfScript
 pub mod MoveKeeping
+pub mod MoveCallKeeping
 pub mod StepKeeping

@@ -49,6 +49,7 @@ record WasOpened (key : List ℕ) (name : Name) (session : SessionState) : Type 
   pub target : IsTarget name
   pub key_is : session.key ≡ key
   pub name_is : session.name ≡ name
+  pub clean : session.tree.dirty ≡ []
 
 session_is : (s t : SessionState) → ◌≡◌ {A = Result SessionState OpenFault} (Ok s) (Ok t) → s ≡ t
 session_is s t same = cc
@@ -60,7 +61,7 @@ was_opened key name before after session (by_answers these asked (block_refused 
 was_opened key name before after session (by_answers these asked (secret_refused size block fault good are openable why said)) = absurd (cc)
 was_opened key name before after session (by_answers these asked (accepted size block secret good are openable is said)) =
     let same = session_is session (opened_session key name block secret) said in
-    record { target = good.target; key_is = ap (λ (s : SessionState). s.key) same; name_is = ap (λ (s : SessionState). s.name) same }
+    record { target = good.target; key_is = ap (λ (s : SessionState). s.key) same; name_is = ap (λ (s : SessionState). s.name) same; clean = ap (λ (s : SessionState). s.tree.dirty) same }
 was_opened key name before after session (length_failed good asked said) = absurd (cc)
 was_opened key name before after session (read_failed size good asked said) = absurd (cc)
 was_opened key name before after session (no_names good stays said) = absurd (cc)
@@ -113,7 +114,7 @@ module _ (key : List ℕ) (name : Name) (session : SessionState) (was_one : WasO
               has.sheet,
               subst (λ (k : List ℕ). Contains (seats_after (Opening seal) true seats) (seat_of k session.name has.sheet)) (sym was_one.key_is)
                   (subst (λ (n : Name). Contains (seats_after (Opening seal) true seats) (seat_of key n has.sheet)) (sym was_one.name_is) (seat_is_left (Opening seal) seats)),
-              has.on.backed,
+              record { backed = has.on.backed; rests = λ _. record { stands = has.on; clean = was_one.clean } },
             ),
             one_spares seats (Opening seal) true,
             only_it has.sheet,
