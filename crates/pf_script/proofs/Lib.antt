@@ -28,3 +28,10 @@ pub mod OfScript
 pub mod MoveKeeping
 pub mod MoveCallKeeping
 pub mod StepKeeping
+pub mod Showing
+pub mod Refusing
+pub mod Flushed
+pub mod SeatCalls
+pub mod FlushLine
+pub mod CloseLine
+pub mod Desking

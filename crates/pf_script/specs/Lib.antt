@@ -11,3 +11,11 @@ pub mod BookDebts
 pub mod BookSeats
 pub mod BookLaws
 pub mod BookExamples
+pub mod Script
+pub mod SeatSteps
+pub mod Rules
+pub mod Turns
+pub mod Desk
+pub mod DeskSteps
+pub mod SeatReplies
+pub mod ScriptRuns

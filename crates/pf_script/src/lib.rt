@@ -3,21 +3,29 @@
 #![tactic(auto)]
 
 mod buffer;
+mod changing;
 mod command;
+mod desk;
+#[cfg(test)]
+mod desk_tests;
 mod fault;
 mod fields;
 mod laws;
 mod line;
 mod line_reader;
+mod looking;
 mod next_line;
+mod opening;
 mod printing;
 mod reading;
 mod reply;
+mod sealing;
 mod stage;
 #[cfg(test)]
 mod tests;
 mod words;
 
+pub use desk::Desk;
 pub use fault::LineFault;
 pub use laws::{definitions_on_examples, steps_keep_the_book, text_has_one_reading};
 pub use line::ScriptLine;

@@ -1,0 +1,109 @@
+-- A line on a seat, from what was seen of a call on its session.
+use Rattle.std.proofs.Common.{◌≡◌, inl, inr, Bool, true, false, List, [], ◌∷◌, ◌++◌, ℕ, refl, sym, ◌∙◌, ap, subst, Option, Some, None, Result, Ok, Err}
+use Rattle.std.proofs.lemmas.List.{append-nil}
+use Rattle.std.specs.Prelude.{Contains}
+use Rattle.node_tree.specs.Sheet.{Sheet, IsLinked}
+use Rattle.node_tree.specs.Unforged.{Unforged}
+use Rattle.pf_session.specs.Backing.{IsBacked}
+use Rattle.pf_io.specs.Disk.{Name}
+use Rattle.pf_io.specs.Host.{Answer, HostState, OnDisk}
+use Rattle.pf_io.specs.Words.{WordsState}
+use Rattle.pf_io.proofs.Telling.{told_by, both_weaker}
+use Rattle.pf_session.specs.State.{SessionState}
+use Rattle.pf_script.specs.BookSeats.{Covers, CoversNone, KeepsUnder}
+use Rattle.pf_script.specs.BookActs.{Act}
+use Rattle.pf_script.specs.Desk.{IsSeated, Shows, seat_on}
+use Rattle.pf_script.specs.DeskSteps.{CountsFault, SeatTurns, SeatAsks, CoversSome, Concerns, HasItsName, SeatGoes, is_host_fault, is_words_fault}
+use Rattle.pf_script.specs.Script.{OwnSeat, Seat, Own, sheets_of}
+use Rattle.pf_script.specs.SeatReplies.{flush_reply}
+use Rattle.pf_script.specs.Turns.{Seen, SeatTurn, on_carried, Blame, ByHost, ByDamage}
+use Rattle.pf_script.specs.declared.line.ScriptLine.{ScriptLine}
+use Rattle.pf_script.specs.declared.reply.Reply.{Reply}
+use Rattle.pf_script.proofs.Flushed.{SeenOf, host_blamed, fault_of}
+use Rattle.pf_script.proofs.Showing.{shows_whole}
+use Rattle.pf_script.proofs.StepKeeping.{keeps_more}
+
+abbrev pub seen_by : List Answer → List (List ℕ) → Bool → Bool → Seen
+seen_by these words of_host of_words = record { given = these; words = words; host_failed = of_host; words_failed = of_words }
+
+-- a seat by its fields
+abbrev pub own_with : List ℕ → Name → Sheet → List ℕ → List ℕ → Bool → Option (List ℕ) → Bool → OwnSeat
+own_with key name sheet content dirty changed drawn broken = record { key = key; name = name; sheet = sheet; content = content; dirty = dirty; changed = changed; drawn = drawn; broken = broken }
+
+pub own_same : (sheet : Sheet) (key key' name name' content content' dirty dirty' : List ℕ) (changed changed' : Bool) (drawn drawn' : Option (List ℕ)) (broken broken' : Bool)
+    → key ≡ key' → name ≡ name' → content ≡ content' → dirty ≡ dirty' → changed ≡ changed' → drawn ≡ drawn' → broken ≡ broken'
+    → own_with key name sheet content dirty changed drawn broken ≡ own_with key' name' sheet content' dirty' changed' drawn' broken'
+own_same sheet key key' name name' content content' dirty dirty' changed changed' drawn drawn' broken broken' e1 e2 e3 e4 e5 e6 e7 =
+    ap (λ (x : List ℕ). own_with x name sheet content dirty changed drawn broken) e1
+    ∙ ap (λ (x : List ℕ). own_with key' x sheet content dirty changed drawn broken) e2
+    ∙ ap (λ (x : List ℕ). own_with key' name' sheet x dirty changed drawn broken) e3
+    ∙ ap (λ (x : List ℕ). own_with key' name' sheet content' x changed drawn broken) e4
+    ∙ ap (λ (x : Bool). own_with key' name' sheet content' dirty' x drawn broken) e5
+    ∙ ap (λ (x : Option (List ℕ)). own_with key' name' sheet content' dirty' changed' x broken) e6
+    ∙ ap (λ (x : Bool). own_with key' name' sheet content' dirty' changed' drawn' x) e7
+
+-- the turns of a whole session, by the sheet that it stands on
+abbrev pub SheetTurns : List ℕ → Bool → ScriptLine → Seen → Reply → SessionState → Option SessionState → List Answer → Type 0
+SheetTurns key taken line seen reply old new given =
+    (sealed : List Sheet) (base : Sheet) → Contains sealed base → IsLinked base → IsBacked base old
+    → (acts : List Act) × (Unforged key (sealed ++ sheets_of acts) given → (left : Seat) × SeatTurn (on_carried key sealed) key taken (Own (seat_on base old)) line seen reply acts left × Shows (sealed ++ sheets_of acts) left new)
+
+pub whole_turns : (key : List ℕ) (taken : Bool) (line : ScriptLine) (seen : Seen) (reply : Reply) (old : SessionState) (new : Option SessionState) (given : List Answer) → old.broken ≡ false
+    → SheetTurns key taken line seen reply old new given → SeatTurns key taken line seen reply (Some old) new given
+whole_turns key taken line seen reply old new given whole turns sealed seat shows =
+    let on = shows_whole sealed seat old whole shows in
+    let turn = turns sealed on.sheet on.among on.linked on.backed in (
+      turn.0,
+      λ unforged. let ends = turn.1 unforged in (ends.0, subst (λ (x : Seat). SeatTurn (on_carried key sealed) key taken x line seen reply turn.0 ends.0) (sym on.seat_is) ends.1, ends.2),
+    )
+
+-- the counts that rose where a flush failed
+pub host_reply : (blame : Blame) → is_host_fault (flush_reply (fault_of blame)) ≡ host_blamed blame
+host_reply ByHost = refl
+host_reply (ByDamage damage) = refl
+
+pub words_reply : (blame : Blame) → is_words_fault (flush_reply (fault_of blame)) ≡ false
+words_reply ByHost = refl
+words_reply (ByDamage damage) = refl
+
+pub false_true : (b : Bool) → b ≡ true → b ≡ false → ⊥
+false_true b is_true is_false = let e : true ≡ false = sym is_true ∙ is_false in absurd (cc)
+
+-- no sheet was sealed
+pub shows_same : (sealed : List Sheet) (seat : Seat) (session : Option SessionState) → Shows sealed seat session → Shows (sealed ++ []) seat session
+shows_same sealed seat session shows = subst (λ (l : List Sheet). Shows l seat session) (sym (append-nil sealed)) shows
+
+module _ (key : List ℕ) (taken : Bool) (line : ScriptLine) (reply : Reply) (old : SessionState) (before after : HostState) (random random' : WordsState) (these : List Answer) (words : List (List ℕ)) (of_host of_words : Bool)
+    (seen : SeenOf these words of_host of_words before after random random') (host_is : is_host_fault reply ≡ of_host) (words_is : is_words_fault reply ≡ of_words) where
+  asks_by : (new : Option SessionState) → SeatTurns key taken line (seen_by these words of_host of_words) reply (Some old) new these → SeatAsks key taken line reply (Some old) new these before after random random'
+  asks_by new turns = record {
+    seen = seen_by these words of_host of_words;
+    was_seen = record { answers = refl; words = seen.taken; of_host = seen.on_host; of_words = seen.on_words };
+    turns = turns;
+  }
+
+  -- the session goes on
+  pub goes_on : (new : SessionState) → SeatTurns key taken line (seen_by these words of_host of_words) reply (Some old) (Some new) these → OnDisk before after (KeepsUnder (Covers old) (Covers new) (λ name. name ≡ old.name))
+      → IsSeated key new → new.name ≡ old.name → SeatGoes key taken line (Ok reply) (Some old) (Some new) before after random random'
+  goes_on new turns books seated name_is = record {
+    asks = told_by (λ given. SeatAsks key taken line reply (Some old) (Some new) given before after random random') these before after seen.told (asks_by (Some new) turns);
+    books = both_weaker (KeepsUnder (Covers old) (Covers new) (λ name. name ≡ old.name)) (KeepsUnder (Covers old) (Covers new) (Concerns taken line (Some old))) before.honest after.honest books
+        (λ a b keeps. keeps_more (Covers old) (Covers new) (λ name. name ≡ old.name) (Concerns taken line (Some old)) a b (λ name is. inl is) keeps);
+    counts = (subst (λ b. CountsFault b before.faults after.faults) (sym host_is) seen.on_host, subst (λ b. CountsFault b random.faults random'.faults) (sym words_is) seen.on_words);
+    wants = tt;
+    seated = seated;
+    named = λ name has. inl (has ∙ name_is);
+  }
+
+  -- it is let go
+  pub goes_out : SeatTurns key taken line (seen_by these words of_host of_words) reply (Some old) None these → OnDisk before after (KeepsUnder (Covers old) CoversNone (λ name. name ≡ old.name))
+      → SeatGoes key taken line (Ok reply) (Some old) None before after random random'
+  goes_out turns books = record {
+    asks = told_by (λ given. SeatAsks key taken line reply (Some old) None given before after random random') these before after seen.told (asks_by None turns);
+    books = both_weaker (KeepsUnder (Covers old) CoversNone (λ name. name ≡ old.name)) (KeepsUnder (Covers old) CoversNone (Concerns taken line (Some old))) before.honest after.honest books
+        (λ a b keeps. keeps_more (Covers old) CoversNone (λ name. name ≡ old.name) (Concerns taken line (Some old)) a b (λ name is. inl is) keeps);
+    counts = (subst (λ b. CountsFault b before.faults after.faults) (sym host_is) seen.on_host, subst (λ b. CountsFault b random.faults random'.faults) (sym words_is) seen.on_words);
+    wants = tt;
+    seated = tt;
+    named = λ name none. absurd none;
+  }
