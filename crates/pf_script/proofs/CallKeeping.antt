@@ -93,10 +93,6 @@ module _ (old : SessionState) (mine : IsOfScript old) where
     pub step_kept : (a : Honest) → before.honest ≡ Some a → (base : Sheet) → IsBacked base old → Stood old.key old.name base a.now → new.broken ≡ false → IsKeptOn base new
     step_kept a is base backed stood whole = by_result one base goes.state (step_stands a is base stood backed) backed whole
 
-    pub step_key : (r : Result (Unit {0}) TreeFault) → StepState r old new → (new.key ≡ old.key) × (new.name ≡ old.name)
-    step_key (Ok done) state = (ap (λ (s : SessionState). s.key) state, ap (λ (s : SessionState). s.name) state)
-    step_key (Err fault) state = (ap (λ (s : SessionState). s.key) state, ap (λ (s : SessionState). s.name) state)
-
   -- nothing was changed, and the session is the same
   pub idle_reads : (new : SessionState) (a b : Honest) → old.broken ≡ false → new ≡ old → Unchanged a b → Idles old new a b
   idle_reads new a b whole same only = record {

@@ -28,6 +28,8 @@ pub mod OfScript
 pub mod MoveKeeping
 pub mod MoveCallKeeping
 pub mod StepKeeping
+pub mod SizeKeeping
+pub mod RunKeeping
 pub mod Showing
 pub mod Refusing
 pub mod Flushed

@@ -17,7 +17,7 @@ use Rattle.pf_session.specs.Restored.{Ready}
 use Rattle.pf_script.specs.Book.{Entry, Seal, Alone}
 use Rattle.pf_script.specs.BookActs.{Opening, Among, Act, opened, booked, speaks, without_partner, dropped}
 use Rattle.pf_script.specs.BookDebts.{Unchanged, SparesOthers, KeepsOpened, OpensOn, Owes, seat_of}
-use Rattle.pf_script.specs.BookSeats.{Covers, CoversNone, CoversMade, Kept, KeepsUnder}
+use Rattle.pf_script.specs.BookSeats.{IsOfScript, Covers, CoversNone, CoversMade, Kept, KeepsUnder}
 use Rattle.pf_script.proofs.During.{leaves_more}
 use Rattle.pf_script.proofs.NameMaps.{set_at-same}
 use Rattle.pf_script.proofs.Opened as openings
@@ -50,6 +50,8 @@ record WasOpened (key : List ℕ) (name : Name) (session : SessionState) : Type 
   pub key_is : session.key ≡ key
   pub name_is : session.name ≡ name
   pub clean : session.tree.dirty ≡ []
+  pub path_is : session.path ≡ name
+  pub named : session.beside ≡ false
 
 session_is : (s t : SessionState) → ◌≡◌ {A = Result SessionState OpenFault} (Ok s) (Ok t) → s ≡ t
 session_is s t same = cc
@@ -61,11 +63,17 @@ was_opened key name before after session (by_answers these asked (block_refused 
 was_opened key name before after session (by_answers these asked (secret_refused size block fault good are openable why said)) = absurd (cc)
 was_opened key name before after session (by_answers these asked (accepted size block secret good are openable is said)) =
     let same = session_is session (opened_session key name block secret) said in
-    record { target = good.target; key_is = ap (λ (s : SessionState). s.key) same; name_is = ap (λ (s : SessionState). s.name) same; clean = ap (λ (s : SessionState). s.tree.dirty) same }
+    record { target = good.target; key_is = ap (λ (s : SessionState). s.key) same; name_is = ap (λ (s : SessionState). s.name) same; clean = ap (λ (s : SessionState). s.tree.dirty) same; path_is = ap (λ (s : SessionState). s.path) same ∙ sym is.path_is; named = ap (λ (s : SessionState). s.beside) same }
 was_opened key name before after session (length_failed good asked said) = absurd (cc)
 was_opened key name before after session (read_failed size good asked said) = absurd (cc)
 was_opened key name before after session (no_names good stays said) = absurd (cc)
 was_opened key name before after session (no_tree size block secret good asked openable is said) = absurd (cc)
+
+-- it is a session of a script
+pub of_opened : (key : List ℕ) (name : Name) (before after : HostState) (session : SessionState) → Opens key name (Some name) before after (Ok session) → IsOfScript session
+of_opened key name before after session goes =
+    let was_one = was_opened key name before after session goes in
+    record { is_target = subst IsTarget (sym was_one.name_is) was_one.target; path_is = was_one.path_is ∙ sym was_one.name_is; named = was_one.named }
 
 module _ (key : List ℕ) (name : Name) (session : SessionState) (was_one : WasOpened key name session) (a b : Honest) (either : OpensEither session a b) (only : Unchanged a b) where
   there_now : a.now name ≢ None

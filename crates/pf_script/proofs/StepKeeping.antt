@@ -1,8 +1,9 @@
 -- What several calls keep of a book, one after the other, and what one keeps of the seats on other names.
 use Rattle.std.proofs.Common.{◌≡◌, inl, inr, ⊎_elim, List, [], ◌++◌, refl, sym, ◌∙◌, subst, Option, Some, None}
-use Rattle.std.specs.Prelude.{Contains}
+use Rattle.std.specs.Prelude.{Contains, IfSome}
 use Rattle.pf_io.specs.Disk.{Name, Disk, IsImage, reading}
 use Rattle.pf_io.specs.Moments.{Honest}
+use Rattle.pf_io.specs.Host.{HostState, Both, OnDisk, ReadsAsImage}
 use Rattle.node_tree.specs.Sheet.{Sheet}
 use Rattle.pf_session.specs.Moving.{IsKeptOn}
 use Rattle.pf_session.specs.State.{SessionState}
@@ -34,6 +35,19 @@ keeps_then first between last concerns a m b well one two book seats agrees read
 pub keeps_next : (first between last : Covering) (concerns : Name → Type 0) (a m b : Honest) → (IsImage a.now (reading a.now) → IsImage m.now (reading m.now)) → KeepsUnder first between concerns a m → KeepsUnder between last concerns m b
     → KeepsUnder first last concerns a b
 keeps_next first between last concerns a m b well one two book seats agrees reads covers = keeps_then first between last concerns a m b (well reads) one two book seats agrees reads covers
+
+-- so for hosts, of which the one in between reads as one of its images
+pub keeps_on : (first between last : Covering) (concerns : Name → Type 0) (before mid after : HostState) → OnDisk before mid (KeepsUnder first between concerns) → ReadsAsImage mid → OnDisk mid after (KeepsUnder between last concerns)
+    → OnDisk before after (KeepsUnder first last concerns)
+keeps_on first between last concerns before mid after one reads two = by_case before.honest mid.honest after.honest one reads two
+  where
+    by_case : (o p q : Option Honest) → Both o p (KeepsUnder first between concerns) → IfSome p (λ host. IsImage host.now (reading host.now)) → Both p q (KeepsUnder between last concerns) → Both o q (KeepsUnder first last concerns)
+    by_case (Some a) (Some m) (Some b) one reads two = keeps_then first between last concerns a m b reads one two
+    by_case None None None one reads two = tt
+    by_case (Some a) None q one reads two = absurd one
+    by_case None (Some m) q one reads two = absurd one
+    by_case (Some a) (Some m) None one reads two = absurd two
+    by_case None None (Some b) one reads two = absurd two
 
 -- reads before the calls
 pub after_reads : (first last : Covering) (concerns : Name → Type 0) (a m b : Honest) → Unchanged a m → KeepsUnder first last concerns m b → KeepsUnder first last concerns a b
