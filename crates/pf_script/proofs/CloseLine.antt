@@ -25,7 +25,7 @@ use Rattle.pf_script.specs.declared.reply.Reply.TheVariants as replies
 use Rattle.pf_script.proofs.CallKeeping.{close_keeps}
 use Rattle.pf_script.proofs.FlushLine.{flush_act}
 use Rattle.pf_script.proofs.Flushed.{SeenOf, SealsOwn, FlushCase, lacked, failed, done, flush_case, host_blamed, fault_of}
-use Rattle.pf_script.proofs.Refusing.{not_empty, none_taken}
+use Rattle.pf_script.proofs.Refusing.{at_last, not_empty, none_taken}
 use Rattle.pf_script.proofs.SeatCalls.{seen_by, SheetTurns, whole_turns, goes_out, host_reply, words_reply, false_true}
 use Rattle.pf_script.proofs.Showing.{shows_some, ShowsSome}
 
@@ -46,10 +46,10 @@ module _ (key : List ℕ) (k : ℕ) (old : SessionState) where
   idle_turns : (b : Bool) → old.broken ≡ b → (old.changed ≡ false) ⊎ (old.broken ≡ true) → SeatTurns key false (lines.Close k) (seen_by [] [] false false) (replies.Closed old.broken) (Some old) None []
   idle_turns true is why = λ sealed seat shows.
       let shown = shows_some sealed seat old shows in
-      ([], λ unforged. (Empty, closed_on sealed seat shown.shown shown.seat_is shown.broken_is (inr (shown.broken_is ∙ is)), no_file refl refl))
+      at_last [] (λ unforged. (Empty, closed_on sealed seat shown.shown shown.seat_is shown.broken_is (inr (shown.broken_is ∙ is)), no_file refl refl))
   idle_turns false is (inl clean) =
       whole_turns key false (lines.Close k) (seen_by [] [] false false) (replies.Closed old.broken) old None [] is
-      (λ sealed base among linked backed. ([], λ unforged. (Empty, closed_on sealed (Own (seat_on base old)) (seat_on base old) refl refl (inl clean), no_file refl refl)))
+      (λ sealed base among linked backed. at_last [] (λ unforged. (Empty, closed_on sealed (Own (seat_on base old)) (seat_on base old) refl refl (inl clean), no_file refl refl)))
   idle_turns false is (inr broken) = absurd (false_true old.broken broken is)
 
   module _ (whole : old.broken ≡ false) (was_changed : old.changed ≡ true) where
@@ -58,7 +58,7 @@ module _ (key : List ℕ) (k : ℕ) (old : SessionState) where
 
     lacked_turns : (words : List (List ℕ)) → SheetTurns key false (lines.Close k) (seen_by [] words false true) replies.WordsFault old None []
     lacked_turns words sealed base among linked backed =
-        ([], λ unforged. (Empty, words_failed (record { host = refl; random = refl }) (no_last_flush k (seat_on base old) was_changed whole) refl, no_file refl refl))
+        at_last [] (λ unforged. (Empty, words_failed (record { host = refl; random = refl }) (no_last_flush k (seat_on base old) was_changed whole) refl, no_file refl refl))
 
     failed_turn : (sealed : List Sheet) (base next : Sheet) (these : List Answer) (words : List (List ℕ)) (blame : Blame) → Seals (seat_on base old) words next → BlamesFlush old.name these blame
         → SeatTurn (on_carried key sealed) key false (Own (seat_on base old)) (lines.Close k) (seen_by these words (host_blamed blame) false) (flush_reply (fault_of blame)) (flush_act old next false ∷ []) Empty
@@ -71,13 +71,13 @@ module _ (key : List ℕ) (k : ℕ) (old : SessionState) where
         → SheetTurns key false (lines.Close k) (seen_by these words (host_blamed blame) false) (flush_reply (fault_of blame)) old None these
     failed_turns these words blame seals blames sealed base among linked backed =
         let next = seals base linked backed in
-        (flush_act old next.0 false ∷ [], λ unforged. (Empty, failed_turn sealed base next.0 these words blame next.1 blames, no_file refl refl))
+        at_last (flush_act old next.0 false ∷ []) (λ unforged. (Empty, failed_turn sealed base next.0 these words blame next.1 blames, no_file refl refl))
 
     done_turns : (new : SessionState) (these : List Answer) (words : List (List ℕ)) → SealsOwn old words (λ next. StandsOn next new) → SheetTurns key false (lines.Close k) (seen_by these words false false) (replies.Closed false) old None these
     done_turns new these words seals sealed base among linked backed =
         let next = seals base linked backed in
         let own = seat_on base old in
-        (flush_act old next.0 true ∷ [], λ unforged. (Empty, accepted (not_none own) (record { host = refl; random = refl }) (flushes_last k own next.0 was_changed whole next.1), no_file refl refl))
+        at_last (flush_act old next.0 true ∷ []) (λ unforged. (Empty, accepted (not_none own) (record { host = refl; random = refl }) (flushes_last k own next.0 was_changed whole next.1), no_file refl refl))
 
   module _ (before after : HostState) (random random' : WordsState) (books : OnDisk before after (KeepsUnder (Covers old) CoversNone (λ name. name ≡ old.name))) where
     by_case : (result : Result (Unit {0}) FlushFault) (mid : SessionState) → old.broken ≡ false → old.changed ≡ true → FlushCase result old mid before after random random'

@@ -15,9 +15,10 @@ use Rattle.pf_io.proofs.Telling.{told_weaker, both_weaker}
 use Rattle.pf_session.specs.Reading.{KeepsFields}
 use Rattle.pf_session.specs.State.{SessionState}
 use Rattle.pf_script.specs.Book.{Book, Seal}
+use Rattle.pf_script.specs.BookActs.{Act}
 use Rattle.pf_script.specs.BookSeats.{Covers, CoversNone, CoversEach, CoversBoth, KeepsUnder}
 use Rattle.pf_script.specs.Desk.{DeskState, session_at, IsSeated, IsSeatOf, IsDesk, Shows, IsStateOf}
-use Rattle.pf_script.specs.DeskSteps.{SeatAsks, Asks, HasItsName, OtherHas, Concerns, CoversSome, CoversDesk, AnyName, KeepsBooks, KeepsSession, NothingDone, IsBrokenSession, BreaksSeat, SeatIdle, SeatWants, Wants, WhereWanting, WhereReplied, SeatGoes, DeskGoes}
+use Rattle.pf_script.specs.DeskSteps.{Unfolds, in_the_end, then_more, SeatAsks, Asks, HasItsName, OtherHas, Concerns, CoversSome, CoversDesk, AnyName, KeepsBooks, KeepsSession, NothingDone, IsBrokenSession, BreaksSeat, SeatIdle, SeatWants, Wants, WhereWanting, WhereReplied, SeatGoes, DeskGoes}
 use Rattle.pf_script.specs.Script.{Seat, Empty, Own, ScriptState, seat_at, HasThisName, IsTaken, state_with, seat_of_line, name_of_line}
 use Rattle.pf_script.specs.Turns.{SeatTurn, on_seat, on_carried, SaysTaken}
 use Rattle.pf_script.specs.Words.{SEATS}
@@ -29,6 +30,11 @@ use Rattle.pf_script.proofs.StepKeeping.{keeps_more, others_too, covers_less}
 -- a seat is the k-th, or another one
 same_or_not : (j k : ℕ) → (j ≡ k) ⊎ (j ≢ k)
 same_or_not j k = ⊎_elim (λ e. inl e.1) (λ e. inr e.1) (eqb_tells j k)
+
+-- what follows from what holds in the end
+pub unfolds_as : {key : List ℕ} {sealed : List Sheet} {P Q : List Act → Type 0} {given : List Answer} (acts : List Act) → Unfolds key sealed P given acts → ((acts : List Act) → P acts → Q acts) → Unfolds key sealed Q given acts
+unfolds_as {key} {sealed} {P} {Q} {given} _ (in_the_end acts ends) go = in_the_end acts (λ unforged. go acts (ends unforged))
+unfolds_as {key} {sealed} {P} {Q} {given} _ (then_more acts more these rest split on) go = then_more acts more these rest split (λ unforged. unfolds_as (acts ++ more) (on unforged) go)
 
 no_true : ¬ (IsTrue false)
 no_true is = absurd (cc)
@@ -164,16 +170,13 @@ module _ (old : DeskState) (desk : IsDesk old) (k : ℕ) (below : k < SEATS) (ta
       seen = asks.seen;
       was_seen = asks.was_seen;
       turns = λ state is_state.
-          let turn = asks.turns state.sealed (seat_at state k) (is_state.shows k) in (
-            turn.0,
-            λ unforged.
-                let ends = turn.1 unforged in (
-                  state_with state k ends.0 turn.0,
-                  on_seat k taken ends.0 names (state_says state is_state)
-                      (subst (λ (x : List ℕ). SeatTurn (on_carried old.key state.sealed) x taken (seat_at state k) line asks.seen reply turn.0 ends.0) (sym is_state.key_is) ends.1) refl,
-                  state_after state is_state ends.0 turn.0 ends.2,
-                ),
-          );
+          unfolds_as [] (asks.turns state.sealed (seat_at state k) (is_state.shows k))
+          (λ acts ends. (
+            state_with state k ends.0 acts,
+            on_seat k taken ends.0 names (state_says state is_state)
+                (subst (λ (x : List ℕ). SeatTurn (on_carried old.key state.sealed) x taken (seat_at state k) line asks.seen reply acts ends.0) (sym is_state.key_is) ends.1) refl,
+            state_after state is_state ends.0 acts ends.2,
+          ));
     }
 
     all_asks : (r : Result Reply Memory) → WhereReplied r (λ reply. WhereTold before after (λ given. SeatAsks old.key taken line reply (session_at old k) left given before after random random'))

@@ -27,7 +27,7 @@ use Rattle.pf_script.specs.declared.reply.Reply.TheVariants as replies
 use Rattle.pf_script.proofs.CallKeeping.{flush_keeps}
 use Rattle.pf_script.proofs.Flushed.{SeenOf, SealsOwn, FlushCase, lacked, failed, done, flush_case, host_blamed, fault_of}
 use Rattle.pf_script.proofs.OfScript.{of_flushed}
-use Rattle.pf_script.proofs.Refusing.{none_then}
+use Rattle.pf_script.proofs.Refusing.{at_last, none_then}
 use Rattle.pf_script.proofs.SeatCalls.{seen_by, own_same, SheetTurns, whole_turns, shows_same, goes_on, host_reply, words_reply, false_true}
 
 -- the reply to a flush
@@ -57,14 +57,12 @@ module _ (key : List ℕ) (k : ℕ) (old : SessionState) (seated : IsSeated key 
     (books : OnDisk before after (KeepsUnder (Covers old) (Covers new) (λ name. name ≡ old.name))) (goes : IsOfScript new) where
   -- no word came
   lacked_turns : (words : List (List ℕ)) → new ≡ old → SheetTurns key false (lines.Flush k) (seen_by [] words false true) replies.WordsFault old (Some new) []
-  lacked_turns words same sealed base among linked backed = (
-    [],
-    λ unforged. (
-      Own (seat_on base old),
-      words_failed (record { host = refl; random = refl }) (no_flush k (seat_on base old)) refl,
-      shows_same sealed (Own (seat_on base old)) (Some new) (subst (λ (s : SessionState). Shows sealed (Own (seat_on base old)) (Some s)) (sym same) (whole_file base old whole among linked backed refl refl)),
-    ),
-  )
+  lacked_turns words same sealed base among linked backed =
+      at_last [] (λ unforged. (
+        Own (seat_on base old),
+        words_failed (record { host = refl; random = refl }) (no_flush k (seat_on base old)) refl,
+        shows_same sealed (Own (seat_on base old)) (Some new) (subst (λ (s : SessionState). Shows sealed (Own (seat_on base old)) (Some s)) (sym same) (whole_file base old whole among linked backed refl refl)),
+      ))
 
   -- it failed after its words
   failed_turn : (sealed : List Sheet) (base next : Sheet) (these : List Answer) (words : List (List ℕ)) (blame : Blame) → Seals (seat_on base old) words next → BlamesFlush old.name these blame
@@ -77,28 +75,24 @@ module _ (key : List ℕ) (k : ℕ) (old : SessionState) (seated : IsSeated key 
   failed_turns : (these : List Answer) (words : List (List ℕ)) (blame : Blame) → SealsOwn old words (λ next. Unit {0}) → BlamesFlush old.name these blame → new.key ≡ old.key → new.name ≡ old.name → new.broken ≡ true
       → SheetTurns key false (lines.Flush k) (seen_by these words (host_blamed blame) false) (flush_reply (fault_of blame)) old (Some new) these
   failed_turns these words blame seals blames key_is name_is broken sealed base among linked backed =
-      let next = seals base linked backed in (
-        flush_act old next.0 false ∷ [],
-        λ unforged. (
-          Own (broken_seat (seat_on base old)),
-          failed_turn sealed base next.0 these words blame next.1 blames,
-          broken_file (broken_seat (seat_on base old)) new broken refl (sym key_is) (sym name_is) refl refl,
-        ),
-      )
+      let next = seals base linked backed in
+      at_last (flush_act old next.0 false ∷ []) (λ unforged. (
+        Own (broken_seat (seat_on base old)),
+        failed_turn sealed base next.0 these words blame next.1 blames,
+        broken_file (broken_seat (seat_on base old)) new broken refl (sym key_is) (sym name_is) refl refl,
+      ))
 
   -- it was done
   done_turns : (these : List Answer) (words : List (List ℕ)) → SealsOwn old words (λ next. StandsOn next new) → {nonce : List ℕ} {tree : TreeState} → new ≡ record old { nonce = nonce; drawn = None; tree = tree; changed = false }
       → new.tree.dirty ≡ [] → SheetTurns key false (lines.Flush k) (seen_by these words false false) replies.Flushed old (Some new) these
   done_turns these words seals same dirty sealed base among linked backed =
       let next = seals base linked backed in
-      let own = seat_on base old in (
-        flush_act old next.0 true ∷ [],
-        λ unforged. (
-          Own (resealed own next.0),
-          accepted (none_then [] (Own own) own refl whole tt) (record { host = refl; random = refl }) (flushed k own next.0 next.1),
-          shows_next sealed base old new words next.0 whole next.1 next.2 same dirty,
-        ),
-      )
+      let own = seat_on base old in
+      at_last (flush_act old next.0 true ∷ []) (λ unforged. (
+        Own (resealed own next.0),
+        accepted (none_then [] (Own own) own refl whole tt) (record { host = refl; random = refl }) (flushed k own next.0 next.1),
+        shows_next sealed base old new words next.0 whole next.1 next.2 same dirty,
+      ))
 
   by_case : (result : Result (Unit {0}) FlushFault) → FlushCase result old new before after random random' → SeatGoes key false (lines.Flush k) (Ok (flush_result result)) (Some old) (Some new) before after random random'
   by_case result (lacked words seen same stays said) =

@@ -37,3 +37,4 @@ pub mod SeatCalls
 pub mod FlushLine
 pub mod CloseLine
 pub mod Desking
+pub mod DrawLine

@@ -11,11 +11,12 @@ use Rattle.pf_io.specs.declared.faults.Memory.{Memory}
 use Rattle.pf_io.proofs.Telling.{both_same, told_none, told_by}
 use Rattle.pf_session.specs.Asking.{IsTaken as AreTaken}
 use Rattle.pf_session.specs.State.{SessionState}
+use Rattle.pf_script.specs.BookActs.{Act}
 use Rattle.pf_script.specs.BookSeats.{Covering, KeepsUnder}
 use Rattle.pf_script.specs.Desk.{IsSeatOf, IsSeated, Shows}
-use Rattle.pf_script.specs.DeskSteps.{WasSeen, SeatAsks, CoversSome, Concerns, SeatGoes}
+use Rattle.pf_script.specs.DeskSteps.{Unfolds, in_the_end, then_more, WasSeen, SeatAsks, CoversSome, Concerns, SeatGoes}
 use Rattle.pf_script.specs.Rules.{Rule, IsFirst, NoneRefuses, IsBroken, rules, seated_rules}
-use Rattle.pf_script.specs.Script.{OwnSeat, Seat, Empty, Own}
+use Rattle.pf_script.specs.Script.{OwnSeat, Seat, Empty, Own, sheets_of}
 use Rattle.pf_script.specs.Turns.{Seen, SeatTurn, refused, on_carried}
 use Rattle.pf_script.specs.declared.line.ScriptLine.{ScriptLine}
 use Rattle.pf_script.specs.declared.reply.Reply.{Reply}
@@ -35,20 +36,22 @@ none_taken words = both_same (AreTaken []) words.left words.left refl (λ left. 
 pub same_keeps : (cover : Covering) (concerns : Name → Type 0) (a : Honest) → KeepsUnder cover cover concerns a a
 same_keeps cover concerns a book seats agrees reads covers = ([], seats, (unchanged_now a, λ seat has. has), covers, λ seat has apart. has, λ name none. absurd none)
 
+-- all that was done, at once
+pub at_last : {key : List ℕ} {sealed : List Sheet} {P : List Act → Type 0} {given : List Answer} (acts : List Act) → (Unforged key (sealed ++ sheets_of acts) given → P acts) → Unfolds key sealed P given []
+at_last {key} {sealed} {P} {given} acts ends = then_more [] acts [] given refl (λ unforged. in_the_end acts ends)
+
 module _ (key : List ℕ) (taken : Bool) (line : ScriptLine) (why : Why) (old : Option SessionState) (host : HostState) (words : WordsState)
     (first : (sealed : List Sheet) (seat : Seat) → Shows sealed seat old → IsFirst (rules key taken seat line []) why) where
   refused_asks : SeatAsks key taken line (replies.Refused why) old old [] host host words words
   refused_asks = record {
     seen = idle_seen;
     was_seen = record { answers = refl; words = none_taken words; of_host = refl; of_words = refl };
-    turns = λ sealed seat shows. (
-      [],
-      λ unforged. (
-        seat,
-        refused why (first sealed seat shows) (record { host = refl; random = refl }) refl refl refl refl,
-        subst (λ (l : List Sheet). Shows l seat old) (sym (append-nil sealed)) shows,
-      ),
-    );
+    turns = λ sealed seat shows.
+        at_last [] (λ unforged. (
+          seat,
+          refused why (first sealed seat shows) (record { host = refl; random = refl }) refl refl refl refl,
+          subst (λ (l : List Sheet). Shows l seat old) (sym (append-nil sealed)) shows,
+        ));
   }
 
   pub refused_goes : IsSeatOf key old → SeatGoes key taken line (Ok (replies.Refused why)) old old host host words words

@@ -3,7 +3,6 @@ use Rattle.std.proofs.Common.{◌≡◌, inl, inr, Bool, true, false, List, [], 
 use Rattle.std.proofs.lemmas.List.{append-nil}
 use Rattle.std.specs.Prelude.{Contains}
 use Rattle.node_tree.specs.Sheet.{Sheet, IsLinked}
-use Rattle.node_tree.specs.Unforged.{Unforged}
 use Rattle.pf_session.specs.Backing.{IsBacked}
 use Rattle.pf_io.specs.Disk.{Name}
 use Rattle.pf_io.specs.Host.{Answer, HostState, OnDisk}
@@ -13,7 +12,7 @@ use Rattle.pf_session.specs.State.{SessionState}
 use Rattle.pf_script.specs.BookSeats.{Covers, CoversNone, KeepsUnder}
 use Rattle.pf_script.specs.BookActs.{Act}
 use Rattle.pf_script.specs.Desk.{IsSeated, Shows, seat_on}
-use Rattle.pf_script.specs.DeskSteps.{CountsFault, SeatTurns, SeatAsks, CoversSome, Concerns, HasItsName, SeatGoes, is_host_fault, is_words_fault}
+use Rattle.pf_script.specs.DeskSteps.{Unfolds, CountsFault, SeatTurns, SeatAsks, CoversSome, Concerns, HasItsName, SeatGoes, is_host_fault, is_words_fault}
 use Rattle.pf_script.specs.Script.{OwnSeat, Seat, Own, sheets_of}
 use Rattle.pf_script.specs.SeatReplies.{flush_reply}
 use Rattle.pf_script.specs.Turns.{Seen, SeatTurn, on_carried, Blame, ByHost, ByDamage}
@@ -46,16 +45,14 @@ own_same sheet key key' name name' content content' dirty dirty' changed changed
 abbrev pub SheetTurns : List ℕ → Bool → ScriptLine → Seen → Reply → SessionState → Option SessionState → List Answer → Type 0
 SheetTurns key taken line seen reply old new given =
     (sealed : List Sheet) (base : Sheet) → Contains sealed base → IsLinked base → IsBacked base old
-    → (acts : List Act) × (Unforged key (sealed ++ sheets_of acts) given → (left : Seat) × SeatTurn (on_carried key sealed) key taken (Own (seat_on base old)) line seen reply acts left × Shows (sealed ++ sheets_of acts) left new)
+    → Unfolds key sealed (λ acts. (left : Seat) × SeatTurn (on_carried key sealed) key taken (Own (seat_on base old)) line seen reply acts left × Shows (sealed ++ sheets_of acts) left new) given []
 
 pub whole_turns : (key : List ℕ) (taken : Bool) (line : ScriptLine) (seen : Seen) (reply : Reply) (old : SessionState) (new : Option SessionState) (given : List Answer) → old.broken ≡ false
     → SheetTurns key taken line seen reply old new given → SeatTurns key taken line seen reply (Some old) new given
 whole_turns key taken line seen reply old new given whole turns sealed seat shows =
     let on = shows_whole sealed seat old whole shows in
-    let turn = turns sealed on.sheet on.among on.linked on.backed in (
-      turn.0,
-      λ unforged. let ends = turn.1 unforged in (ends.0, subst (λ (x : Seat). SeatTurn (on_carried key sealed) key taken x line seen reply turn.0 ends.0) (sym on.seat_is) ends.1, ends.2),
-    )
+    subst (λ (x : Seat). Unfolds key sealed (λ acts. (left : Seat) × SeatTurn (on_carried key sealed) key taken x line seen reply acts left × Shows (sealed ++ sheets_of acts) left new) given []) (sym on.seat_is)
+    (turns sealed on.sheet on.among on.linked on.backed)
 
 -- the counts that rose where a flush failed
 pub host_reply : (blame : Blame) → is_host_fault (flush_reply (fault_of blame)) ≡ host_blamed blame

@@ -1,5 +1,5 @@
 -- What a step of a desk comes to.
-use Rattle.std.specs.Prelude.{⊤, ◌≡◌, ◌≢◌, ◌⊎◌, ℕ, Bool, true, false, List, ◌++◌, length, Option, Some, None, IsSomeAnd, Result, Ok, Err}
+use Rattle.std.specs.Prelude.{⊤, ◌≡◌, ◌≢◌, ◌⊎◌, ℕ, Bool, true, false, List, [], ◌++◌, length, Option, Some, None, IsSomeAnd, Result, Ok, Err}
 use Rattle.node_tree.specs.Sheet.{Sheet}
 use Rattle.node_tree.specs.Unforged.{Unforged}
 use Rattle.pf_io.specs.Counts.{counted}
@@ -34,11 +34,17 @@ pub record WasSeen (seen : Seen) (given : List Answer) (before after : HostState
   pub of_host : CountsFault seen.host_failed before.faults after.faults
   pub of_words : CountsFault seen.words_failed random.faults random'.faults
 
--- Whatever the seat shows, and whatever was sealed before: some acts were done, and where with their sheets nothing is forged, the line is answered on the seat as it may be.
+-- What a step did to names, as far as nothing is forged: the acts so far; where no block that was given until then opens to what none of the sheets has that were sealed so
+-- far, there may be more; and in the end P holds of them all.
+pub data Unfolds (key : List ℕ) (sealed : List Sheet) (P : List Act → Type 0) (given : List Answer) : List Act → Type 0 where
+  in_the_end : (acts : List Act) → (Unforged key (sealed ++ sheets_of acts) given → P acts) → Unfolds key sealed P given acts
+  then_more : (acts more : List Act) (these rest : List Answer) → given ≡ these ++ rest → (Unforged key (sealed ++ sheets_of acts) these → Unfolds key sealed P given (acts ++ more)) → Unfolds key sealed P given acts
+
+-- Whatever the seat shows, and whatever was sealed before: the line is answered on the seat as it may be.
 abbrev pub SeatTurns : List ℕ → Bool → ScriptLine → Seen → Reply → Option SessionState → Option SessionState → List Answer → Type 0
 SeatTurns key taken line seen reply old new given =
     (sealed : List Sheet) (seat : Seat) → Shows sealed seat old
-    → (acts : List Act) × (Unforged key (sealed ++ sheets_of acts) given → (left : Seat) × SeatTurn (on_carried key sealed) key taken seat line seen reply acts left × Shows (sealed ++ sheets_of acts) left new)
+    → Unfolds key sealed (λ acts. (left : Seat) × SeatTurn (on_carried key sealed) key taken seat line seen reply acts left × Shows (sealed ++ sheets_of acts) left new) given []
 
 pub record SeatAsks (key : List ℕ) (taken : Bool) (line : ScriptLine) (reply : Reply) (old new : Option SessionState) (given : List Answer) (before after : HostState) (random random' : WordsState) : Type 0 where
   pub seen : Seen
@@ -62,12 +68,12 @@ OtherHas desk k name = (j : ℕ) × (j ≢ k) × HasItsName (session_at desk j) 
 abbrev pub Concerns : Bool → ScriptLine → Option SessionState → Name → Type 0
 Concerns taken line old name = HasItsName old name ⊎ ((name_of_line line ≡ Some name) × (taken ≡ false))
 
--- So for a desk. The premise is that of all answers so far, on those of this step: no block that was given opens to what none of the sheets has that were sealed so far.
+-- So for a desk.
 pub record Asks (line : ScriptLine) (reply : Reply) (old new : DeskState) (given : List Answer) (before after : HostState) (random random' : WordsState) : Type 0 where
   pub seen : Seen
   pub was_seen : WasSeen seen given before after random random'
   pub turns : (state : ScriptState) → IsStateOf state old
-      → (acts : List Act) × (Unforged old.key (state.sealed ++ sheets_of acts) given → (left : ScriptState) × Turn (on_carried old.key state.sealed) state line seen reply acts left × IsStateOf left new)
+      → Unfolds old.key state.sealed (λ acts. (left : ScriptState) × Turn (on_carried old.key state.sealed) state line seen reply acts left × IsStateOf left new) given []
 
 -- where the book speaks of the name of a seat's session, it is covered
 abbrev pub CoversSome : Option SessionState → Covering

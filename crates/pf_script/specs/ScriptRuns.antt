@@ -1,9 +1,7 @@
 -- A run of a script: one turn after the other, each from the state that the one before left.
-use Rattle.std.specs.Prelude.{◌≡◌, List, [], ◌∷◌, ◌++◌}
-use Rattle.node_tree.specs.Sheet.{Sheet}
-use Rattle.node_tree.specs.Unforged.{Unforged}
-use Rattle.pf_script.specs.BookActs.{Act}
-use Rattle.pf_script.specs.Script.{ScriptState, sheets_of}
+use Rattle.std.specs.Prelude.{List, [], ◌∷◌}
+use Rattle.pf_script.specs.DeskSteps.{Unfolds}
+use Rattle.pf_script.specs.Script.{ScriptState}
 use Rattle.pf_script.specs.Turns.{Seen, Turn, on_carried}
 use Rattle.pf_script.specs.declared.line.ScriptLine.{ScriptLine}
 use Rattle.pf_script.specs.declared.reply.Reply.{Reply}
@@ -18,6 +16,4 @@ pub record Exchange : Type 0 where
 abbrev pub Follows : ScriptState → List Exchange → (ScriptState → Type 0) → Type 0
 Follows state [] E = E state
 Follows state (exchange ∷ exchanges) E =
-    (acts : List Act)
-    × (Unforged state.key (state.sealed ++ sheets_of acts) exchange.seen.given
-    → (left : ScriptState) × Turn (on_carried state.key state.sealed) state exchange.line exchange.seen exchange.reply acts left × Follows left exchanges E)
+    Unfolds state.key state.sealed (λ acts. (left : ScriptState) × Turn (on_carried state.key state.sealed) state exchange.line exchange.seen exchange.reply acts left × Follows left exchanges E) exchange.seen.given []
