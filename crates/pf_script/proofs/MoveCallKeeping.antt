@@ -5,15 +5,14 @@ use Rattle.pf_io.specs.Names.{IsTarget, recovery_of}
 use Rattle.pf_io.specs.Moments.{Honest, Ran, Where}
 use Rattle.pf_io.specs.Host.{HostState, OnDisk, ReadsAsImage}
 use Rattle.pf_io.specs.Words.{WordsState}
-use Rattle.node_tree.specs.Sheet.{Sheet, IsLinked}
+use Rattle.node_tree.specs.Sheet.{Sheet}
 use Rattle.pf_session.specs.Aside.{Apart, LeavesApart, KeepsApart, LeavesApartBoth, KeepsApartBoth, AsideBoth}
 use Rattle.pf_session.specs.Moving.{MoveGoes, misnamed, no_memory, look_up_failed, was_there, no_words, not_flushed, not_moved, moved, IsFree, FlushesFirst, as_it_is, flushed, MovesOn as MovesAs, Moves, IsKeptOn, renamed, MovedAs, MovedIf}
 use Rattle.pf_session.specs.Reopening.{Stood}
 use Rattle.pf_session.specs.State.{SessionState}
-use Rattle.pf_session.specs.declared.fault.FlushFault.{FlushFault}
 use Rattle.pf_session.specs.declared.fault.MoveFault.{MoveFault}
 use Rattle.pf_script.specs.Book.{Entry}
-use Rattle.pf_script.specs.BookActs.{Flush, Act, Among, flushed as flushed_book}
+use Rattle.pf_script.specs.BookActs.{Flush, flushed as flushed_book}
 use Rattle.pf_script.specs.BookDebts.{Unchanged, Owes, seat_of}
 use Rattle.pf_script.specs.BookSeats.{IsOfScript, Covers, Kept, KeepsUnder}
 use Rattle.pf_script.proofs.ActKeeping.{no_sheet, one_act, one_spares, idle_keeps, unchanged_now}

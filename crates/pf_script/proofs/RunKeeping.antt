@@ -1,9 +1,7 @@
 -- What a run of steps keeps of the book that it began with.
-use Rattle.std.proofs.Common.{◌≡◌, refl, sym, ◌∙◌, ap, ℕ, List, Option, Some, None}
+use Rattle.std.proofs.Common.{◌≡◌, sym, ◌∙◌, ap, ℕ, List, Some, None}
 use Rattle.pf_io.specs.Host.{HostState, OnDisk, ReadsAsImage}
-use Rattle.pf_io.specs.Moments.{Honest}
 use Rattle.pf_io.proofs.Telling.{both_same}
-use Rattle.pf_session.specs.State.{SessionState}
 use Rattle.pf_script.specs.Book.{Book, Seal}
 use Rattle.pf_script.specs.BookLaws.{StartsWith, RunKeeps}
 use Rattle.pf_script.specs.BookSeats.{CoversNone, KeepsUnder}
