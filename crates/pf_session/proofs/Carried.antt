@@ -247,6 +247,10 @@ relocate_apart : {T E : Type 0} (r : Result T E) (from to : Name) (block ks : Li
 relocate_apart (Ok x) from to block ks d e ends = ends.apart
 relocate_apart (Err x) from to block ks d e ends = ends
 
+relocate_gone : {T E : Type 0} (r : Result T E) (from to : Name) (block ks : List ℕ) (d e : Disk) → done_of r ≡ true → RelocateLeaves r from to block ks d e → e from ≡ None
+relocate_gone (Ok x) from to block ks d e done ends = ends.gone
+relocate_gone (Err x) from to block ks d e done ends = let wrong : false ≡ true = done in absurd (cc)
+
 module _ {T E : Type 0} (r : Result T E) (session : SessionState) (to nonce : List ℕ) (before after : HostState) (first_length : length session.tree.first ≡ 3072) (path_is : IsPath to) (nonce_length : length nonce ≡ 32) (key_length : length session.key ≡ 16) where
   abbrev Relocates : Name → Name → List ℕ → ℕ → Type 0
   Relocates from new block count = OnDisk before after (Ran (RelocateImage from new block (clean_below [] count)) (RelocateLeaves r from new block (clean_below [] count)))
@@ -256,6 +260,7 @@ module _ {T E : Type 0} (r : Result T E) (session : SessionState) (to nonce : Li
       let block = node_of session.key to nonce session.tree in
       let ks = clean_below [] (node_count session.tree.size) in
       record {
+        gone = λ done. both_weaker (Ran (RelocateImage session.name to block ks) (RelocateLeaves r session.name to block ks)) _ before.honest after.honest disk (λ a b run. relocate_gone r session.name to block ks a.now b.now done run.ends);
         aside =
             ran_weaker (RelocateImage session.name to block ks) (LeavesApartBoth session.name to) (RelocateLeaves r session.name to block ks) (KeepsApartBoth session.name to) before.honest after.honest (λ d image is. is.apart)
             (relocate_apart r session.name to block ks) disk;

@@ -11,6 +11,7 @@ pub mod OfTree
 pub mod Calls
 pub mod Disks
 pub mod Lists
+pub mod Names
 pub mod Copies
 pub mod Copied
 pub mod CopyLoop
@@ -31,3 +32,4 @@ pub mod Renamed
 pub mod Relocated
 pub mod Carried
 pub mod Moved
+pub mod MovedTo

@@ -14,7 +14,7 @@ use Rattle.pf_session.specs.declared.fault.FlushFault.TheVariants as faults
 use Rattle.pf_session.proofs.Apartness.{no_side}
 use Rattle.pf_session.proofs.Calls.{asked_then, stopped_then, stopped_more}
 use Rattle.pf_session.proofs.Placing.{ran_weaker}
-use Rattle.pf_session.proofs.Replacing.{side_apart}
+use Rattle.pf_session.proofs.Names.{side_apart}
 
 module _ (from to : Name) (target : IsTarget from) (node numbers : List ℕ) where
   from_side : from ≢ side_of to

@@ -15,7 +15,7 @@ use Rattle.pf_session.specs.Relocating.{name_steps, NamedAs, not_yet, both, new_
 use Rattle.pf_session.proofs.Apartness.{no_side, no_recovery}
 use Rattle.pf_session.proofs.Calls.{asked_then, asked_neither, failed_neither, stopped_first, stopped_then}
 use Rattle.pf_session.proofs.Placing.{settled_follow}
-use Rattle.pf_session.proofs.Replacing.{side_apart, recovery_apart, recovery_not_side}
+use Rattle.pf_session.proofs.Names.{side_apart, recovery_apart, recovery_not_side}
 
 module _ (from to : Name) (target : IsTarget from) where
   from_side : from ≢ side_of to

@@ -4,7 +4,7 @@ use Rattle.node_layout.specs.Places.{node_count}
 use Rattle.node_tree.specs.Next.{NextSheet}
 use Rattle.node_tree.specs.Sheet.{Sheet, IsLinked, Stands}
 use Rattle.pf_io.specs.Disk.{Name, Disk, Image}
-use Rattle.pf_io.specs.Host.{HostState, OnDisk, OnHonest, contents}
+use Rattle.pf_io.specs.Host.{HostState, OnDisk, OnHonest, ReadsAsImage, contents}
 use Rattle.pf_io.specs.Moments.{Ran, Ends, Where}
 use Rattle.pf_io.specs.Names.{IsTarget}
 use Rattle.pf_io.specs.Words.{WordsState}
@@ -52,8 +52,13 @@ pub record MovesOn (done : Bool) (to : Name) (nonce : List ℕ) (base : Sheet) (
   pub moved : OnDisk before after (Where (λ disk. Stood session.key session.name base disk × (disk to ≡ None)) (Ran (λ disk. MovedAs session.key session.name base to next) (MovedIf done session.key session.name to next)))
   pub stands : done ≡ true → OnDisk before after (Where (λ disk. ReadsAs session.key session.name base disk × (disk to ≡ None)) (Ends (IsMoved session.key session.name to next)))
 
--- The file of a session of which nothing is to be sealed is moved.
+-- a name is absent in the end
+abbrev pub IsGone : Name → HostState → HostState → Type 0
+IsGone name before after = OnDisk before after (λ old new. new.now name ≡ None)
+
+-- The file of a session of which nothing is to be sealed is moved. Where this is done, the old name is absent.
 pub record Carries (done : Bool) (to : Name) (nonce : List ℕ) (session : SessionState) (before after : HostState) : Type 0 where
+  pub gone : done ≡ true → IsGone session.name before after
   pub aside : AsideBoth session.name to before after
   pub each : (base : Sheet) → IsLinked base → RestsOn base session → MovesOn done to nonce base session before after
 
@@ -71,11 +76,11 @@ abbrev pub after_carry : Result (Unit {0}) FlushFault → List ℕ → SessionSt
 after_carry (Ok done) nonce session = record session { nonce = nonce }
 after_carry (Err fault) nonce session = record session { broken = true }
 
--- A session that is changed is flushed first. All words are taken before: those of the flush, and then the two of the move.
+-- A session that is changed is flushed first. All words are taken before: those of the flush, and then the two of the move. Where the host is honest, the disk in between reads as one of its images.
 pub data FlushesFirst (old mid : SessionState) (nonce : List ℕ) (before after : HostState) (random random' : WordsState) : Type 0 where
   as_it_is : old.changed ≡ false → mid ≡ old → after ≡ before → IsDrawn nonce random random' → FlushesFirst old mid nonce before after random random'
   flushed : (sealed : List ℕ) (keys : List (List ℕ)) (between : WordsState) → old.changed ≡ true → WordsCame old.drawn (length old.tree.dirty) sealed keys random between → IsDrawn nonce between random'
-      → SealGoes (Ok tt) sealed keys old mid before after → Aside old.name before after → FlushesFirst old mid nonce before after random random'
+      → SealGoes (Ok tt) sealed keys old mid before after → Aside old.name before after → ReadsAsImage after → FlushesFirst old mid nonce before after random random'
 
 -- it was not flushed
 pub record FlushFails (fault : FlushFault) (old new : SessionState) (before after : HostState) (random random' : WordsState) : Type 0 where

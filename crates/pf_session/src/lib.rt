@@ -13,7 +13,11 @@ mod drawing;
 mod ending;
 mod fault;
 mod file_name;
+#[cfg(test)]
+mod fixtures;
 mod flushing;
+#[cfg(test)]
+mod flushing_tests;
 mod laws;
 mod moving;
 #[cfg(test)]
@@ -26,8 +30,6 @@ mod opening_tests;
 mod reading;
 mod sealing;
 mod session;
-#[cfg(test)]
-mod tests;
 
 pub use fault::{BesideFault, CreateFault, FlushFault, MoveFault, SizeFault, WriteFault, Written};
 pub use laws::openings_are_decided;

@@ -1,5 +1,5 @@
 //! The move of a protected file to another name.
-ghost use Rattle.std.specs.Prelude.{◌≡◌, ◌≢◌, ◌≤◌, ◌^◌, ◌↔◌, IsSome, IfSome, true, false, []};
+ghost use Rattle.std.specs.Prelude.{◌≡◌, ◌≢◌, ◌≤◌, ◌^◌, ◌↔◌, IsSome, IfSome, OnOk, true, false, []};
 ghost use Rattle.node_layout.specs.Metadata.{IsPath};
 ghost use Rattle.node_layout.specs.Places.{node_count};
 ghost use Rattle.pf_io.specs.Counts.{HasCause};
@@ -10,9 +10,8 @@ ghost use Rattle.pf_session.specs.Aside.{AsideBoth, LeavesOthers};
 ghost use Rattle.pf_session.specs.Copying.{clean_below};
 ghost use Rattle.pf_session.specs.Flushing.{host_part, words_part};
 ghost use Rattle.pf_session.specs.Making.{StepsGo, ReplaceUndamaged, done_of};
-ghost use Rattle.pf_session.specs.Moving.{CarryGoes, Carries, CarryEnds, MoveGoes, UndamagedMove, UndamagedCarry, UndamagedAtRest, after_carry, move_host_part, move_words_part};
+ghost use Rattle.pf_session.specs.Moving.{CarryGoes, Carries, CarryEnds, IsGone, MoveGoes, UndamagedMove, UndamagedCarry, UndamagedAtRest, after_carry, move_host_part, move_words_part};
 ghost use Rattle.pf_session.specs.Relocating.{PutLeaves, MakesCopy, CopyFileGoes, NameImage, NameLeaves, RelocateImage, RelocateLeaves, RelocateGoes, put_steps, name_steps};
-
 
 use crate::copying::copy_clean;
 use crate::drawing::{draw_nonce, take_words};
@@ -193,9 +192,9 @@ impl Session {
     {
         let dirty = dirty_numbers(&self.tree);
         let (sealed, keys) = take_words(&self.drawn, dirty.len(), random)?;
-        let nonce = draw_nonce(random)?;
+        let own = draw_nonce(random)?;
         self.seal(host, &sealed, &dirty, &keys)?;
-        self.carry(host, path, side, recovery, &nonce)
+        self.carry(host, path, side, recovery, &own)
     }
 
     // Moves the file, after a flush where the session is changed.
@@ -252,6 +251,7 @@ impl Session {
     ) -> Result<(), MoveFault>
         requires whole { self.old.broken ≡ false }
         requires named { self.old.beside ≡ false }
+        ensures gone { OnOk result (IsGone self.old.name (H.state host.old) (H.state host.new)) }
         ensures goes { MoveGoes result new.now self.old self.new (H.state host.old) (H.state host.new) (R.state random.old) (R.state random.new) }
         ensures cause { HasCause (H.state host.old).faults (H.state host.new).faults (move_host_part result) }
         ensures random_cause { HasCause (R.state random.old).faults (R.state random.new).faults (move_words_part result) }

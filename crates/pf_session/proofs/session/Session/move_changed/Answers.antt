@@ -26,9 +26,9 @@ pub returns-in_err-sealed-clause-aside : goal.returns-in_err-sealed-clause-aside
 returns-in_err-sealed-clause-aside g c =
     both_none c.args.self.now.name c.args.path.now (g.H.Host.state c.args.host.now)
 
-pub returns-in_err-nonce-clause-ends : goal.returns-in_err-nonce-clause-ends
-returns-in_err-nonce-clause-ends g c =
-    let p = err_from_is_err_and c.from_residual-in_err-nonce.result c.from_residual-in_err-nonce.ensures.1 in
+pub returns-in_err-own-clause-ends : goal.returns-in_err-own-clause-ends
+returns-in_err-own-clause-ends g c =
+    let p = err_from_is_err_and c.from_residual-in_err-own.result c.from_residual-in_err-own.ensures.1 in
     let s = c.args.self.now in
     let to = c.args.path.now in
     let s0 = g.H.Host.state c.args.host.now in
@@ -40,10 +40,10 @@ returns-in_err-nonce-clause-ends g c =
     let items = c.in_ok-sealed.keys.items in
     let came = subst (λ (n : ℕ). WordsCame s.drawn n sealed items r0 r1) count (subst (λ (x : SessionState). WordsCame x.drawn c.len.result sealed items r0 r1) c.self.view_is c.in_ok-sealed.ensures.taken) in
     let same = p.1 ∙ ap (λ (f : FlushFault). let r : Result (Unit {0}) FlushFault = Err f in r) p.2 in
-    rw same (lacked_words (lacks_last s r0 r1 r2 c.requires.changed sealed items came c.in_err-nonce.ensures.failed) refl refl refl)
+    rw same (lacked_words (lacks_last s r0 r1 r2 c.requires.changed sealed items came c.in_err-own.ensures.failed) refl refl refl)
 
-pub returns-in_err-nonce-clause-aside : goal.returns-in_err-nonce-clause-aside
-returns-in_err-nonce-clause-aside g c =
+pub returns-in_err-own-clause-aside : goal.returns-in_err-own-clause-aside
+returns-in_err-own-clause-aside g c =
     both_none c.args.self.now.name c.args.path.now (g.H.Host.state c.args.host.now)
 
 pub returns-in_err-seal-clause-ends : goal.returns-in_err-seal-clause-ends
@@ -60,11 +60,11 @@ returns-in_err-seal-clause-ends g c =
     let items = c.in_ok-sealed.keys.items in
     let came = subst (λ (n : ℕ). WordsCame s.drawn n sealed items r0 r1) count (subst (λ (x : SessionState). WordsCame x.drawn c.len.result sealed items r0 r1) c.self.view_is c.in_ok-sealed.ensures.taken) in
     let s1 = g.H.Host.state c.seal.new.host in
-    let nonce = c.in_ok-nonce.nonce in
+    let nonce = c.in_ok-own.own in
     let came_keys = subst (λ (k : List (List ℕ)). WordsCame s.drawn (length s.tree.dirty) sealed k r0 r1) (sym c.deref-2.ensures.0) came in
     let keys = c.deref-2.result.now in
     let same = p.1 ∙ ap (λ (f : FlushFault). let r : Result (Unit {0}) FlushFault = Err f in r) p.2 in
-    rw same (not_flushed_ends c.in_err-seal.field-0.0 to sealed keys nonce s c.seal.new.self s0 s1 r0 r1 r2 c.requires.changed came_keys c.in_ok-nonce.ensures.drawn c.in_err-seal.ensures.goes c.seal.ensures.aside)
+    rw same (not_flushed_ends c.in_err-seal.field-0.0 to sealed keys nonce s c.seal.new.self s0 s1 r0 r1 r2 c.requires.changed came_keys c.in_ok-own.ensures.drawn c.in_err-seal.ensures.goes c.seal.ensures.aside)
 
 pub returns-in_err-seal-clause-aside : goal.returns-in_err-seal-clause-aside
 returns-in_err-seal-clause-aside g c =
@@ -90,12 +90,12 @@ returns-clause-ends g c =
     let items = c.in_ok-sealed.keys.items in
     let came = subst (λ (n : ℕ). WordsCame s.drawn n sealed items r0 r1) count (subst (λ (x : SessionState). WordsCame x.drawn c.len.result sealed items r0 r1) c.self.view_is c.in_ok-sealed.ensures.taken) in
     let s1 = g.H.Host.state c.seal.new.host in
-    let nonce = c.in_ok-nonce.nonce in
+    let nonce = c.in_ok-own.own in
     let came_keys = subst (λ (k : List (List ℕ)). WordsCame s.drawn (length s.tree.dirty) sealed k r0 r1) (sym c.deref-2.ensures.0) came in
     let keys = c.deref-2.result.now in
     let s2 = g.H.Host.state c.carry.new.host in
     let mid = c.seal.new.self in
-    ends c.carry.result to nonce s mid c.carry.new.self s0 s1 s2 r0 r2 (flushed sealed keys r1 c.requires.changed came_keys c.in_ok-nonce.ensures.drawn c.in_ok-seal.ensures.goes c.seal.ensures.aside)
+    ends c.carry.result to nonce s mid c.carry.new.self s0 s1 s2 r0 r2 (flushed sealed keys r1 c.requires.changed came_keys c.in_ok-own.ensures.drawn c.in_ok-seal.ensures.goes c.seal.ensures.aside (g.met.H.Host.reads_as_image c.seal.new.host))
     c.carry.ensures.goes c.carry.ensures.carries c.carry.ensures.state
 
 pub returns-clause-aside : goal.returns-clause-aside
