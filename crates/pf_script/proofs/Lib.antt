@@ -36,3 +36,5 @@ pub mod FlushLine
 pub mod CloseLine
 pub mod Desking
 pub mod DrawLine
+pub mod StepFacts
+pub mod StepTurns
