@@ -38,3 +38,4 @@ pub mod Desking
 pub mod DrawLine
 pub mod StepFacts
 pub mod StepTurns
+pub mod ChangeTold
