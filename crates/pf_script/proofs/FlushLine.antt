@@ -36,18 +36,18 @@ flush_result (Ok ok) = replies.Flushed
 flush_result (Err fault) = flush_reply fault
 
 -- a session that was flushed, on the sheet that it sealed
-pub resealed_is : (base : Sheet) (old new : SessionState) (words : List (List ℕ)) (next : Sheet) → Seals (seat_on base old) words next → StandsOn next new → {nonce : List ℕ} {tree : TreeState}
-    → new ≡ record old { nonce = nonce; drawn = None; tree = tree; changed = false } → new.tree.dirty ≡ [] → Own (resealed (seat_on base old) next) ≡ Own (seat_on next new)
-resealed_is base old new words next seals on same dirty =
-    ap Own (own_same next old.key new.key old.name new.name (now base old.tree) (now next new.tree) [] new.tree.dirty false new.changed None new.drawn old.broken new.broken
-        (sym (ap (λ (s : SessionState). s.key) same)) (sym (ap (λ (s : SessionState). s.name) same)) (sym seals.next.content_is ∙ sym on.now_is) (sym dirty)
-        (sym (ap (λ (s : SessionState). s.changed) same)) (sym (ap (λ (s : SessionState). s.drawn) same)) (sym (ap (λ (s : SessionState). s.broken) same)))
+pub resealed_own : (base : Sheet) (old new : SessionState) (words : List (List ℕ)) (next : Sheet) → Seals (seat_on base old) words next → StandsOn next new → {nonce : List ℕ} {tree : TreeState}
+    → new ≡ record old { nonce = nonce; drawn = None; tree = tree; changed = false } → new.tree.dirty ≡ [] → resealed (seat_on base old) next ≡ seat_on next new
+resealed_own base old new words next seals on same dirty =
+    own_same next old.key new.key old.name new.name (now base old.tree) (now next new.tree) [] new.tree.dirty false new.changed None new.drawn old.broken new.broken
+    (sym (ap (λ (s : SessionState). s.key) same)) (sym (ap (λ (s : SessionState). s.name) same)) (sym seals.next.content_is ∙ sym on.now_is) (sym dirty)
+    (sym (ap (λ (s : SessionState). s.changed) same)) (sym (ap (λ (s : SessionState). s.drawn) same)) (sym (ap (λ (s : SessionState). s.broken) same))
 
 -- the sheet that a call sealed is among those that were sealed
 pub shows_next : (sealed : List Sheet) (base : Sheet) (old new : SessionState) (words : List (List ℕ)) (next : Sheet) → old.broken ≡ false → Seals (seat_on base old) words next → StandsOn next new → {nonce : List ℕ} {tree : TreeState}
     → new ≡ record old { nonce = nonce; drawn = None; tree = tree; changed = false } → new.tree.dirty ≡ [] → Shows (sealed ++ next ∷ []) (Own (resealed (seat_on base old) next)) (Some new)
 shows_next sealed base old new words next whole seals on same dirty =
-    whole_file next new (ap (λ (s : SessionState). s.broken) same ∙ whole) (Contains-push sealed next) seals.next.linked on.backed (resealed_is base old new words next seals on same dirty) refl
+    whole_file next new (ap (λ (s : SessionState). s.broken) same ∙ whole) (Contains-push sealed next) seals.next.linked on.backed (ap Own (resealed_own base old new words next seals on same dirty)) refl
 
 -- the act of a flush
 abbrev pub flush_act : SessionState → Sheet → Bool → Act

@@ -38,3 +38,6 @@ pub mod FlushLine
 pub mod CloseLine
 pub mod Desking
 pub mod DrawLine
+pub mod StepFacts
+pub mod StepTurns
+pub mod ChangeTold
