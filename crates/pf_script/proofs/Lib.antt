@@ -35,6 +35,7 @@ pub mod Refusing
 pub mod Flushed
 pub mod SeatCalls
 pub mod FlushLine
+pub mod Under
 pub mod CloseLine
 pub mod Desking
 pub mod DrawLine
