@@ -39,3 +39,4 @@ pub mod DrawLine
 pub mod StepFacts
 pub mod StepTurns
 pub mod ChangeTold
+pub mod ChangeEnds
