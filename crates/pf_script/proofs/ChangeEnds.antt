@@ -26,7 +26,7 @@ use Rattle.pf_script.specs.SeatSteps.{AsksFor, Seals}
 use Rattle.pf_script.specs.Turns.{Blame, ByHost, ByDamage, flushes, BlamesFlush, BlamesFetch}
 use Rattle.pf_script.specs.declared.line.ScriptLine.{ScriptLine}
 use Rattle.pf_script.specs.declared.reply.Reply.TheVariants as replies
-use Rattle.pf_script.proofs.ChangeTold.{Outcome, Went, Broke, Lacked, Wanted, outcome_of, ChangeTold, told_once, told_lacked, told_unflushed, told_after, flush_more, fetch_more}
+use Rattle.pf_script.proofs.ChangeTold.{Grew, Outcome, Went, Broke, Lacked, Wanted, outcome_of, ChangeTold, told_once, told_lacked, told_unflushed, told_after, flush_more, fetch_more}
 use Rattle.pf_script.proofs.Flushed.{SealsOwn, host_blamed, fault_of}
 use Rattle.pf_script.proofs.StepFacts.{StepFacts, StepOut, flushes_first, fits_at}
 use Rattle.pf_script.proofs.StepTurns.{flushes_on, Made, LineEnds, gives, fetch_failed, no_word, flush_failed, fetch_failed_after, made_more, made_after}
@@ -37,7 +37,7 @@ module _ (key : List ℕ) (sealed : List Sheet) (own : OwnSeat) (line : ScriptLi
     (step : Step) (steps : List Step) (asks : AsksFor line (length own.content) (made ++ step ∷ steps)) (new : SessionState) (more : List (List ℕ)) where
   -- what is to be shown of each way to end
   pub record Continues (outcome : Outcome) : Type 0 where
-    pub went : outcome ≡ Went → (sheets' : List Sheet) (base' : Sheet) → Made sealed own new (made ++ step ∷ []) (words ++ more) sheets' base' → Unfolds key sealed P given (flushes own sheets')
+    pub went : (flushed : Bool) → outcome ≡ Went flushed → (sheets' : List Sheet) (base' : Sheet) → Grew flushed sheets sheets' → Made sealed own new (made ++ step ∷ []) (words ++ more) sheets' base' → Unfolds key sealed P given (flushes own sheets')
     pub broke : (blame : Blame) → outcome ≡ Broke blame → (acts : List Act) → LineEnds key sealed own line given (words ++ more) (host_blamed blame) false (flush_reply (fault_of blame)) new acts → P acts
     pub lack : outcome ≡ Lacked → (acts : List Act) → LineEnds key sealed own line given (words ++ more) false true replies.WordsFault new acts → P acts
     pub memory : ¬ (outcome ≡ Wanted)
@@ -75,12 +75,12 @@ module _ (key : List ℕ) (sealed : List Sheet) (own : OwnSeat) (line : ScriptLi
             (fetch_failed key sealed own line given old made words sheets base was step steps asks new key_is name_is blame (fits_at base old step roomy)
                 (fetch_blames base old.name before_it these blame was.name_is split (blames (gives key sealed own line given sheets base old.name before_it these rest was.among split unforged))) broken)))
 
-    once : (r : Result (Unit {0}) TreeFault) → Continues (outcome_of r) → StepFacts r step old new these → StepState r old new → Unfolds key sealed P given (flushes own sheets)
+    once : (r : Result (Unit {0}) TreeFault) → Continues (outcome_of false r) → StepFacts r step old new these → StepState r old new → Unfolds key sealed P given (flushes own sheets)
     once (Ok ok) go facts state =
         seen_until sheets base old.name before_it these was.among split
         (λ of_base.
         let out = facts base was.backed of_base in
-        go.went refl sheets base
+        go.went false refl sheets base refl
         (subst (λ (w : List (List ℕ)). Made sealed own new (made ++ step ∷ []) w sheets base) (sym words_are)
         (made_more key sealed own line given old made words sheets base was step new (ap (λ (s : SessionState). s.key) state) (ap (λ (s : SessionState). s.name) state) (ap (λ (s : SessionState). s.broken) state ∙ was.whole)
             (fits_at base old step roomy) out.0 out.1)))
@@ -114,14 +114,14 @@ module _ (key : List ℕ) (sealed : List Sheet) (own : OwnSeat) (line : ScriptLi
                 (fetch_blames next mid.name (before_it ++ front) those blame own_name (split_at front those parts)
                     (blames (gives key sealed own line given (sheets ++ next ∷ []) next mid.name (before_it ++ front) those rest next_among (split_at front those parts) unforged))) broken))
 
-    after : (r : Result (Unit {0}) TreeFault) → Continues (outcome_of r) → StepFacts r step mid new those → StepState r mid new → Unfolds key sealed P given (flushes own sheets)
+    after : (r : Result (Unit {0}) TreeFault) → Continues (outcome_of true r) → StepFacts r step mid new those → StepState r mid new → Unfolds key sealed P given (flushes own sheets)
     after (Ok ok) go facts state =
         flushed_then
         (seen_until (sheets ++ next ∷ []) next mid.name (before_it ++ front) those next_among (split_at front those parts)
         (λ of_next.
         let sealed_next = seals base was.linked was.backed in
         let out = facts next sealed_next.2.backed of_next in
-        go.went refl (sheets ++ next ∷ []) next
+        go.went true refl (sheets ++ next ∷ []) next (next, refl)
         (made_after key sealed own line given old made words sheets base was step mid new more next (flushes_first base old step first) sealed_next.1 sealed_next.2 same dirty
             (ap (λ (s : SessionState). s.key) state) (ap (λ (s : SessionState). s.name) state) (ap (λ (s : SessionState). s.broken) state ∙ ap (λ (s : SessionState). s.broken) same ∙ was.whole) out.0 out.1)))
     after (Err (trees.Damaged damage)) go facts state =

@@ -40,3 +40,5 @@ pub mod StepFacts
 pub mod StepTurns
 pub mod ChangeTold
 pub mod ChangeEnds
+pub mod WriteLine
+pub mod ChangeLine
