@@ -37,39 +37,39 @@ use Rattle.pf_script.proofs.Refusing.{none_taken}
 use Rattle.pf_script.proofs.StepFacts.{StepFacts, host_of, counts_of, step_told, flushes_first, fits_at}
 use Rattle.pf_script.proofs.StepTurns.{flushes_on, Made, LineEnds, gives, fetch_failed, no_word, flush_failed, fetch_failed_after, made_more, made_after}
 
--- how a change ended: it was made; it failed; a word was wanting; or memory was
+-- how a change ended: it was made, after a flush or without one; it failed; a word was wanting; or memory was
 pub data Outcome : Type 0 where
-  Went : Outcome
+  Went : (flushed : Bool) → Outcome
   Broke : (blame : Blame) → Outcome
   Lacked : Outcome
   Wanted : Outcome
 
-abbrev pub outcome_of : Result (Unit {0}) TreeFault → Outcome
-outcome_of (Ok ok) = Went
-outcome_of (Err (trees.Damaged damage)) = Broke (ByDamage damage)
-outcome_of (Err trees.Host) = Broke ByHost
-outcome_of (Err trees.Memory) = Wanted
+abbrev pub outcome_of : Bool → Result (Unit {0}) TreeFault → Outcome
+outcome_of flushed (Ok ok) = Went flushed
+outcome_of flushed (Err (trees.Damaged damage)) = Broke (ByDamage damage)
+outcome_of flushed (Err trees.Host) = Broke ByHost
+outcome_of flushed (Err trees.Memory) = Wanted
 
 abbrev pub host_in : Outcome → Bool
-host_in Went = false
+host_in (Went flushed) = false
 host_in (Broke blame) = host_blamed blame
 host_in Lacked = false
 host_in Wanted = false
 
 abbrev pub words_in : Outcome → Bool
-words_in Went = false
+words_in (Went flushed) = false
 words_in (Broke blame) = false
 words_in Lacked = true
 words_in Wanted = false
 
 -- a change, by what came
 pub data ChangeTold (step : Step) (old new : SessionState) (given : List Answer) (words : List (List ℕ)) : Outcome → Type 0 where
-  told_once : (one : Result (Unit {0}) TreeFault) → IsRoomy step old.tree → words ≡ [] → StepFacts one step old new given → StepState one old new → ChangeTold step old new given words (outcome_of one)
+  told_once : (one : Result (Unit {0}) TreeFault) → IsRoomy step old.tree → words ≡ [] → StepFacts one step old new given → StepState one old new → ChangeTold step old new given words (outcome_of false one)
   told_lacked : IsFlushedFirst step old.tree → new ≡ old → ChangeTold step old new given words Lacked
   told_unflushed : (blame : Blame) → IsFlushedFirst step old.tree → BlamesFlush old.name given blame → SealsOwn old words (λ next. Unit {0}) → new.key ≡ old.key → new.name ≡ old.name → new.broken ≡ true
       → ChangeTold step old new given words (Broke blame)
   told_after : (mid : SessionState) (one : Result (Unit {0}) TreeFault) (these those : List Answer) → given ≡ these ++ those → IsFlushedFirst step old.tree → SealsOwn old words (λ next. StandsOn next mid) → {nonce : List ℕ} {tree : TreeState}
-      → mid ≡ record old { nonce = nonce; drawn = None; tree = tree; changed = false } → mid.tree.dirty ≡ [] → StepFacts one step mid new those → StepState one mid new → ChangeTold step old new given words (outcome_of one)
+      → mid ≡ record old { nonce = nonce; drawn = None; tree = tree; changed = false } → mid.tree.dirty ≡ [] → StepFacts one step mid new those → StepState one mid new → ChangeTold step old new given words (outcome_of true one)
 
 -- what is seen of it
 pub record ChangeSeen (step : Step) (old new : SessionState) (outcome : Outcome) (before after : HostState) (random random' : WordsState) : Type 0 where
@@ -79,26 +79,26 @@ pub record ChangeSeen (step : Step) (old new : SessionState) (outcome : Outcome)
   pub on_words : CountsFault (words_in outcome) random.faults random'.faults
   pub told : WhereTold before after (λ given. ChangeTold step old new given words outcome)
 
-host_same : (one : Result (Unit {0}) TreeFault) → host_of one ≡ host_in (outcome_of one)
-host_same (Ok ok) = refl
-host_same (Err (trees.Damaged damage)) = refl
-host_same (Err trees.Host) = refl
-host_same (Err trees.Memory) = refl
+host_same : (flushed : Bool) (one : Result (Unit {0}) TreeFault) → host_of one ≡ host_in (outcome_of flushed one)
+host_same flushed (Ok ok) = refl
+host_same flushed (Err (trees.Damaged damage)) = refl
+host_same flushed (Err trees.Host) = refl
+host_same flushed (Err trees.Memory) = refl
 
-calm_words : (one : Result (Unit {0}) TreeFault) → words_in (outcome_of one) ≡ false
-calm_words (Ok ok) = refl
-calm_words (Err (trees.Damaged damage)) = refl
-calm_words (Err trees.Host) = refl
-calm_words (Err trees.Memory) = refl
+calm_words : (flushed : Bool) (one : Result (Unit {0}) TreeFault) → words_in (outcome_of flushed one) ≡ false
+calm_words flushed (Ok ok) = refl
+calm_words flushed (Err (trees.Damaged damage)) = refl
+calm_words flushed (Err trees.Host) = refl
+calm_words flushed (Err trees.Memory) = refl
 
 module _ (old : SessionState) (mine : IsOfScript old) (step : Step) (before after : HostState) (random random' : WordsState) where
-  pub seen_once : (new : SessionState) (one : Result (Unit {0}) TreeFault) → IsRoomy step old.tree → StepGoes one step old new before after → random' ≡ random → ChangeSeen step old new (outcome_of one) before after random random'
+  pub seen_once : (new : SessionState) (one : Result (Unit {0}) TreeFault) → IsRoomy step old.tree → StepGoes one step old new before after → random' ≡ random → ChangeSeen step old new (outcome_of false one) before after random random'
   seen_once new one roomy goes same = record {
     words = [];
     taken = subst (λ (w : WordsState). Both random.left w.left (AreTaken [])) (sym same) (none_taken random);
-    on_host = subst (λ b. CountsFault b before.faults after.faults) (host_same one) (counts_of one before.faults after.faults goes.cause);
-    on_words = subst (λ b. CountsFault b random.faults random'.faults) (sym (calm_words one)) (ap (λ (w : WordsState). w.faults) same);
-    told = told_weaker (StepFacts one step old new) (λ given. ChangeTold step old new given [] (outcome_of one)) before after (step_told old mine new one step before after goes one refl) (λ given facts. told_once one roomy refl facts goes.state);
+    on_host = subst (λ b. CountsFault b before.faults after.faults) (host_same false one) (counts_of one before.faults after.faults goes.cause);
+    on_words = subst (λ b. CountsFault b random.faults random'.faults) (sym (calm_words false one)) (ap (λ (w : WordsState). w.faults) same);
+    told = told_weaker (StepFacts one step old new) (λ given. ChangeTold step old new given [] (outcome_of false one)) before after (step_told old mine new one step before after goes one refl) (λ given facts. told_once one roomy refl facts goes.state);
   }
 
   -- the outcome of a flush that failed
@@ -137,18 +137,23 @@ module _ (old : SessionState) (mine : IsOfScript old) (step : Step) (before afte
   seen_unflushed new fault first (done these words seen seals same dirty said) = absurd (cc)
 
   pub seen_after : (mid new : SessionState) (between : HostState) (one : Result (Unit {0}) TreeFault) → IsOfScript mid → IsFlushedFirst step old.tree → FlushCase (Ok tt) old mid before between random random' → StepGoes one step mid new between after
-      → ChangeSeen step old new (outcome_of one) before after random random'
+      → ChangeSeen step old new (outcome_of true one) before after random random'
   seen_after mid new between one of_mid first (lacked words seen same stays said) goes = absurd (cc)
   seen_after mid new between one of_mid first (failed blame these words seen blames seals key_is name_is broken said) goes = absurd (cc)
   seen_after mid new between one of_mid first (done these words seen seals same dirty said) goes = record {
     words = words;
     taken = seen.taken;
-    on_host = subst (λ b. CountsFault b before.faults after.faults) (host_same one) (subst (λ n. CountsFault (host_of one) n after.faults) seen.on_host (counts_of one between.faults after.faults goes.cause));
-    on_words = subst (λ b. CountsFault b random.faults random'.faults) (sym (calm_words one)) seen.on_words;
-    told = told_then (λ given. given ≡ these) (StepFacts one step mid new) (λ given. ChangeTold step old new given words (outcome_of one)) before between after
+    on_host = subst (λ b. CountsFault b before.faults after.faults) (host_same true one) (subst (λ n. CountsFault (host_of one) n after.faults) seen.on_host (counts_of one between.faults after.faults goes.cause));
+    on_words = subst (λ b. CountsFault b random.faults random'.faults) (sym (calm_words true one)) seen.on_words;
+    told = told_then (λ given. given ≡ these) (StepFacts one step mid new) (λ given. ChangeTold step old new given words (outcome_of true one)) before between after
         (told_by (λ given. given ≡ these) these before between seen.told refl) (step_told mid of_mid new one step between after goes one refl)
         (λ first_ones those is facts. told_after mid one these those (ap (λ (l : List Answer). l ++ those) is) first seals same dirty facts goes.state);
   }
+
+-- the sheets after a change: one more, where it flushed
+abbrev pub Grew : Bool → List Sheet → List Sheet → Type 0
+Grew false sheets now = now ≡ sheets
+Grew true sheets now = (next : Sheet) × (now ≡ sheets ++ next ∷ [])
 
 -- a cause among some answers is one among more
 short_more : (name : Name) (these those rest : List Answer) (damage : Damage) → IsShort name those damage → IsShort name (these ++ those ++ rest) damage

@@ -42,3 +42,6 @@ pub mod DrawLine
 pub mod StepFacts
 pub mod StepTurns
 pub mod ChangeTold
+pub mod ChangeEnds
+pub mod WriteLine
+pub mod ChangeLine
