@@ -36,6 +36,9 @@ pub mod Flushed
 pub mod SeatCalls
 pub mod FlushLine
 pub mod Under
+pub mod FlushUnder
+pub mod CloseUnder
+pub mod DrawUnder
 pub mod CloseLine
 pub mod Desking
 pub mod DrawLine

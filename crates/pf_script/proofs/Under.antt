@@ -9,13 +9,13 @@ use Rattle.pf_io.specs.Names.{IsTarget}
 use Rattle.pf_io.specs.Words.{WordsState}
 use Rattle.pf_io.specs.declared.faults.Memory.{Memory}
 use Rattle.pf_io.proofs.Telling.{both_same, told_none}
-use Rattle.pf_session.specs.Aside.{LeavesApart, KeepsApart}
+use Rattle.pf_session.specs.Aside.{Aside, LeavesApart, KeepsApart}
 use Rattle.pf_session.specs.Moving.{IsKeptOn}
 use Rattle.pf_session.specs.Reopening.{Stood}
 use Rattle.pf_session.specs.State.{SessionState}
 use Rattle.pf_script.specs.Book.{Book, Entry, Seal, Agrees}
-use Rattle.pf_script.specs.BookActs.{Flush, Act, booked_all}
-use Rattle.pf_script.specs.BookDebts.{Flushes, DidAll, Owes, seat_of}
+use Rattle.pf_script.specs.BookActs.{Deed, Flush, Act, Among, booked_all}
+use Rattle.pf_script.specs.BookDebts.{Flushes, DidAll, Owes, seat_of, seal_of}
 use Rattle.pf_script.specs.BookSeats.{Covering, Covers, KeepsUnder}
 use Rattle.pf_script.specs.BookTurns.{ShowsUnder, no_file, of_book, other_file, Knows, LineUnder, SeatUnder, SeatAgrees, SeatBooked}
 use Rattle.pf_script.specs.Desk.{seat_on}
@@ -28,8 +28,11 @@ use Rattle.pf_script.specs.declared.reply.Reply.{Reply}
 use Rattle.pf_script.specs.declared.reply.Reply.TheVariants as replies
 use Rattle.pf_script.specs.declared.reply.Why.{Why}
 use Rattle.pf_script.proofs.ActKeeping.{no_sheet, one_act, unchanged_now}
+use Rattle.pf_script.proofs.CallKeeping.{at_both, both_with}
+use Rattle.pf_script.proofs.FlushLine.{flush_act}
 use Rattle.pf_script.proofs.Refusing.{idle_seen, none_taken}
-use Rattle.pf_script.proofs.Seats.{seats_after}
+use Rattle.pf_script.proofs.Seats.{seats_after, seat_is_left}
+use Rattle.pf_script.proofs.StepKeeping.{keeps_more}
 use Rattle.pf_script.proofs.Showing.{ShowsSome, same_session}
 
 -- how a seat looks that shows a session
@@ -124,6 +127,27 @@ module _ (key : List ℕ) (taken : Bool) (line : ScriptLine) (seen : Seen) (repl
         by_shows (other_file shown own (inl broken) key_is name_is broken_is is some) = let same = same_session old own some in absurd (not_broken (sym (ap (λ (s : SessionState). s.broken) same) ∙ broken))
         by_shows (other_file shown own (inr none) key_is name_is broken_is is some) = unknown (subst (λ (s : SessionState). book s.name ≡ None) (same_session old own some) none)
 
+-- so of a call that changes the session's name alone
+pub on_disk : (key : List ℕ) (taken : Bool) (line : ScriptLine) (seen : Seen) (reply : Reply) (old : SessionState) (whole : old.broken ≡ false) (new : Option SessionState) (before after : HostState)
+    → OnDisk before after (KeepsUnder (Covers old) (CoversSome new) (λ name. name ≡ old.name)) → Aside old.name before after
+    → ((a b : Honest) → before.honest ≡ Some a → after.honest ≡ Some b → Ran (LeavesApart old.name) (KeepsApart old.name) a b → KnownUnder key taken line seen reply old whole new a b)
+    → OnDisk before after (SeatUnder key taken line seen reply (Some old) new)
+on_disk key taken line seen reply old whole new before after keeps aside known =
+    both_with (Ran (LeavesApart old.name) (KeepsApart old.name)) (SeatUnder key taken line seen reply (Some old) new) before.honest after.honest aside
+    (λ a b is is2 ran.
+    own_under key taken line seen reply old whole new a b
+    (keeps_more (Covers old) (CoversSome new) (λ name. name ≡ old.name) (Concerns taken line (Some old)) a b (λ name same. inl same)
+        (at_both (KeepsUnder (Covers old) (CoversSome new) (λ name. name ≡ old.name)) before.honest after.honest a b is is2 keeps))
+    (known a b is is2 ran))
+
+-- no act is of any name, and one flush is of the session's
+pub none_concerned : (taken : Bool) (line : ScriptLine) (old : Option SessionState) (name : Name) → Among [] name → Concerns taken line old name
+none_concerned taken line old name none = absurd none
+
+pub one_concerned : (taken : Bool) (line : ScriptLine) (old : SessionState) (done : Bool) (next : Sheet) (name : Name) → Among (flush_act old next done ∷ []) name → Concerns taken line (Some old) name
+one_concerned taken line old done next name (inl same) = inl same
+one_concerned taken line old done next name (inr none) = absurd none
+
 -- a flush that was done or failed, as one act
 pub flush_did : (book : Book) (seats : List Seal) (done : Bool) (old : SessionState) (base next : Sheet) (a b : Honest) (entry : Entry) → IsTarget old.name → Ran (LeavesApart old.name) (KeepsApart old.name) a b → IsImage b.now (reading b.now)
     → book old.name ≡ Some entry → Contains seats (seat_of old.key old.name base) → Flushes done base (seat_of old.key old.name next) a b
@@ -131,6 +155,13 @@ pub flush_did : (book : Book) (seats : List Seal) (done : Bool) (old : SessionSt
 flush_did book seats done old base next a b entry target others reads was seated flushes =
     let deed = Flush (seat_of old.key old.name next) in
     one_act book seats deed done a b (record { targets = target; others = others; reads = reads }) (subst (λ (o : Option Entry). Owes seats deed done o a b) (sym was) (base, seated, flushes))
+
+-- the seat that a deed leaves, of a session of its key and name
+pub left_seat : (deed : Deed) (seats : List Seal) (new : SessionState) → new.key ≡ (seal_of deed).key → new.name ≡ (seal_of deed).name → Contains (seats_after deed true seats) (seat_of new.key new.name (seal_of deed).sheet)
+left_seat deed seats new key_is name_is =
+    let sheet = (seal_of deed).sheet in
+    subst (λ (k : List ℕ). Contains (seats_after deed true seats) (seat_of k new.name sheet)) (sym key_is)
+    (subst (λ (n : Name). Contains (seats_after deed true seats) (seat_of (seal_of deed).key n sheet)) (sym name_is) (seat_is_left deed seats))
 
 -- a line that is refused by a rule: nothing is done
 pub refused_agrees : (key : List ℕ) (taken : Bool) (line : ScriptLine) (why : Why) (old : Option SessionState) (host : HostState) (words : WordsState) → ((seat : Seat) → LooksLike old seat → IsFirst (rules key taken seat line []) why)
