@@ -91,6 +91,19 @@ calm_words flushed (Err (trees.Damaged damage)) = refl
 calm_words flushed (Err trees.Host) = refl
 calm_words flushed (Err trees.Memory) = refl
 
+-- the outcome of a flush that failed
+abbrev pub flush_outcome : FlushFault → Outcome
+flush_outcome faults.Words = Lacked
+flush_outcome (faults.Damaged damage) = Broke (ByDamage damage)
+flush_outcome faults.Host = Broke ByHost
+
+outcome_is : (blame : Blame) → flush_outcome (fault_of blame) ≡ Broke blame
+outcome_is ByHost = refl
+outcome_is (ByDamage damage) = refl
+
+same_fault : (fault other : FlushFault) → ◌≡◌ {A = Result (Unit {0}) FlushFault} (Err fault) (Err other) → other ≡ fault
+same_fault fault other same = cc
+
 module _ (old : SessionState) (mine : IsOfScript old) (step : Step) (before after : HostState) (random random' : WordsState) where
   pub seen_once : (new : SessionState) (one : Result (Unit {0}) TreeFault) → IsRoomy step old.tree → StepGoes one step old new before after → random' ≡ random → ChangeSeen step old new (outcome_of false one) before after random random'
   seen_once new one roomy goes same = record {
@@ -100,19 +113,6 @@ module _ (old : SessionState) (mine : IsOfScript old) (step : Step) (before afte
     on_words = subst (λ b. CountsFault b random.faults random'.faults) (sym (calm_words false one)) (ap (λ (w : WordsState). w.faults) same);
     told = told_weaker (StepFacts one step old new) (λ given. ChangeTold step old new given [] (outcome_of false one)) before after (step_told old mine new one step before after goes one refl) (λ given facts. told_once one roomy refl facts goes.state);
   }
-
-  -- the outcome of a flush that failed
-  abbrev pub flush_outcome : FlushFault → Outcome
-  flush_outcome faults.Words = Lacked
-  flush_outcome (faults.Damaged damage) = Broke (ByDamage damage)
-  flush_outcome faults.Host = Broke ByHost
-
-  outcome_is : (blame : Blame) → flush_outcome (fault_of blame) ≡ Broke blame
-  outcome_is ByHost = refl
-  outcome_is (ByDamage damage) = refl
-
-  same_fault : (fault other : FlushFault) → ◌≡◌ {A = Result (Unit {0}) FlushFault} (Err fault) (Err other) → other ≡ fault
-  same_fault fault other same = cc
 
   pub seen_unflushed : (new : SessionState) (fault : FlushFault) → IsFlushedFirst step old.tree → FlushCase (Err fault) old new before after random random' → ChangeSeen step old new (flush_outcome fault) before after random random'
   seen_unflushed new fault first (lacked words seen same stays said) =

@@ -24,6 +24,7 @@ use Rattle.pf_script.specs.Turns.{SeatTurn, on_seat, on_carried, SaysTaken}
 use Rattle.pf_script.specs.Words.{SEATS}
 use Rattle.pf_script.specs.declared.line.ScriptLine.{ScriptLine}
 use Rattle.pf_script.specs.declared.reply.Reply.{Reply}
+use Rattle.pf_script.proofs.Refusing.{keeps_same}
 use Rattle.pf_script.proofs.Showing.{shows_none, shows_some, shows_more}
 use Rattle.pf_script.proofs.StepKeeping.{keeps_more, others_too, covers_less}
 
@@ -60,10 +61,6 @@ seated_of key o s is seated = subst (λ (x : Option SessionState). IsSeatOf key 
 
 has_name_of : (o : Option SessionState) (s : SessionState) → o ≡ Some s → HasItsName o s.name
 has_name_of o s is = subst (λ (x : Option SessionState). HasItsName x s.name) (sym is) refl
-
-keeps_same : (o : Option SessionState) → KeepsSession o o
-keeps_same None = refl
-keeps_same (Some s) = refl
 
 broken_at : (o : Option SessionState) → IsBrokenSession o → (s : SessionState) × (o ≡ Some s) × (s.broken ≡ true)
 broken_at None none = absurd none

@@ -7,6 +7,7 @@ use Rattle.pf_session.specs.Backing.{IsBacked}
 use Rattle.pf_io.specs.Disk.{Name}
 use Rattle.pf_io.specs.Host.{Answer, HostState, WhereTold, OnDisk}
 use Rattle.pf_io.specs.Words.{WordsState}
+use Rattle.pf_io.specs.declared.faults.Memory.{Memory}
 use Rattle.pf_io.proofs.Telling.{told_by, both_weaker}
 use Rattle.pf_session.specs.State.{SessionState}
 use Rattle.pf_script.specs.BookSeats.{Covering, Covers, CoversNone, KeepsUnder}
@@ -77,9 +78,9 @@ module _ (key : List ℕ) (taken : Bool) (line : ScriptLine) (old : SessionState
       (λ a b keeps. keeps_more (Covers old) last (λ name. name ≡ old.name) (Concerns taken line (Some old)) a b (λ name is. inl is) keeps)
 
   -- memory was wanting
-  pub goes_wanting : (new : SessionState) → SeatWants line (Some old) (Some new) before after random random' → OnDisk before after (KeepsUnder (Covers old) (Covers new) (λ name. name ≡ old.name)) → IsSeated key new → new.name ≡ old.name
-      → after.faults ≡ before.faults → random'.faults ≡ random.faults → SeatGoes key taken line (Err (record {})) (Some old) (Some new) before after random random'
-  goes_wanting new wants books seated name_is on_host on_words = record {
+  pub goes_wanting : (fault : Memory) (new : SessionState) → SeatWants line (Some old) (Some new) before after random random' → OnDisk before after (KeepsUnder (Covers old) (Covers new) (λ name. name ≡ old.name)) → IsSeated key new → new.name ≡ old.name
+      → after.faults ≡ before.faults → random'.faults ≡ random.faults → SeatGoes key taken line (Err fault) (Some old) (Some new) before after random random'
+  goes_wanting fault new wants books seated name_is on_host on_words = record {
     asks = tt;
     books = books_on (Covers new) books;
     counts = (on_host, on_words);

@@ -5,8 +5,6 @@ use Rattle.pf_script.specs.declared.line.ScriptLine.TheVariants as lines
 use Rattle.pf_script.specs.declared.reply.Reply.TheVariants as replies
 use Rattle.pf_script.specs.declared.reply.Why.TheVariants as whys
 use Rattle.pf_script.proofs.Refusing.{refused_goes, first_empty, first_broken, at_some}
-use Rattle.pf_script.proofs.ChangeLine.{line_goes}
-use Rattle.pf_script.proofs.WriteLine.{write_changes}
 use Rattle.pf_script.proofs.Showing.{shows_none, shows_some}
 use Rattle.pf_script.proofs.DrawLine.{draw_goes}
 use Rattle.pf_script.proofs.sealing.draw_nonce.Goals as goal
