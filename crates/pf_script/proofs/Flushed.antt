@@ -62,7 +62,7 @@ pub record SeenOf (these : List Answer) (words : List (List ℕ)) (of_host of_wo
   pub on_words : CountsFault of_words random.faults random'.faults
 
 -- a call of the host that failed is counted
-counted_kind : (answer : Answer) (n m : ℕ) → m ≡ faults_after (kind_of answer) n → m ≡ counted n
+pub counted_kind : (answer : Answer) (n m : ℕ) → m ≡ faults_after (kind_of answer) n → m ≡ counted n
 counted_kind (Answer.LengthWas name length) n m is = is
 counted_kind (Gave name place room bytes) n m is = is
 counted_kind (Answer.Wrote name place bytes) n m is = is

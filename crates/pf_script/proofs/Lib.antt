@@ -39,6 +39,8 @@ pub mod Under
 pub mod FlushUnder
 pub mod CloseUnder
 pub mod DrawUnder
+pub mod OnEmpty
+pub mod CreateLine
 pub mod CloseLine
 pub mod Desking
 pub mod DrawLine
