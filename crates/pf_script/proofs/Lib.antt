@@ -42,3 +42,4 @@ pub mod ChangeTold
 pub mod ChangeEnds
 pub mod WriteLine
 pub mod ChangeLine
+pub mod SizeSet
