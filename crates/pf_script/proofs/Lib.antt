@@ -43,3 +43,4 @@ pub mod ChangeEnds
 pub mod WriteLine
 pub mod ChangeLine
 pub mod SizeSet
+pub mod SizeTold
