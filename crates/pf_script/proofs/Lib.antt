@@ -50,3 +50,5 @@ pub mod ChangeTold
 pub mod ChangeEnds
 pub mod WriteLine
 pub mod ChangeLine
+pub mod SizeSet
+pub mod SizeTold

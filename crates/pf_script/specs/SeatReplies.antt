@@ -1,7 +1,7 @@
 -- The replies to the answers of a session's calls, and the steps of a change of size.
 use Rattle.std.specs.Prelude.{⊤, ◌≡◌, ℕ, ◌+◌, ◌<◌, ◌≤◌, Bool, false, Result, Ok, Err}
 use Rattle.pf_io.specs.Disk.{Name}
-use Rattle.pf_io.specs.Host.{HostState}
+use Rattle.pf_io.specs.Host.{HostState, ReadsAsImage}
 use Rattle.pf_io.specs.Words.{WordsState}
 use Rattle.pf_io.specs.declared.faults.Memory.{Memory}
 use Rattle.pf_session.specs.Aside.{Aside}
@@ -82,6 +82,7 @@ pub record SetsSize (result : Result Written SizeFault) (size : ℕ) (old new : 
   pub whole : old.broken ≡ false
   pub goes : SizeGoes result size old new before after random random'
   pub aside : Aside old.name before after
+  pub reads : ReadsAsImage after
 
 -- the size to be set next: the last one where it is no more than a piece away
 pub data IsNextSize (size now : ℕ) (n : ℕ) : Type 0 where
