@@ -43,6 +43,7 @@ pub mod OnEmpty
 pub mod CreateLine
 pub mod CloseLine
 pub mod Desking
+pub mod DeskUnder
 pub mod DrawLine
 pub mod StepFacts
 pub mod StepTurns
