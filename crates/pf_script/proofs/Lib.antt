@@ -44,3 +44,4 @@ pub mod WriteLine
 pub mod ChangeLine
 pub mod SizeSet
 pub mod SizeTold
+pub mod SizeSeen
