@@ -45,3 +45,4 @@ pub mod ChangeLine
 pub mod SizeSet
 pub mod SizeTold
 pub mod SizeSeen
+pub mod SizeLine

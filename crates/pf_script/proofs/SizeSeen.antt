@@ -54,7 +54,7 @@ pub data SetSeen (size n : ℕ) (result : Result Written SizeFault) (old new : S
       → ChangeSeen (Size n) old new outcome before after random random' → (outcome ≡ Wanted → new.broken ≡ true) → SetSeen size n result old new before after random random'
 
 -- a size on the way is never refused
-never_refused : (size n : ℕ) (old : SessionState) (fault : SizeFault) → size ≤ 2 ^ 32 → IsNextSize size old.tree.size n → ¬ (SizeRefused n old.tree.size fault)
+pub never_refused : (size n : ℕ) (old : SessionState) (fault : SizeFault) → size ≤ 2 ^ 32 → IsNextSize size old.tree.size n → ¬ (SizeRefused n old.tree.size fault)
 never_refused size n old sizes.TooLarge small (last_size few is) why = omega (arith, small, is, why)
 never_refused size n old sizes.TooLarge small (piece_size more is) why = omega (arith, small, more, is, why)
 never_refused size n old (sizes.TooFar said) small (last_size few is) why = omega (arith, few, is, why.1)
