@@ -53,3 +53,5 @@ pub mod WriteLine
 pub mod ChangeLine
 pub mod SizeSet
 pub mod SizeTold
+pub mod SizeSeen
+pub mod SizeLine

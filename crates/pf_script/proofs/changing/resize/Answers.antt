@@ -1,4 +1,3 @@
-use Rattle.pf_script.proofs.SizeTold.{size_ends}
 use Rattle.std.proofs.Common.{◌≡◌, refl, sym, ◌∙◌, subst, false, Result, Ok, Err, arith, ◌+◌, ◌<◌}
 use Rattle.std.proofs.lemmas.Result.{err_from_is_err_and}
 use Rattle.pf_session.specs.declared.fault.SizeFault.{SizeFault}
