@@ -46,7 +46,7 @@ use Rattle.pf_script.proofs.CreateKeeping.{create_keeps}
 use Rattle.pf_script.proofs.Flushed.{SeenOf, counted_kind}
 use Rattle.pf_script.proofs.FlushUnder.{seen_in}
 use Rattle.pf_script.proofs.OfScript.{of_created}
-use Rattle.pf_script.proofs.OnEmpty.{concerns, empty_goes, empty_wants, empty_under, empty_turns, not_there, seat_first, seat_none}
+use Rattle.pf_script.proofs.OnEmpty.{not_of, made_seat, BothHalves, empty_idle, concerns, empty_goes, empty_wants, empty_under, empty_turns, seat_first, seat_none}
 use Rattle.pf_script.proofs.Refusing.{none_taken}
 use Rattle.pf_script.proofs.SeatCalls.{seen_by, own_same}
 use Rattle.pf_script.proofs.Seats.{seats_after, seat_is_left}
@@ -56,17 +56,9 @@ abbrev pub create_result : Name → Result SessionState CreateFault → Result R
 create_result name (Ok session) = Ok replies.Created
 create_result name (Err fault) = create_reply name fault
 
-abbrev pub made_seat : {E : Type 0} → Result SessionState E → Option SessionState
-made_seat (Ok session) = Some session
-made_seat (Err fault) = None
-
 -- the rules of a new name, and that an absent one is not refused
 abbrev naming_rules : Name → List Answer → List Rule
 naming_rules name given = refuses whys.BadName (¬ (IsTarget name)) ∷ refuses (whys.Exists name) ((size : ℕ) × Contains given (LengthWas name (Some size))) ∷ []
-
-not_of : (answer other : Answer) (rest : List Answer) → answer ≢ other → ¬ (Contains rest other) → ¬ (Contains (answer ∷ rest) other)
-not_of answer other rest apart not_in is =
-    ⊎_elim (λ here. apart (⊎_elim (λ none. absurd (omega (arith, none.1))) (λ same. same) (Contains-push_cases [] answer other here))) (λ there. not_in there) (Contains-append_cases (answer ∷ []) rest other is)
 
 was_absent : (name : Name) (node : List ℕ) (size : ℕ) → Contains (LengthWas name None ∷ place_steps name node) (LengthWas name (Some size)) → ⊥
 was_absent name node size =
@@ -77,11 +69,6 @@ was_absent name node size =
     (not_of (Wrote (side_of name) 0 node) other (Synced (side_of name) ∷ Swapped (side_of name) name ∷ []) (λ same. absurd (cc))
     (not_of (Synced (side_of name)) other (Swapped (side_of name) name ∷ []) (λ same. absurd (cc))
     (not_of (Swapped (side_of name) name) other [] (λ same. absurd (cc)) (λ none. absurd (omega (arith, none.1))))))))
-
--- a line on an empty seat, as any host sees it and under a book
-pub record BothHalves (key : List ℕ) (line : ScriptLine) (result : Result Reply Memory) (new : Option SessionState) (before after : HostState) (random random' : WordsState) : Type 0 where
-  pub goes : SeatGoes key false line result None new before after random random'
-  pub booked : SeatBooked key false line result None new before after random random'
 
 -- a target that is a text may be a path too
 pub named_target : (name : Name) → IsUtf8 name → IsTarget name → AreNamed name name
@@ -96,23 +83,6 @@ module _ (key : List ℕ) (k : ℕ) (name : Name) (utf8 : IsUtf8 name) (before a
 
   abbrev Both : Result Reply Memory → Option SessionState → Type 0
   Both result new = BothHalves key line result new before after random random'
-
-  still_shows : (sealed : List Sheet) → Shows (sealed ++ []) Empty None
-  still_shows sealed = no_seat refl refl
-
-  -- nothing was done
-  idle : (reply : Reply) (these : List Answer) (words : List (List ℕ)) (of_host of_words : Bool) → OnDisk before after Unchanged → SeenOf these words of_host of_words before after random random'
-      → is_host_fault reply ≡ of_host → is_words_fault reply ≡ of_words → ((standing : Standing) → SeatTurn standing key false Empty line (seen_by these words of_host of_words) reply [] Empty) → Both (Ok reply) None
-  idle reply these words of_host of_words only seen host_is words_is turn = record {
-    goes = empty_goes key line name refl None before after random random'
-        (both_weaker Unchanged (KeepsUnder CoversNone CoversNone (λ n. n ≡ name)) before.honest after.honest only (λ a b only_ab. only_reads CoversNone a b (λ n. n ≡ name) only_ab)) tt (λ n none. absurd none)
-        reply these words of_host of_words seen host_is words_is (empty_turns key line name refl (seen_by these words of_host of_words) reply None these [] Empty turn still_shows);
-    booked = record {
-      seen = seen_by these words of_host of_words;
-      was_seen = seen_in these words of_host of_words before after random random' seen;
-      under = both_weaker Unchanged (SeatUnder key false line (seen_by these words of_host of_words) reply None None) before.honest after.honest only (λ a b only_ab. not_there key line name refl (seen_by these words of_host of_words) reply a b only_ab (turn _));
-    };
-  }
 
   -- nothing was asked
   stays_so : after ≡ before → OnDisk before after Unchanged
@@ -161,7 +131,7 @@ module _ (key : List ℕ) (k : ℕ) (name : Name) (utf8 : IsUtf8 name) (before a
       → Both (create_result name result) (made_seat result)
   by_case result aside reads keeps (misnamed bad stays same said) =
       subst (λ (r : Result SessionState CreateFault). Both (create_result name r) (made_seat r)) (sym said)
-      (idle (replies.Refused whys.BadName) [] [] false false (stays_so stays)
+      (empty_idle key line name refl before after random random' (replies.Refused whys.BadName) [] [] false false (stays_so stays)
           (record { told = told_none before after (ap (λ (h : HostState). h.given) stays); taken = none_taken_now same; on_host = ap (λ (h : HostState). h.faults) stays; on_words = ap (λ (w : WordsState). w.faults) same }) refl refl
           (λ standing. refused whys.BadName (seat_first (naming_rules name []) whys.BadName (inl (refl, λ target. bad (named_target name utf8 target)))) (record { host = refl; random = refl }) refl refl refl refl))
   by_case result aside reads keeps (no_memory good stays same said) =
@@ -174,19 +144,19 @@ module _ (key : List ℕ) (k : ℕ) (name : Name) (utf8 : IsUtf8 name) (before a
       })
   by_case result aside reads keeps (look_up_failed good fails same said) =
       subst (λ (r : Result SessionState CreateFault). Both (create_result name r) (made_seat r)) (sym said)
-      (idle replies.HostFault [] [] true false fails.disk
+      (empty_idle key line name refl before after random random' replies.HostFault [] [] true false fails.disk
           (record { told = fails.asked.asked.told; taken = none_taken_now same; on_host = fails.asked.asked.faults; on_words = ap (λ (w : WordsState). w.faults) same }) refl refl
           (λ standing. host_failed (record { host = refl; random = refl }) (not_asked k name refl) refl))
   by_case result aside reads keeps (was_there size good looks same said) =
       let given = LengthWas name (Some size) ∷ [] in
       subst (λ (r : Result SessionState CreateFault). Both (create_result name r) (made_seat r)) (sym said)
-      (idle (replies.Refused (whys.Exists name)) given [] false false looks.disk
+      (empty_idle key line name refl before after random random' (replies.Refused (whys.Exists name)) given [] false false looks.disk
           (record { told = looks.asked.asked.told; taken = none_taken_now same; on_host = looks.asked.asked.faults; on_words = ap (λ (w : WordsState). w.faults) same }) refl refl
           (λ standing. refused (whys.Exists name)
           (seat_first (naming_rules name given) (whys.Exists name) (inr ((λ other refuses. refuses.1 good.is_target), inl (refl, (size, Contains-push [] (LengthWas name (Some size))))))) (record { host = refl; random = refl }) refl refl refl refl))
   by_case result aside reads keeps (no_words good looks fewer said) =
       subst (λ (r : Result SessionState CreateFault). Both (create_result name r) (made_seat r)) (sym said)
-      (idle replies.WordsFault (LengthWas name None ∷ []) fewer.words false true looks.disk
+      (empty_idle key line name refl before after random random' replies.WordsFault (LengthWas name None ∷ []) fewer.words false true looks.disk
           (record { told = looks.asked.asked.told; taken = fewer.told; on_host = looks.asked.asked.faults; on_words = fewer.once }) refl refl
           (λ standing. words_failed (record { host = refl; random = refl }) (no_creation k name) refl))
   by_case result aside reads keeps (create_stopped nonce between good looks drawn stopped said) =

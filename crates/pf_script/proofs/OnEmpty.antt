@@ -1,5 +1,7 @@
 -- A line that puts a file on an empty seat.
-use Rattle.std.proofs.Common.{◌≡◌, ◌≢◌, inl, inr, Bool, true, false, List, [], ◌∷◌, ◌++◌, ℕ, refl, sym, ◌∙◌, ap, subst, Option, Some, None, Result, Ok, Err}
+use Rattle.std.proofs.Common.{◌≡◌, ◌≢◌, ⊎_elim, inl, inr, Bool, true, false, List, [], ◌∷◌, ◌++◌, ℕ, refl, sym, ◌∙◌, ap, subst, Option, Some, None, Result, Ok, Err, arith}
+use Rattle.std.specs.Prelude.{Contains}
+use Rattle.std.proofs.lemmas.List.Elements.{Contains-push_cases, Contains-append_cases}
 use Rattle.node_tree.specs.Sheet.{Sheet}
 use Rattle.pf_io.specs.Disk.{Name, IsImage, reading}
 use Rattle.pf_io.specs.Host.{Answer, HostState, OnDisk}
@@ -13,8 +15,8 @@ use Rattle.pf_script.specs.Book.{Book, Seal, Agrees}
 use Rattle.pf_script.specs.BookActs.{Act}
 use Rattle.pf_script.specs.BookDebts.{Unchanged}
 use Rattle.pf_script.specs.BookSeats.{CoversNone, KeepsUnder}
-use Rattle.pf_script.specs.BookTurns.{stands_on, no_file, LineUnder, SeatUnder}
-use Rattle.pf_script.specs.Desk.{IsSeatOf, Shows}
+use Rattle.pf_script.specs.BookTurns.{stands_on, no_file, LineUnder, SeatUnder, SeatBooked}
+use Rattle.pf_script.specs.Desk.{IsSeatOf, Shows, no_file as no_file_now}
 use Rattle.pf_script.specs.DeskSteps.{Unfolds, SeatTurns, SeatAsks, CountsFault, CoversSome, Concerns, HasItsName, SeatGoes, SeatWants, TakesNone, is_host_fault, is_words_fault}
 use Rattle.pf_script.specs.Rules.{Rule, IsFirst, NoneRefuses, seating_rules}
 use Rattle.pf_script.specs.Script.{Seat, Empty, name_of_line, sheets_of}
@@ -23,6 +25,8 @@ use Rattle.pf_script.specs.declared.line.ScriptLine.{ScriptLine}
 use Rattle.pf_script.specs.declared.reply.Reply.{Reply}
 use Rattle.pf_script.specs.declared.reply.Why.{Why}
 use Rattle.pf_script.specs.declared.reply.Why.TheVariants as whys
+use Rattle.pf_script.proofs.ActKeeping.{only_reads}
+use Rattle.pf_script.proofs.FlushUnder.{seen_in}
 use Rattle.pf_script.proofs.Flushed.{SeenOf}
 use Rattle.pf_script.proofs.Refusing.{at_last}
 use Rattle.pf_script.proofs.SeatCalls.{seen_by}
@@ -36,6 +40,21 @@ seat_first rest why first = inr ((λ other refuses. refuses.1 refl), inr ((λ ot
 
 pub seat_none : (rest : List Rule) → NoneRefuses rest → NoneRefuses (seating_rules false Empty ++ rest)
 seat_none rest none = ((λ other refuses. refuses.1 refl), ((λ other refuses. let e : false ≡ true = refuses.1 in absurd (cc)), none))
+
+-- an answer that is another one than the first
+pub not_of : (answer other : Answer) (rest : List Answer) → answer ≢ other → ¬ (Contains rest other) → ¬ (Contains (answer ∷ rest) other)
+not_of answer other rest apart not_in is =
+    ⊎_elim (λ here. apart (⊎_elim (λ none. absurd (omega (arith, none.1))) (λ same. same) (Contains-push_cases [] answer other here))) (λ there. not_in there) (Contains-append_cases (answer ∷ []) rest other is)
+
+-- the seat after a call that was to open or to make a session
+abbrev pub made_seat : {E : Type 0} → Result SessionState E → Option SessionState
+made_seat (Ok session) = Some session
+made_seat (Err fault) = None
+
+-- a line on an empty seat, as any host sees it and under a book
+pub record BothHalves (key : List ℕ) (line : ScriptLine) (result : Result Reply Memory) (new : Option SessionState) (before after : HostState) (random random' : WordsState) : Type 0 where
+  pub goes : SeatGoes key false line result None new before after random random'
+  pub booked : SeatBooked key false line result None new before after random random'
 
 module _ (key : List ℕ) (line : ScriptLine) (name : Name) (names : name_of_line line ≡ Some name) where
   -- the name that the line gives is concerned
@@ -97,3 +116,20 @@ module _ (key : List ℕ) (line : ScriptLine) (name : Name) (names : name_of_lin
   empty_turns seen reply new given acts left turn shows_new sealed seat shows =
       subst (λ (x : Seat). Unfolds key sealed (λ acts. (left : Seat) × SeatTurn (on_carried key sealed) key false x line seen reply acts left × Shows (sealed ++ sheets_of acts) left new) given []) (sym (shows_none sealed seat shows))
       (at_last acts (λ unforged. (left, turn (on_carried key sealed), shows_new sealed)))
+
+  still_shows : (sealed : List Sheet) → Shows (sealed ++ []) Empty None
+  still_shows sealed = no_file_now refl refl
+
+  -- nothing was done
+  pub empty_idle : (before after : HostState) (random random' : WordsState) (reply : Reply) (these : List Answer) (words : List (List ℕ)) (of_host of_words : Bool) → OnDisk before after Unchanged → SeenOf these words of_host of_words before after random random'
+      → is_host_fault reply ≡ of_host → is_words_fault reply ≡ of_words → ((standing : Standing) → SeatTurn standing key false Empty line (seen_by these words of_host of_words) reply [] Empty) → BothHalves key line (Ok reply) None before after random random'
+  empty_idle before after random random' reply these words of_host of_words only seen host_is words_is turn = record {
+    goes = empty_goes None before after random random'
+        (both_weaker Unchanged (KeepsUnder CoversNone CoversNone (λ n. n ≡ name)) before.honest after.honest only (λ a b only_ab. only_reads CoversNone a b (λ n. n ≡ name) only_ab)) tt (λ n none. absurd none)
+        reply these words of_host of_words seen host_is words_is (empty_turns (seen_by these words of_host of_words) reply None these [] Empty turn still_shows);
+    booked = record {
+      seen = seen_by these words of_host of_words;
+      was_seen = seen_in these words of_host of_words before after random random' seen;
+      under = both_weaker Unchanged (SeatUnder key false line (seen_by these words of_host of_words) reply None None) before.honest after.honest only (λ a b only_ab. not_there (seen_by these words of_host of_words) reply a b only_ab (turn _));
+    };
+  }
