@@ -41,6 +41,7 @@ pub mod CloseUnder
 pub mod DrawUnder
 pub mod OnEmpty
 pub mod CreateLine
+pub mod OpenLine
 pub mod CloseLine
 pub mod Desking
 pub mod DeskUnder
