@@ -46,3 +46,4 @@ pub mod SizeSet
 pub mod SizeTold
 pub mod SizeSeen
 pub mod SizeLine
+pub mod ReadLine
