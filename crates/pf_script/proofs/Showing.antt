@@ -24,7 +24,7 @@ pub record ShowsSome (seat : Seat) (own : SessionState) : Type 0 where
   pub broken_is : shown.broken ≡ own.broken
   pub seat_is : seat ≡ Own shown
 
-same_session : (s t : SessionState) → Some s ≡ Some t → t ≡ s
+pub same_session : (s t : SessionState) → Some s ≡ Some t → t ≡ s
 same_session s t is = cc
 
 pub shows_none : (sealed : List Sheet) (seat : Seat) → Shows sealed seat None → seat ≡ Empty

@@ -1,42 +1,32 @@
 -- A new version that takes the place of the last one, on an honest disk.
-use Rattle.std.proofs.Common.{◌≡◌, ◌≢◌, ◌⊎◌, inl, inr, ℕ, ◌+◌, ◌*◌, ◌<◌, ◌≤◌, Bool, true, false, List, [], ◌∷◌, ◌++◌, length, refl, ap, ◌∙◌, sym, subst, arith, length-append, Option, Some, None, Result, Ok, Err}
-use Rattle.std.specs.Prelude.{Contains, codes, slice_get}
-use Rattle.pf_io.specs.Disk.{Name, File, Disk, Image, IsImage, IsImageAt, IsSettledFile, IsSettledAt, read_of, reading}
+use Rattle.std.proofs.Common.{◌≡◌, ◌≢◌, inl, inr, ℕ, List, ap, ◌∙◌, sym, subst, Option, Some, Result, Ok, Err}
+use Rattle.pf_io.specs.Disk.{Name, File, Disk, Image, IsImage, IsImageAt, IsSettledFile, IsSettledAt, read_of}
 use Rattle.pf_io.specs.Host.{Both, contents}
-use Rattle.pf_io.specs.Moments.{Honest, Does, Ran, Where}
-use Rattle.pf_io.specs.Names.{recovery_of, side_of}
-use Rattle.pf_io.specs.Steps.{KeepsOthers, Makes, Swaps, AtOnce}
-use Rattle.pf_io.proofs.Images.{settled_at, settled_reads, others_image, others_then, made_others, swapped_others}
+use Rattle.pf_io.specs.Moments.{Honest, Does, Ran, Ends, Where}
+use Rattle.pf_io.specs.Names.{recovery_of}
+use Rattle.pf_io.specs.Steps.{KeepsOthers, Swaps, AtOnce}
+use Rattle.pf_io.proofs.Images.{settled_at, settled_reads}
 use Rattle.pf_io.proofs.Runs.{goes_on, ran_leaves, ran_ends, ran_by, weaker}
-use Rattle.pf_io.proofs.Telling.{both_weaker}
-use Rattle.node_layout.specs.Places.{node_count}
+use Rattle.pf_io.proofs.Telling.{both_then, both_weaker}
 use Rattle.node_tree.specs.Sheet.{Sheet, Stands}
-use Rattle.node_tree.specs.State.{TreeState}
-use Rattle.pf_session.specs.Copying.{clean_below, HasCopies, CopiesInto}
-use Rattle.pf_session.specs.Reopening.{ReopensAs, LeftAs, AsEither, Stood}
-use Rattle.pf_session.specs.Sealing.{LeavesOthers, HasNext, HasSealed, SealsFile, StoodOrKept, StoodIf}
+use Rattle.pf_session.specs.Reopening.{LeftAs, AsEither, Stood, ReadsAs, HasSheet}
+use Rattle.pf_session.specs.Sealing.{LeavesOthers, StoodOrKept, StoodIf}
 use Rattle.pf_session.specs.Making.{done_of}
-use Rattle.pf_session.proofs.Disks.{first_change, next_changes, ends_weaker}
-use Rattle.pf_session.proofs.Standing.{stands_next}
-
-pub side_apart : (name : Name) → side_of name ≢ name
-side_apart name same = let l = ap (λ (n : Name). length n) same in omega (arith, l, length-append name (codes ".new"))
-
-pub recovery_apart : (name : Name) → recovery_of name ≢ name
-recovery_apart name same = let l = ap (λ (n : Name). length n) same in omega (arith, l, length-append name (codes ".recovery"))
-
-pub recovery_not_side : (name : Name) → recovery_of name ≢ side_of name
-recovery_not_side name same = let l = ap (λ (n : Name). length n) same in omega (arith, l, length-append name (codes ".recovery"), length-append name (codes ".new"))
+use Rattle.pf_session.proofs.Names.{recovery_apart}
 
 -- the name as it was leaves the sheet that it stood for
 pub kept_left : (key : List ℕ) (name : Name) (sheet : Sheet) (d : Disk) (image : Image) → Stood key name sheet d → IsImageAt (d name) (image name) → LeftAs key name sheet image
 kept_left key name sheet d image stood is = record { file = stood.as_sheet.file; whole = settled_reads (d name) (image name) stood.settled.file is ∙ stood.as_sheet.whole; stands = stood.as_sheet.stands }
 
+-- and it reads as the sheet
+stood_reads : (key : List ℕ) (name : Name) (sheet : Sheet) (d : Disk) → Stood key name sheet d → ReadsAs key name sheet d
+stood_reads key name sheet d stood = subst (λ (o : Option (List ℕ)). Stands (contents o) key sheet) (sym stood.as_sheet.whole) stood.as_sheet.stands
+
 -- a whole file at the name leaves its sheet
 pub new_left : (key : List ℕ) (name : Name) (next : Sheet) (file : File) (e : Disk) (image : Image) → e name ≡ Some file → IsSettledFile file → Stands file.bytes key next → IsImageAt (e name) (image name) → LeftAs key name next image
 new_left key name next file e image there settled stands is = record { file = file.bytes; whole = settled_at file (e name) (image name) there settled is; stands = stands }
 
-settled_there : (file : File) (o : Option File) → o ≡ Some file → IsSettledFile file → IsSettledAt o
+pub settled_there : (file : File) (o : Option File) → o ≡ Some file → IsSettledFile file → IsSettledAt o
 settled_there file o there settled = subst (λ (p : Option File). IsSettledAt p) (sym there) settled
 
 pub new_stood : (key : List ℕ) (name : Name) (next : Sheet) (file : File) (d e : Disk) → IsSettledAt (d (recovery_of name)) → e (recovery_of name) ≡ d (recovery_of name) → e name ≡ Some file → IsSettledFile file → Stands file.bytes key next → Stood key name next e
@@ -80,25 +70,25 @@ module _ (key : List ℕ) (name side : Name) (base next : Sheet) (apart : side �
         ends = λ stood. inl (run.ends name name_kept);
       }))
 
-  -- the side file stands for the next sheet, where the name stood for the base
+  -- the side file stands for the next sheet, where the name read as the base
   pub record SideStands (d e : Disk) : Type 0 where
     pub others : KeepsOthers side d e
-    pub stands : Stood key name base d → (file : File) × (e side ≡ Some file) × IsSettledFile file × Stands file.bytes key next
+    pub stands : ReadsAs key name base d → (file : File) × (e side ≡ Some file) × IsSettledFile file × Stands file.bytes key next
 
   module _ (not_recovery : recovery_of name ≢ side) where
-    swapped_to : (d e f : Disk) → SideStands d e → Swaps side name e f → (stood : Stood key name base d) → (file : File) × (f name ≡ Some file) × IsSettledFile file × Stands file.bytes key next
-    swapped_to d e f made swap stood = let s = made.stands stood in (s.0, swap.moved s.0 apart s.1, s.2, s.3)
+    swapped_to : (d e f : Disk) → SideStands d e → Swaps side name e f → ReadsAs key name base d → (file : File) × (f name ≡ Some file) × IsSettledFile file × Stands file.bytes key next
+    swapped_to d e f made swap reads = let s = made.stands reads in (s.0, swap.moved s.0 apart s.1, s.2, s.3)
 
     recovery_still : (d e f : Disk) → SideStands d e → Swaps side name e f → f (recovery_of name) ≡ d (recovery_of name)
     recovery_still d e f made swap = swap.others (recovery_of name) not_recovery (recovery_apart name) ∙ made.others (recovery_of name) not_recovery
 
     stood_swapped : (d e f : Disk) → SideStands d e → Swaps side name e f → Stood key name base d → Stood key name next f
     stood_swapped d e f made swap stood =
-        let s = swapped_to d e f made swap stood in
+        let s = swapped_to d e f made swap (stood_reads key name base d stood) in
         new_stood key name next s.0 d f stood.settled.recovery (recovery_still d e f made swap) s.1 s.2 s.3
 
     left_swapped : (d e f : Disk) (image : Image) → SideStands d e → Swaps side name e f → IsImage f image → Stood key name base d → AsEither key name base next d image
-    left_swapped d e f image made swap is stood = let s = swapped_to d e f made swap stood in inr (new_left key name next s.0 f image s.1 s.2 s.3 (is name))
+    left_swapped d e f image made swap is stood = let s = swapped_to d e f made swap (stood_reads key name base d stood) in inr (new_left key name next s.0 f image s.1 s.2 s.3 (is name))
 
     swap_step : {T E : Type 0} (r : Result T E) (d e f : Disk) → SideStands d e → AtOnce r (Swaps side name) e f
         → (Stood key name base d → StoodIf (done_of r) key name next d f) × ((image : Image) → IsImage f image → Stood key name base d → AsEither key name base next d image)
@@ -118,3 +108,12 @@ module _ (key : List ℕ) (name side : Name) (base next : Sheet) (apart : side �
         (weaker (LeavesOthers side) (λ d image. Stood key name base d → AsEither key name base next d image) o p (ran_leaves (LeavesOthers side) SideStands o p ran) others_left)
         (ran_ends (LeavesOthers side) SideStands o p ran))
         does (swap_step r))
+
+    -- where it took the name, the next sheet stands there
+    pub stands_replaced : (T E : Type 0) (value : T) (o p q : Option Honest) → Both o p (Ran (LeavesOthers side) SideStands) → Both p q (Does (AtOnce {T = T} {E = E} (Ok value) (Swaps side name)))
+        → Both o q (Where (ReadsAs key name base) (Ends (λ _. HasSheet key name next)))
+    stands_replaced T E value o p q ran does =
+        both_then (Ran (LeavesOthers side) SideStands) (Does (AtOnce {T = T} {E = E} (Ok value) (Swaps side name))) (Where (ReadsAs key name base) (Ends (λ _. HasSheet key name next))) o p q ran does
+        (λ a b c run step reads.
+        let s = swapped_to a.now b.now c.now run.ends step.disk reads in
+        record { file = s.0; there = s.1; settled = s.2; stands = s.3 })

@@ -1,30 +1,28 @@
 -- A new version of a session's content, from the writing of its parts.
-use Rattle.std.proofs.Common.{◌≡◌, ℕ, ◌+◌, ◌-◌, ◌*◌, ◌<◌, ◌≤◌, Bool, true, false, cond, List, [], ◌∷◌, ◌++◌, length, refl, ap, ◌∙◌, sym, subst, arith, Option, Some, None, IfSome, Result, Ok, Err}
+use Rattle.std.proofs.Common.{◌≡◌, ℕ, ◌+◌, ◌-◌, ◌*◌, ◌≤◌, Bool, true, false, cond, List, length, refl, ap, ◌∙◌, sym, subst, arith, Option, Some, None, IfSome, Result, Ok, Err, OnOk}
 use Rattle.std.specs.Prelude.{Contains}
 use Rattle.std.proofs.lemmas.Bool.{false≢true}
 use Rattle.std.proofs.lemmas.Option.{IfSome_then}
-use Rattle.pf_io.specs.Disk.{Name, Files, File, Disk}
-use Rattle.pf_io.specs.Host.{HostState, Both, OnHonest, contents, files_of, Swapped}
-use Rattle.pf_io.specs.Moments.{Honest, Ends, Where}
+use Rattle.pf_io.specs.Disk.{Name, Files, File, read_of}
+use Rattle.pf_io.specs.Host.{HostState, Both, contents, files_of}
+use Rattle.pf_io.specs.Moments.{Ends, Where}
 use Rattle.pf_io.specs.Names.{side_of}
 use Rattle.pf_io.proofs.Telling.{both_weaker}
 use Rattle.node_layout.specs.Places.{node_count}
-use Rattle.node_layout.specs.declared.damage.Damage.{Damage}
 use Rattle.node_tree.specs.Backing.{Backs}
 use Rattle.node_tree.specs.Next.{KeepsShape, IsSealedAs}
-use Rattle.node_tree.specs.Sheet.{Sheet, Stands}
+use Rattle.node_tree.specs.Sheet.{Sheet, Stands, image_of}
 use Rattle.node_tree.specs.State.{TreeState}
 use Rattle.node_tree.proofs.Standing.{within}
 use Rattle.pf_session.specs.State.{SessionState, file_of}
 use Rattle.pf_session.specs.Asking.{NoCall, Asked, Stopped}
-use Rattle.pf_session.specs.Backing.{IsBacked}
 use Rattle.pf_session.specs.Copying.{clean_below}
-use Rattle.pf_session.specs.Reopening.{HasSheet}
-use Rattle.pf_session.specs.Steps.{seal_steps, clean_nodes, steps_by, flush_steps}
-use Rattle.pf_session.specs.Sealing.{ChangesAlone, HasNext, HasSealed, SealsFile}
-use Rattle.pf_session.specs.Making.{ReplaceGoes, ReplaceUndamaged}
-use Rattle.pf_session.specs.Flushing.{FlushShort, FlushStopped, FlushDone, IsUndamaged, UndamagedFlush}
-use Rattle.pf_session.specs.Versions.{VersionGoes, SealsOn}
+use Rattle.pf_session.specs.Reopening.{ReadsAs, HasSheet}
+use Rattle.pf_session.specs.Steps.{seal_steps, clean_nodes, steps_by}
+use Rattle.pf_session.specs.Sealing.{ChangesAlone, HasNext, HasSealed, SealsFile, Replaces, StandsNext}
+use Rattle.pf_session.specs.Making.{ReplaceGoes, ReplacesNexts, StandsNexts, ReplaceUndamaged, done_of}
+use Rattle.pf_session.specs.Flushing.{UndamagedFlush}
+use Rattle.pf_session.specs.Versions.{VersionGoes, SealsOn, SealsOns}
 use Rattle.pf_session.specs.declared.fault.FlushFault.{FlushFault}
 use Rattle.pf_session.specs.declared.fault.FlushFault.TheVariants as faults
 use Rattle.pf_session.proofs.Calls.{same_asked, same_stopped}
@@ -34,7 +32,7 @@ use Rattle.pf_session.proofs.Standing.{length-image, stands_next}
 
 -- the nodes of a sheet that a tree on it has not changed are in its file
 module _ (key : List ℕ) (sheet : Sheet) (tree : TreeState) (file : List ℕ) (key_length : length key ≡ 16) (backs : Backs sheet tree) (stands : Stands file key sheet) where
-  clean_whole : (k : ℕ) → Contains (clean_below tree.dirty (node_count tree.size)) k → 4096 * k + 4096 ≤ length file
+  pub clean_whole : (k : ℕ) → Contains (clean_below tree.dirty (node_count tree.size)) k → 4096 * k + 4096 ≤ length file
   clean_whole k among =
       let m = clean_member tree.dirty 1 (node_count tree.size - 1) k among in
       let low = m.0 in
@@ -75,21 +73,7 @@ module _ (s : SessionState) (nonce : List ℕ) (keys : List (List ℕ)) (mid : T
     asked = same_asked _ _ NoCall old new (ap (λ (b : Bool). steps_by b s nonce keys goes.blocks mid) (sym beside)) goes.asked;
   }
   named_goes (Err faults.Words) beside shape goes = goes
-  named_goes (Err (faults.Damaged damage)) beside shape goes = (
-    beside,
-    record {
-      done = goes.done;
-      left = goes.left;
-      blocks = goes.blocks;
-      block = goes.block;
-      in_order = goes.in_order;
-      are_blocks = goes.are_blocks;
-      short = goes.short;
-      kind_is = goes.kind_is;
-      asked = goes.asked;
-      alone = goes.alone;
-    },
-  )
+  named_goes (Err (faults.Damaged damage)) beside shape goes = (beside, goes)
   named_goes (Err faults.Host) beside shape goes = record {
     blocks = goes.blocks;
     are_blocks = goes.are_blocks;
@@ -109,19 +93,49 @@ pub renamed : (r : Result (Unit {0}) FlushFault) (key path nonce : List ℕ) (na
 renamed r key path nonce name name' side side' clean dirty keys tree old new is is' goes =
     subst (λ (n : Name). ReplaceGoes r key path nonce n side' clean dirty keys tree old new) is (subst (λ (n : Name). ReplaceGoes r key path nonce name n clean dirty keys tree old new) is' goes)
 
+-- where the file of a session stands
+pub file_beside : (s : SessionState) → s.beside ≡ true → file_of s ≡ side_of s.name
+file_beside s is = ap (λ (b : Bool). cond b (side_of s.name) s.name) is
+
+file_named : (s : SessionState) → s.beside ≡ false → file_of s ≡ s.name
+file_named s is = ap (λ (b : Bool). cond b (side_of s.name) s.name) is
+
+-- what reads as a sheet is there
+read_there : (key : List ℕ) (sheet : Sheet) (o : Option File) → length key ≡ 16 → Stands (contents (read_of o)) key sheet → (file : File) × (o ≡ Some file) × Stands file.bytes key sheet
+read_there key sheet (Some file) key_length stands = (file, refl, stands)
+read_there key sheet None key_length stands = let long : length (image_of key sheet) ≤ 0 = stands.long in absurd (omega (arith, long, length-image key sheet stands.linked key_length))
+
+when_done : {P : Type 0} (r : Result (Unit {0}) FlushFault) → OnOk r P → done_of r ≡ true → P
+when_done (Ok done) holds is = holds
+when_done (Err fault) holds is = absurd (false≢true is)
+
+-- the name has the next sheet
+pub seals_named : (r : Result (Unit {0}) FlushFault) (s : SessionState) (nonce : List ℕ) (keys : List (List ℕ)) (name : Name) (old new : HostState) → s.beside ≡ false → name ≡ s.name → ReplacesNexts r s.key s.path nonce name s.tree keys old new
+    → OnOk r (StandsNexts s.key s.path nonce name s.tree keys old new) → SealsOns r nonce keys s old new
+seals_named r s nonce keys name old new beside is replaces stands sheet next has = record {
+  named = λ _. subst (λ (n : Name). Replaces (done_of r) s.key n sheet next old new) is (replaces sheet next has);
+  stands = λ done. subst (λ (n : Name). StandsNext s.key n sheet next old new) (is ∙ sym (file_named s beside)) (when_done r stands done sheet next has);
+}
+
+-- a side file that was not sealed
+pub seals_failed : (fault : FlushFault) (s : SessionState) (nonce : List ℕ) (keys : List (List ℕ)) (old new : HostState) → s.beside ≡ true → SealsOns (Err fault) nonce keys s old new
+seals_failed fault s nonce keys old new beside sheet next has = record { named = λ named. absurd (false≢true (sym named ∙ beside)); stands = λ done. absurd (false≢true done) }
+
 -- the side file stands for the next sheet
 pub seals_beside : (s : SessionState) (nonce : List ℕ) (keys : List (List ℕ)) (mid : TreeState) (sheet next : Sheet) (old new : HostState) → s.beside ≡ true → length s.key ≡ 16 → HasNext sheet s.tree s.path nonce keys next → IsSealedAs next mid → KeepsShape s.tree mid
     → Both old.honest new.honest (Ends (SealsFile s.key next s.tree.dirty (side_of s.name))) → SealsOn true sheet next s old new
 seals_beside s nonce keys mid sheet next old new beside key_length has as_sealed shape ends = record {
   named = λ named. absurd (false≢true (sym named ∙ beside));
-  apart = λ is done.
-      both_weaker (Ends (SealsFile s.key next s.tree.dirty (side_of s.name))) (Where (HasSheet s.key (side_of s.name) sheet) (Ends (λ _. HasSheet s.key (side_of s.name) next))) old.honest new.honest ends
-      (λ a b sealed there.
-      let q = sealed.there there.file there.there in
-      record { file = q.0; there = q.1; settled = q.2; stands = stands_in_place s.key s.path nonce sheet s.tree mid keys next there.file.bytes q.0.bytes key_length has as_sealed shape there.stands q.3 });
+  stands = λ done.
+      subst (λ (n : Name). StandsNext s.key n sheet next old new) (sym (file_beside s beside))
+      (both_weaker (Ends (SealsFile s.key next s.tree.dirty (side_of s.name))) (Where (ReadsAs s.key (side_of s.name) sheet) (Ends (λ _. HasSheet s.key (side_of s.name) next))) old.honest new.honest ends
+      (λ a b sealed reads.
+      let f = read_there s.key sheet (a.now (side_of s.name)) key_length reads in
+      let q = sealed.there f.0 f.1 in
+      record { file = q.0; there = q.1; settled = q.2; stands = stands_in_place s.key s.path nonce sheet s.tree mid keys next f.0.bytes q.0.bytes key_length has as_sealed shape f.2 q.3 }));
 }
 
-for_all : (P : Files → Type 0) (o : Option Files) → ((files : Files) → P files) → IfSome o P
+pub for_all : (P : Files → Type 0) (o : Option Files) → ((files : Files) → P files) → IfSome o P
 for_all P (Some files) each = each files
 for_all P None each = tt
 

@@ -45,3 +45,18 @@ ChangesTwo name second before after = OnDisk before after (Ran (LeavesAllBut nam
 pub record LeavesNamed (name : Name) (disk : Disk) (image : Image) : Type 0 where
   pub here : IsImageAt (disk name) (image name)
   pub recovery : IsImageAt (disk (recovery_of name)) (image (recovery_of name))
+
+-- another name than those of a move from one name to another
+pub record ApartBoth (from to other : Name) : Type 0 where
+  pub of_old : Apart from other
+  pub of_new : Apart to other
+
+abbrev pub LeavesApartBoth : Name → Name → Disk → Image → Type 0
+LeavesApartBoth from to disk image = (other : Name) → ApartBoth from to other → IsImageAt (disk other) (image other)
+
+abbrev pub KeepsApartBoth : Name → Name → Disk → Disk → Type 0
+KeepsApartBoth from to old new = (other : Name) → ApartBoth from to other → new other ≡ old other
+
+-- Whatever stands at these names, every other name is as before at every moment and in the end.
+abbrev pub AsideBoth : Name → Name → HostState → HostState → Type 0
+AsideBoth from to before after = OnDisk before after (Ran (LeavesApartBoth from to) (KeepsApartBoth from to))

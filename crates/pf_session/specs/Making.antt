@@ -9,8 +9,8 @@ use Rattle.pf_io.specs.Host.{Answer, Gave, Made, Swapped, HostState, OnDisk, OnH
 use Rattle.pf_io.specs.Moments.{Ends}
 use Rattle.pf_session.specs.Asking.{NoCall, Asked, Stopped}
 use Rattle.pf_session.specs.Copying.{copied, AreBlocksOf}
-use Rattle.pf_session.specs.Steps.{seal_steps, replace_steps}
-use Rattle.pf_session.specs.Sealing.{ChangesAlone, HasNext, SealLeaves, Replaces}
+use Rattle.pf_session.specs.Steps.{replace_steps}
+use Rattle.pf_session.specs.Sealing.{ChangesAlone, HasNext, SealLeaves, Replaces, StandsNext}
 use Rattle.pf_session.specs.declared.fault.FlushFault.{FlushFault}
 use Rattle.pf_session.specs.declared.fault.FlushFault.TheVariants as faults
 
@@ -60,6 +60,10 @@ done_of (Err fault) = false
 -- for each next sheet: it took the place of the last one
 abbrev pub ReplacesNexts : {T E : Type 0} → Result T E → List ℕ → List ℕ → List ℕ → Name → TreeState → List (List ℕ) → HostState → HostState → Type 0
 ReplacesNexts result key path nonce name tree keys before after = (sheet next : Sheet) → HasNext sheet tree path nonce keys next → Replaces (done_of result) key name sheet next before after
+
+-- and where the name stood for the last one, it stands for this one
+abbrev pub StandsNexts : List ℕ → List ℕ → List ℕ → Name → TreeState → List (List ℕ) → HostState → HostState → Type 0
+StandsNexts key path nonce name tree keys before after = (sheet next : Sheet) → HasNext sheet tree path nonce keys next → StandsNext key name sheet next before after
 
 -- where a node to be copied is short, the file is
 abbrev pub ReplaceUndamaged : Result (Unit {0}) FlushFault → Name → List ℕ → HostState → Type 0

@@ -1,6 +1,7 @@
 -- When what a crash leaves reopens, and as which sealed version.
 use Rattle.std.specs.Prelude.{◌≡◌, ◌⊎◌, ℕ, List, Option, Some}
 use Rattle.pf_io.specs.Disk.{Name, File, Disk, Image, IsImageAt, IsSettledFile, Settled, reading}
+use Rattle.pf_io.specs.Host.{contents}
 use Rattle.pf_io.specs.Names.{recovery_of}
 use Rattle.node_tree.specs.Sheet.{Sheet, Stands}
 use Rattle.pf_session.specs.Restored.{restored}
@@ -43,6 +44,10 @@ ReopensEither key name v w disk image = Reopens key name v (image name) (image (
 pub record Stood (key : List ℕ) (name : Name) (sheet : Sheet) (disk : Disk) : Type 0 where
   pub settled : Settled disk name
   pub as_sheet : ReopensAs key sheet (reading disk name) (reading disk (recovery_of name))
+
+-- what a read of the name gives stands for the sheet, whatever is pending at it
+abbrev pub ReadsAs : List ℕ → Name → Sheet → Disk → Type 0
+ReadsAs key name sheet disk = Stands (contents (reading disk name)) key sheet
 
 -- the name has a file that stands for the sheet, and nothing is pending at it; of its recovery file nothing is said
 pub record HasSheet (key : List ℕ) (name : Name) (sheet : Sheet) (disk : Disk) : Type 0 where

@@ -1,5 +1,5 @@
 -- What a sealing leaves on an honest disk.
-use Rattle.std.specs.Prelude.{◌≡◌, ◌≢◌, ◌⊎◌, ℕ, ◌<◌, ◌≤◌, Bool, true, false, List, length, Contains, slice_get, Some, Result, Ok, Err}
+use Rattle.std.specs.Prelude.{◌≡◌, ◌⊎◌, ℕ, ◌<◌, ◌≤◌, Bool, true, false, List, length, Contains, slice_get, Some, Result, Ok, Err}
 use Rattle.node_layout.specs.Metadata.{meta_block}
 use Rattle.node_tree.specs.Backing.{Backs}
 use Rattle.node_tree.specs.Next.{NextSheet}
@@ -7,12 +7,12 @@ use Rattle.node_tree.specs.Opened.{block_of}
 use Rattle.node_tree.specs.Sealing.{InBlocks}
 use Rattle.node_tree.specs.Sheet.{Node, Sheet, HasNode, IsLinked, sealed, meta_of}
 use Rattle.node_tree.specs.State.{TreeState}
-use Rattle.pf_io.specs.Disk.{Name, File, Disk, Image, IsImageAt, IsSettledFile}
+use Rattle.pf_io.specs.Disk.{Name, File, Disk, IsSettledFile}
 use Rattle.pf_io.specs.Steps.{KeepsOthers}
 use Rattle.pf_io.specs.Host.{HostState, OnDisk}
-use Rattle.pf_io.specs.Moments.{Ran, Where}
+use Rattle.pf_io.specs.Moments.{Ran, Ends, Where}
 pub use Rattle.pf_session.specs.Aside.{LeavesOthers, ChangesAlone}
-use Rattle.pf_session.specs.Reopening.{AsEither, Stood}
+use Rattle.pf_session.specs.Reopening.{AsEither, Stood, ReadsAs, HasSheet}
 
 -- the tree on a sheet has this next sheet
 pub record HasNext (sheet : Sheet) (tree : TreeState) (path nonce : List ℕ) (keys : List (List ℕ)) (next : Sheet) : Type 0 where
@@ -49,3 +49,7 @@ StoodIf false key name next old new = StoodOrKept key name next old new
 -- A new version took the place of the last one, where this was settled: at every moment an image reopens as one of the two.
 abbrev pub Replaces : Bool → List ℕ → Name → Sheet → Sheet → HostState → HostState → Type 0
 Replaces done key name base next before after = OnDisk before after (Where (Stood key name base) (Ran (AsEither key name base next) (StoodIf done key name next)))
+
+-- Where the name stood for the base, whatever was pending at it, it stands for the next sheet in the end, and nothing is pending there.
+abbrev pub StandsNext : List ℕ → Name → Sheet → Sheet → HostState → HostState → Type 0
+StandsNext key name base next before after = OnDisk before after (Where (ReadsAs key name base) (Ends (λ _. HasSheet key name next)))

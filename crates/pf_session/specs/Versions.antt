@@ -3,13 +3,9 @@ use Rattle.std.specs.Prelude.{◌≡◌, ℕ, Bool, true, false, List, Result, O
 use Rattle.node_tree.specs.Next.{IsSealedAs}
 use Rattle.node_tree.specs.Sheet.{Sheet}
 use Rattle.node_tree.specs.State.{TreeState}
-use Rattle.node_tree.specs.Next.{KeepsShape}
-use Rattle.pf_io.specs.Host.{HostState, OnDisk}
-use Rattle.pf_io.specs.Moments.{Ends, Where}
-use Rattle.pf_io.specs.Names.{side_of}
-use Rattle.pf_session.specs.State.{SessionState}
-use Rattle.pf_session.specs.Reopening.{HasSheet}
-use Rattle.pf_session.specs.Sealing.{HasNext, Replaces}
+use Rattle.pf_io.specs.Host.{HostState}
+use Rattle.pf_session.specs.State.{SessionState, file_of}
+use Rattle.pf_session.specs.Sealing.{HasNext, Replaces, StandsNext}
 use Rattle.pf_session.specs.Making.{done_of}
 use Rattle.pf_session.specs.Flushing.{FlushShort, FlushStopped, FlushDone}
 use Rattle.pf_session.specs.declared.fault.FlushFault.{FlushFault}
@@ -29,7 +25,7 @@ SealedAll nonce keys old tree = (sheet next : Sheet) → HasNext sheet old.tree 
 -- what it leaves of a sheet and the next one
 pub record SealsOn (done : Bool) (sheet next : Sheet) (old : SessionState) (before after : HostState) : Type 0 where
   pub named : old.beside ≡ false → Replaces done old.key old.name sheet next before after
-  pub apart : old.beside ≡ true → done ≡ true → OnDisk before after (Where (HasSheet old.key (side_of old.name) sheet) (Ends (λ _. HasSheet old.key (side_of old.name) next)))
+  pub stands : done ≡ true → StandsNext old.key (file_of old) sheet next before after
 
 abbrev pub SealsOns : Result (Unit {0}) FlushFault → List ℕ → List (List ℕ) → SessionState → HostState → HostState → Type 0
 SealsOns result nonce keys old before after = (sheet next : Sheet) → HasNext sheet old.tree old.path nonce keys next → SealsOn (done_of result) sheet next old before after

@@ -1,49 +1,9 @@
 //! Changes of a session's content.
+use crate::fixtures::{AT_ONCE, flush, new_file, reopened, words_of, write};
 use crate::{Session, SizeFault, WriteFault, Written};
 use pf_io::{ListWords, MemHost};
-use std::alloc::Global;
 use std::process::Abort;
 use std::test::Fail;
-
-const KEY: [u8; 16] = [7; 16];
-
-const AT_ONCE: Written = Written {
-    flushed_before: false,
-};
-
-fn words_of(alloc: Global, count: u8) -> Result<ListWords, Fail> {
-    let mut random = ListWords::new(alloc);
-    for word in 0..count {
-        random.push([word; 16])?;
-    }
-    Ok(random)
-}
-
-fn new_file(rt: &impl Abort, alloc: Global, host: &mut MemHost, random: &mut ListWords) -> Session {
-    match Session::create(alloc, host, random, &KEY, "a.pf", "a.pf") {
-        Ok(session) => session,
-        Err(_fault) => panic!(rt; "not created"),
-    }
-}
-
-fn reopened(rt: &impl Abort, alloc: Global, host: &mut MemHost) -> Session {
-    match Session::open(alloc, host, &KEY, "a.pf", Some("a.pf")) {
-        Ok(session) => session,
-        Err(_fault) => panic!(rt; "not opened"),
-    }
-}
-
-fn write(
-    rt: &impl Abort,
-    session: &mut Session,
-    host: &mut MemHost,
-    random: &mut ListWords,
-    at: u64,
-    from: &[u8],
-) -> Result<Written, WriteFault> {
-    assert!(rt; !session.broken());
-    session.write(host, random, at, from)
-}
 
 fn set_size(
     rt: &impl Abort,
@@ -54,12 +14,6 @@ fn set_size(
 ) -> Result<Written, SizeFault> {
     assert!(rt; !session.broken());
     session.set_size(host, random, size)
-}
-
-fn flush(rt: &impl Abort, session: &mut Session, host: &mut MemHost, random: &mut ListWords) {
-    assert!(rt; !session.broken());
-    assert_eq!(rt; session.flush(host, random), Ok(()));
-    assert!(rt; !session.changed());
 }
 
 // 4000 bytes 5 and then 2000 zeros
@@ -76,7 +30,10 @@ fn change(rt: &impl Abort, session: &mut Session, host: &mut MemHost, random: &m
     assert_eq!(rt; write(rt, session, host, random, 0, &[]), Ok(AT_ONCE));
     assert_eq!(rt; set_size(rt, session, host, random, 0), Ok(AT_ONCE));
     assert!(rt; !session.changed());
-    assert_eq!(rt; write(rt, session, host, random, 0, &[5; 5000]), Ok(AT_ONCE));
+    assert_eq!(rt;
+        write(rt, session, host, random, 0, &[5; 5000]),
+        Ok(AT_ONCE)
+    );
     assert_eq!(rt; set_size(rt, session, host, random, 4000), Ok(AT_ONCE));
     assert_eq!(rt; set_size(rt, session, host, random, 6000), Ok(AT_ONCE));
     assert!(rt; session.changed());
@@ -117,7 +74,12 @@ fn changes_that_no_session_allows_are_refused(rt: HostRuntime) -> Result<(), Fai
 }
 
 // Five pieces make 41 nodes dirty, and a sixth would make 49.
-fn write_pieces(rt: &impl Abort, session: &mut Session, host: &mut MemHost, random: &mut ListWords) {
+fn write_pieces(
+    rt: &impl Abort,
+    session: &mut Session,
+    host: &mut MemHost,
+    random: &mut ListWords,
+) {
     for piece in 0..5u64 {
         let written = write(rt, session, host, random, piece * 32_768, &[3; 32_768]);
         assert_eq!(rt; written, Ok(AT_ONCE));
@@ -126,19 +88,74 @@ fn write_pieces(rt: &impl Abort, session: &mut Session, host: &mut MemHost, rand
 }
 
 #[test]
-fn where_too_many_nodes_would_be_dirty_the_session_is_flushed_first(rt: HostRuntime) -> Result<(), Fail> {
+fn where_too_many_nodes_would_be_dirty_the_session_is_flushed_first(
+    rt: HostRuntime,
+) -> Result<(), Fail> {
     let alloc = rt.alloc();
     let mut host = MemHost::new(alloc);
     let mut random = words_of(alloc, 2)?;
     let mut session = new_file(&rt, alloc, &mut host, &mut random);
     write_pieces(&rt, &mut session, &mut host, &mut random);
-    let sixth = write(&rt, &mut session, &mut host, &mut random, 163_840, &[4; 32_768]);
+    let sixth = write(
+        &rt,
+        &mut session,
+        &mut host,
+        &mut random,
+        163_840,
+        &[4; 32_768],
+    );
     assert_eq!(rt; sixth, Err(WriteFault::Words));
     assert!(rt; !session.broken());
     assert_eq!(rt; session.dirty(), 41);
     let mut random = words_of(alloc, 43)?;
-    let sixth = write(&rt, &mut session, &mut host, &mut random, 163_840, &[4; 32_768]);
-    assert_eq!(rt; sixth, Ok(Written { flushed_before: true }));
+    let sixth = write(
+        &rt,
+        &mut session,
+        &mut host,
+        &mut random,
+        163_840,
+        &[4; 32_768],
+    );
+    assert_eq!(rt;
+        sixth,
+        Ok(Written {
+            flushed_before: true
+        })
+    );
     assert_eq!(rt; session.dirty(), 10);
+    Ok(())
+}
+
+// The last of 5000 bytes are 3.
+fn expect_threes(rt: &impl Abort, session: &mut Session, host: &mut MemHost) {
+    assert!(rt; !session.broken());
+    assert_eq!(rt; session.size(), 5000);
+    let mut to = [0; 200];
+    assert_eq!(rt; session.read(host, 4900, &mut to), Ok(100));
+    assert!(rt; to.iter().take(100).all(|byte| *byte == 3));
+}
+
+#[test]
+fn a_large_content_is_changed_again_after_it_was_opened(rt: HostRuntime) -> Result<(), Fail> {
+    let alloc = rt.alloc();
+    let mut host = MemHost::new(alloc);
+    let mut random = words_of(alloc, 120)?;
+    let mut session = new_file(&rt, alloc, &mut host, &mut random);
+    write_pieces(&rt, &mut session, &mut host, &mut random);
+    let grown = set_size(&rt, &mut session, &mut host, &mut random, 196_608);
+    assert_eq!(rt;
+        grown,
+        Ok(Written {
+            flushed_before: true
+        })
+    );
+    flush(&rt, &mut session, &mut host, &mut random);
+    let mut session = reopened(&rt, alloc, &mut host);
+    write_pieces(&rt, &mut session, &mut host, &mut random);
+    let shrunk = set_size(&rt, &mut session, &mut host, &mut random, 5000);
+    assert_eq!(rt; shrunk, Ok(AT_ONCE));
+    flush(&rt, &mut session, &mut host, &mut random);
+    let mut session = reopened(&rt, alloc, &mut host);
+    expect_threes(&rt, &mut session, &mut host);
     Ok(())
 }

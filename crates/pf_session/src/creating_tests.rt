@@ -1,22 +1,10 @@
 //! Creations of protected files, and what a crash leaves of them.
+use crate::fixtures::{EACH_TEAR, KEY, words_of};
 use crate::{BesideFault, CreateFault, OpenFault, Session};
 use pf_io::{Host, ListWords, MemHost, Tear};
 use std::alloc::Global;
 use std::process::Abort;
 use std::test::Fail;
-
-const KEY: [u8; 16] = [7; 16];
-
-const EACH_TEAR: [Tear; 3] = [Tear::Kept, Tear::Lost, Tear::Fill(b'-')];
-
-// So many random words, each another one.
-fn words_of(alloc: Global, count: u8) -> Result<ListWords, Fail> {
-    let mut random = ListWords::new(alloc);
-    for word in 0..count {
-        random.push([word; 16])?;
-    }
-    Ok(random)
-}
 
 fn first_nonce() -> [u8; 32] {
     let mut nonce = [0; 32];

@@ -13,8 +13,15 @@ mod drawing;
 mod ending;
 mod fault;
 mod file_name;
+#[cfg(test)]
+mod fixtures;
 mod flushing;
+#[cfg(test)]
+mod flushing_tests;
 mod laws;
+mod moving;
+#[cfg(test)]
+mod moving_tests;
 mod node_zero;
 mod open_fault;
 mod opening;
@@ -23,10 +30,8 @@ mod opening_tests;
 mod reading;
 mod sealing;
 mod session;
-#[cfg(test)]
-mod tests;
 
-pub use fault::{BesideFault, CreateFault, FlushFault, SizeFault, WriteFault, Written};
+pub use fault::{BesideFault, CreateFault, FlushFault, MoveFault, SizeFault, WriteFault, Written};
 pub use laws::openings_are_decided;
 pub use open_fault::OpenFault;
 pub use session::Session;

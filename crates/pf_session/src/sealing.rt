@@ -10,7 +10,7 @@ ghost use Rattle.pf_session.specs.Copying.{clean_below};
 ghost use Rattle.pf_session.specs.Steps.{seal_steps, node_of};
 ghost use Rattle.pf_session.specs.Sealing.{ChangesAlone, HasNext};
 ghost use Rattle.pf_session.specs.Flushing.{host_part};
-ghost use Rattle.pf_session.specs.Making.{StepsGo, SealsNexts, ReplaceGoes, ReplacesNexts, ReplaceUndamaged, KeptAtDamage};
+ghost use Rattle.pf_session.specs.Making.{StepsGo, SealsNexts, ReplaceGoes, ReplacesNexts, StandsNexts, ReplaceUndamaged, KeptAtDamage};
 
 use crate::copying::copy_clean;
 use crate::fault::FlushFault;
@@ -18,10 +18,15 @@ use node_layout::{PathText, node_count, seal_meta};
 use node_tree::Tree;
 use pf_io::{Host, HostFault};
 
-
 /// Node 0 of the tree's content.
-pub(crate) fn make_node(key: &[u8; 16], path: &PathText, nonce: &[u8; 32], tree: &Tree) -> [u8; 4096]
-    ensures { result ≡ node_of key.now path.now nonce.now tree.now }
+pub(crate) fn make_node(
+    key: &[u8; 16],
+    path: &PathText,
+    nonce: &[u8; 32],
+    tree: &Tree,
+) -> [u8; 4096]
+    ensures same { result ≡ node_of key.now path.now nonce.now tree.now }
+    ensures first { length tree.now.first ≡ 3072 }
 {
     let secret = tree.meta(path);
     let mut node = [0; 4096];
@@ -75,6 +80,7 @@ pub(crate) fn replace<H: Host>(
     ensures cause { HasCause (H.state host.old).faults (H.state host.new).faults (host_part result) }
     ensures short { ReplaceUndamaged result name.now (clean_below tree.old.dirty (node_count tree.old.size)) (H.state host.old) }
     ensures aside { Aside name.now (H.state host.old) (H.state host.new) }
+    ensures stands { OnOk result (StandsNexts key.now path.now nonce.now name.now tree.old keys.now (H.state host.old) (H.state host.new)) }
     ensures replaces { ReplacesNexts result key.now path.now nonce.now name.now tree.old keys.now (H.state host.old) (H.state host.new) }
 {
     host.make(side)?;

@@ -1,7 +1,7 @@
-use Rattle.std.proofs.Common.{◌≡◌, ℕ, List, ap, ◌∙◌, sym, subst, Result, Ok, Err, true}
+use Rattle.std.proofs.Common.{◌≡◌, ◌∙◌, subst, Ok, Err}
 use Rattle.std.proofs.lemmas.Result.{err_from_is_err_and}
 use Rattle.pf_io.specs.Disk.{Name}
-use Rattle.pf_io.specs.Host.{HostState, Both}
+use Rattle.pf_io.specs.Host.{Both}
 use Rattle.pf_io.specs.Moments.{Ends}
 use Rattle.pf_io.specs.Names.{side_of}
 use Rattle.pf_session.specs.State.{SessionState}
@@ -14,7 +14,7 @@ use Rattle.pf_session.specs.Sealing.{ChangesAlone, SealsFile}
 use Rattle.pf_session.specs.Steps.{seal_steps, clean_nodes}
 use Rattle.pf_session.specs.Versions.{VersionGoes, SealsOns}
 use Rattle.pf_session.proofs.Replace.{alone_aside}
-use Rattle.pf_session.proofs.Versions.{beside_stopped, beside_done, named_goes, renamed, seals_beside, undamaged_by}
+use Rattle.pf_session.proofs.Versions.{beside_stopped, beside_done, named_goes, renamed, seals_beside, seals_named, seals_failed, undamaged_by}
 use Rattle.pf_session.proofs.session.Session.write_version.Goals as goal
 
 pub returns-in_err-seal_nodes-clause-goes : goal.returns-in_err-seal_nodes-clause-goes
@@ -80,3 +80,17 @@ returns-clause-undamaged g c =
     subst (λ (x : SessionState). UndamagedFlush c.replace.result x s0) c.self.view_is
     (undamaged_by c.replace.result s s0 c.if-self.false c.self.invariant.key_length
     (subst (λ (n : Name). ReplaceUndamaged c.replace.result n (clean_nodes s) s0) c.as_str-2.ensures c.replace.ensures.short))
+
+pub returns-in_err-seal_nodes-clause-seals : goal.returns-in_err-seal_nodes-clause-seals
+returns-in_err-seal_nodes-clause-seals g c =
+    let p = err_from_is_err_and c.from_residual.result c.from_residual.ensures.1 in
+    let s0 = g.H.Host.state c.args.host.now in
+    let s1 = g.H.Host.state c.seal_nodes.new.host in
+    rw p.1 (subst (λ (x : SessionState). SealsOns (Err p.0) c.args.nonce.now c.args.keys.now x s0 s1) c.self.view_is (seals_failed p.0 (state_of c.self.inside) c.args.nonce.now c.args.keys.now s0 s1 c.if-self.true))
+
+pub returns-clause-seals : goal.returns-clause-seals
+returns-clause-seals g c =
+    let s0 = g.H.Host.state c.args.host.now in
+    let s1 = g.H.Host.state c.replace.new.host in
+    subst (λ (x : SessionState). SealsOns c.replace.result c.args.nonce.now c.args.keys.now x s0 s1) c.self.view_is
+    (seals_named c.replace.result (state_of c.self.inside) c.args.nonce.now c.args.keys.now c.as_str-2.result.now s0 s1 c.if-self.false c.as_str-2.ensures c.replace.ensures.replaces c.replace.ensures.stands)
