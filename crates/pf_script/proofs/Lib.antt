@@ -56,3 +56,4 @@ pub mod SizeSet
 pub mod SizeTold
 pub mod SizeSeen
 pub mod SizeLine
+pub mod ReadLine

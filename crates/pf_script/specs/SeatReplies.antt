@@ -1,5 +1,7 @@
 -- The replies to the answers of a session's calls, and the steps of a change of size.
-use Rattle.std.specs.Prelude.{⊤, ◌≡◌, ℕ, ◌+◌, ◌<◌, ◌≤◌, Bool, false, Result, Ok, Err}
+use Rattle.std.specs.Prelude.{⊤, ◌≡◌, ℕ, ◌+◌, ◌<◌, ◌≤◌, Bool, false, List, Result, Ok, Err}
+use Rattle.node_tree.specs.declared.fault.TreeFault.{TreeFault}
+use Rattle.node_tree.specs.declared.fault.TreeFault.TheVariants as trees
 use Rattle.pf_io.specs.Disk.{Name}
 use Rattle.pf_io.specs.Host.{HostState, ReadsAsImage}
 use Rattle.pf_io.specs.Words.{WordsState}
@@ -44,6 +46,12 @@ open_reply name (opens.Damaged damage) = Ok (replies.DamagedNode damage)
 open_reply name opens.Unbuilt = refused whys.Unbuilt
 open_reply name (opens.BadVersion major minor) = refused (whys.BadVersion major minor)
 open_reply name (opens.WrongPath stored) = refused (whys.WrongPath stored)
+
+abbrev pub read_reply : List ℕ → Result ℕ TreeFault → Result Reply Memory
+read_reply bytes (Ok n) = Ok (replies.Given bytes)
+read_reply bytes (Err (trees.Damaged damage)) = Ok (replies.DamagedNode damage)
+read_reply bytes (Err trees.Host) = Ok replies.HostFault
+read_reply bytes (Err trees.Memory) = Err (record {})
 
 abbrev pub flush_reply : FlushFault → Reply
 flush_reply flushes.Words = replies.WordsFault

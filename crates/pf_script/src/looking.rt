@@ -3,6 +3,7 @@ ghost use Rattle.std.specs.Prelude.{◌≡◌, ◌-◌, ◌≤◌, ℕ, List, So
 ghost use Rattle.pf_io.specs.Words.{WordsState};
 ghost use Rattle.pf_script.specs.Desk.{IsSeatOf, IsSeated};
 ghost use Rattle.pf_script.specs.DeskSteps.{SeatGoes};
+ghost use Rattle.pf_script.specs.SeatReplies.{read_reply as reply_of_read};
 ghost use Rattle.pf_script.specs.declared.line.ScriptLine.TheVariants as lines;
 
 use crate::{Reply, Why};
@@ -25,6 +26,18 @@ fn reach(size: u64, at: u64, count: u64) -> u64
     }
 }
 
+// The reply to a read into these bytes.
+fn read_reply(read: Result<usize, TreeFault>, bytes: Bytes) -> Result<Reply, Memory>
+    ensures { result ≡ reply_of_read bytes read }
+{
+    match read {
+        Ok(_) => Ok(Reply::Given { bytes }),
+        Err(TreeFault::Damaged(damage)) => Ok(Reply::DamagedNode { damage }),
+        Err(TreeFault::Host) => Ok(Reply::HostFault),
+        Err(TreeFault::Memory) => Err(Memory),
+    }
+}
+
 fn read_content<H: Host>(
     alloc: Global,
     host: &mut H,
@@ -38,12 +51,8 @@ fn read_content<H: Host>(
 {
     let count = reach(session.size(), at, count);
     let mut bytes = Bytes::zeroed(alloc, count as usize)?;
-    match session.read(host, at, bytes.as_mut_slice()) {
-        Ok(_) => Ok(Reply::Given { bytes }),
-        Err(TreeFault::Damaged(damage)) => Ok(Reply::DamagedNode { damage }),
-        Err(TreeFault::Host) => Ok(Reply::HostFault),
-        Err(TreeFault::Memory) => Err(Memory),
-    }
+    let read = session.read(host, at, bytes.as_mut_slice());
+    read_reply(read, bytes)
 }
 
 /// The line `read`.
