@@ -57,7 +57,7 @@ create_result name (Ok session) = Ok replies.Created
 create_result name (Err fault) = create_reply name fault
 
 -- the rules of a new name, and that an absent one is not refused
-abbrev naming_rules : Name → List Answer → List Rule
+abbrev pub naming_rules : Name → List Answer → List Rule
 naming_rules name given = refuses whys.BadName (¬ (IsTarget name)) ∷ refuses (whys.Exists name) ((size : ℕ) × Contains given (LengthWas name (Some size))) ∷ []
 
 was_absent : (name : Name) (node : List ℕ) (size : ℕ) → Contains (LengthWas name None ∷ place_steps name node) (LengthWas name (Some size)) → ⊥

@@ -1,6 +1,7 @@
 -- A line that puts a file on an empty seat.
 use Rattle.std.proofs.Common.{◌≡◌, ◌≢◌, ⊎_elim, inl, inr, Bool, true, false, List, [], ◌∷◌, ◌++◌, ℕ, refl, sym, ◌∙◌, ap, subst, Option, Some, None, Result, Ok, Err, arith}
 use Rattle.std.specs.Prelude.{Contains}
+use Rattle.std.specs.Option.{is_some}
 use Rattle.std.proofs.lemmas.List.Elements.{Contains-push_cases, Contains-append_cases}
 use Rattle.node_tree.specs.Sheet.{Sheet}
 use Rattle.pf_io.specs.Disk.{Name, IsImage, reading}
@@ -9,7 +10,7 @@ use Rattle.pf_io.specs.Moments.{Honest}
 use Rattle.pf_io.specs.Unchanged.{KeepsDisk}
 use Rattle.pf_io.specs.Words.{WordsState}
 use Rattle.pf_io.specs.declared.faults.Memory.{Memory}
-use Rattle.pf_io.proofs.Telling.{told_by, both_weaker}
+use Rattle.pf_io.proofs.Telling.{told_by, both_same, both_weaker}
 use Rattle.pf_session.specs.State.{SessionState}
 use Rattle.pf_script.specs.Book.{Book, Seal, Agrees}
 use Rattle.pf_script.specs.BookActs.{Act}
@@ -25,14 +26,14 @@ use Rattle.pf_script.specs.declared.line.ScriptLine.{ScriptLine}
 use Rattle.pf_script.specs.declared.reply.Reply.{Reply}
 use Rattle.pf_script.specs.declared.reply.Why.{Why}
 use Rattle.pf_script.specs.declared.reply.Why.TheVariants as whys
-use Rattle.pf_script.proofs.ActKeeping.{only_reads}
+use Rattle.pf_script.proofs.ActKeeping.{only_reads, unchanged_now}
 use Rattle.pf_script.proofs.FlushUnder.{seen_in}
 use Rattle.pf_script.proofs.Flushed.{SeenOf}
-use Rattle.pf_script.proofs.Refusing.{at_last}
+use Rattle.pf_script.proofs.Refusing.{at_last, not_empty}
 use Rattle.pf_script.proofs.SeatCalls.{seen_by}
-use Rattle.pf_script.proofs.Showing.{shows_none}
+use Rattle.pf_script.proofs.Showing.{shows_none, shows_some}
 use Rattle.pf_script.proofs.StepKeeping.{keeps_more}
-use Rattle.pf_script.proofs.Under.{looks_like}
+use Rattle.pf_script.proofs.Under.{LooksLike, looks_like}
 
 -- the rules of a new file on a free seat, where no other seat has the name
 pub seat_first : (rest : List Rule) (why : Why) → IsFirst rest why → IsFirst (seating_rules false Empty ++ rest) why
@@ -55,6 +56,40 @@ made_seat (Err fault) = None
 pub record BothHalves (key : List ℕ) (line : ScriptLine) (result : Result Reply Memory) (new : Option SessionState) (before after : HostState) (random random' : WordsState) : Type 0 where
   pub goes : SeatGoes key false line result None new before after random random'
   pub booked : SeatBooked key false line result None new before after random random'
+
+-- a seat that is not free, and a name that another seat has
+pub busy_first : (rest : List Rule) (taken : Bool) (seat : Seat) → seat ≢ Empty → IsFirst (seating_rules taken seat ++ rest) whys.SeatBusy
+busy_first rest taken seat busy = inl (refl, busy)
+
+pub taken_first : (rest : List Rule) (taken : Bool) (seat : Seat) → seat ≡ Empty → taken ≡ true → IsFirst (seating_rules taken seat ++ rest) whys.NameBusy
+taken_first rest taken seat is of_another = inr ((λ why refuses. refuses.1 is), inl (refl, of_another))
+
+pub looks_busy : (o : Option SessionState) → o ≢ None → (seat : Seat) → LooksLike o seat → seat ≢ Empty
+looks_busy None some seat looks is = some refl
+looks_busy (Some s) some seat looks is = not_empty seat looks.shown looks.seat_is is
+
+pub shows_busy : (sealed : List Sheet) (o : Option SessionState) → o ≢ None → (seat : Seat) → Shows sealed seat o → seat ≢ Empty
+shows_busy sealed None some seat shows is = some refl
+shows_busy sealed (Some s) some seat shows is = let shown = shows_some sealed seat s shows in not_empty seat shown.shown shown.seat_is is
+
+-- what a test of the seat says
+pub some_there : (o : Option SessionState) → is_some o ≡ true → o ≢ None
+some_there o is none = let e : false ≡ true = sym (ap (λ (x : Option SessionState). is_some x) none) ∙ is in absurd (cc)
+
+pub none_there : (o : Option SessionState) → is_some o ≡ false → o ≡ None
+none_there None is = refl
+none_there (Some s) is = absurd (cc)
+
+-- on a seat that was found to be free
+pub goes_at : (key : List ℕ) (taken : Bool) (line : ScriptLine) (result : Result Reply Memory) (old new : Option SessionState) (before after : HostState) (random random' : WordsState) → old ≡ None → taken ≡ false
+    → SeatGoes key false line result None new before after random random' → SeatGoes key taken line result old new before after random random'
+goes_at key taken line result old new before after random random' none free goes =
+    subst (λ (o : Option SessionState). SeatGoes key taken line result o new before after random random') (sym none) (subst (λ (b : Bool). SeatGoes key b line result None new before after random random') (sym free) goes)
+
+pub booked_at : (key : List ℕ) (taken : Bool) (line : ScriptLine) (result : Result Reply Memory) (old new : Option SessionState) (before after : HostState) (random random' : WordsState) → old ≡ None → taken ≡ false
+    → SeatBooked key false line result None new before after random random' → SeatBooked key taken line result old new before after random random'
+booked_at key taken line result old new before after random random' none free booked =
+    subst (λ (o : Option SessionState). SeatBooked key taken line result o new before after random random') (sym none) (subst (λ (b : Bool). SeatBooked key b line result None new before after random random') (sym free) booked)
 
 module _ (key : List ℕ) (line : ScriptLine) (name : Name) (names : name_of_line line ≡ Some name) where
   -- the name that the line gives is concerned
@@ -88,6 +123,13 @@ module _ (key : List ℕ) (line : ScriptLine) (name : Name) (names : name_of_lin
       seated = seated;
       named = λ n has. concerns n (named n has);
     }
+
+  -- want of memory before anything was asked
+  pub empty_unasked : (state : HostState) (random : WordsState) → ¬ (TakesNone line) → SeatGoes key false line (Err (record {})) None None state state random random
+  empty_unasked state random takes =
+      empty_wants None state state random random
+      (both_same (KeepsUnder CoversNone CoversNone (λ n. n ≡ name)) state.honest state.honest refl (λ a. only_reads CoversNone a a (λ n. n ≡ name) (unchanged_now a))) tt (λ n none. absurd none) takes refl
+      (both_same Unchanged state.honest state.honest refl (λ a. unchanged_now a)) refl refl
 
   -- under a book the seat is empty
   pub empty_under : (seen : Seen) (reply : Reply) (new : Option SessionState) (a b : Honest) → ((book : Book) (seats : List Seal) → Agrees book seats a.now → IsImage a.now (reading a.now) → LineUnder key false line seen reply None new book seats Empty a b)

@@ -109,9 +109,10 @@ pub(crate) fn view_file(seat: &Option<Session>) -> Reply
     ensures goes { (key : List ℕ) (k : ℕ) (path : List ℕ) (host : HostState) (words : WordsState) → IsSeatOf key seat.now → SeatGoes key false (lines.View k path) (Ok result) seat.now seat.now host host words words }
     ensures booked { (key : List ℕ) (k : ℕ) (path : List ℕ) (host : HostState) (words : WordsState) → IsSeatOf key seat.now → SeatBooked key false (lines.View k path) (Ok result) seat.now seat.now host host words words }
 {
-    let why = match seat {
-        Some(_) => Why::SeatBusy,
-        None => Why::NoManifest,
-    };
-    Reply::Refused { why }
+    if seat.is_some() {
+        return Reply::Refused { why: Why::SeatBusy };
+    }
+    Reply::Refused {
+        why: Why::NoManifest,
+    }
 }
