@@ -8,7 +8,7 @@ const BEFORE: u8 = 9;
 /// The answer to words that name no call.
 pub const NO_CALL: &str = "no call";
 
-// Reads `count` bytes, and answers with the digits of the buffer.
+// Reads into `count` bytes, and answers with their digits where the read did not fail.
 fn read<H: Host>(
     alloc: Global,
     host: &mut H,
@@ -18,6 +18,9 @@ fn read<H: Host>(
 ) -> Result<String, AllocError> {
     let mut buffer = vec![in alloc; BEFORE; count as usize]?;
     let outcome = host.read_at(name, at, &mut buffer);
+    if outcome.is_err() {
+        return format!(in alloc; "{outcome:?}");
+    }
     let digits = hex::encode(alloc, &buffer)?;
     format!(in alloc; "{outcome:?} {}", digits.as_str())
 }

@@ -3,8 +3,8 @@
 //! There are four hosts, 0 to 3, each with its own locks and open files. `HOST drop` ends one and begins it anew. Any
 //! other line is the number of a host and a call: `len NAME`, `read NAME AT COUNT`, `write NAME AT TEXT`, `cut NAME LEN`,
 //! `sync NAME`, `make NAME`, `swap FROM TO` or `remove NAME`, with one blank between words. An answer is printed as
-//! `{:?}` prints it, that of `read` with the digits of its buffer, which has bytes 9 before. Where the line is none of
-//! these the answer is `no call`. `tests/test_calls.py` writes such lines.
+//! `{:?}` prints it, and behind that of a `read` stand the digits of its buffer, which has bytes 9 before. Where the line is
+//! none of these the answer is `no call`. `tests/test_calls.py` writes such lines.
 #![tactic(auto)]
 
 mod calls;
