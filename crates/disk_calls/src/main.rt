@@ -19,26 +19,25 @@ const HOSTS: usize = 4;
 
 type RealHost = DiskHost<HostRuntime>;
 
-// The number of a host, which is less than `count`.
-fn host_number(word: &str, count: usize) -> Option<usize> {
-    let number = read_number(word.as_bytes())? as usize;
-    (number < count).then_some(number)
+// The host that a word names.
+fn host_of<'a>(hosts: &'a mut [RealHost], word: &str) -> Option<&'a mut RealHost> {
+    hosts.get_mut(read_number(word.as_bytes())? as usize)
 }
 
 // Does what a line says, and answers the line that is printed.
 fn answer_line(rt: &HostRuntime, hosts: &mut [RealHost], line: &str) -> io::Result<String> {
     let words: Vec<&str> = line.split(' ').collect(rt.alloc())?;
-    let (Some(word), Some(call)) = (words.get(0), words.get(1..)) else {
+    let [number, call @ ..] = words.as_slice() else {
         return Ok(String::from_str(rt.alloc(), NO_CALL)?);
     };
-    let Some(number) = host_number(word, hosts.len()) else {
+    let Some(host) = host_of(hosts, number) else {
         return Ok(String::from_str(rt.alloc(), NO_CALL)?);
     };
     if call == ["drop"].as_slice() {
-        hosts[number] = DiskHost::new(rt.clone()?);
+        *host = DiskHost::new(rt.clone()?);
         return Ok(String::from_str(rt.alloc(), "Ok(())")?);
     }
-    Ok(answer(rt.alloc(), &mut hosts[number], call)?)
+    Ok(answer(rt.alloc(), host, call)?)
 }
 
 fn main(rt: HostRuntime) -> io::Result<()> {
