@@ -1,0 +1,47 @@
+-- The names that a call of a session leaves alone.
+use Rattle.std.specs.Prelude.{◌≡◌, ◌≢◌}
+use Rattle.pf_io.specs.Disk.{Name, Disk, Image, IsImageAt}
+use Rattle.pf_io.specs.Host.{HostState, OnDisk}
+use Rattle.pf_io.specs.Moments.{Ran}
+use Rattle.pf_io.specs.Names.{recovery_of, side_of, side_recovery_of}
+use Rattle.pf_io.specs.Steps.{KeepsOthers}
+
+-- another name than the name, its recovery file, its side file and the side file's recovery file
+pub record Apart (name other : Name) : Type 0 where
+  pub here : other ≢ name
+  pub recovery : other ≢ recovery_of name
+  pub side : other ≢ side_of name
+  pub side_recovery : other ≢ side_recovery_of name
+
+abbrev pub LeavesApart : Name → Disk → Image → Type 0
+LeavesApart name disk image = (other : Name) → Apart name other → IsImageAt (disk other) (image other)
+
+abbrev pub KeepsApart : Name → Disk → Disk → Type 0
+KeepsApart name old new = (other : Name) → Apart name other → new other ≡ old other
+
+-- Whatever stands at these names, every other name is as before at every moment and in the end.
+abbrev pub Aside : Name → HostState → HostState → Type 0
+Aside name before after = OnDisk before after (Ran (LeavesApart name) (KeepsApart name))
+
+-- every other name is as before in an image
+abbrev pub LeavesOthers : Name → Disk → Image → Type 0
+LeavesOthers name disk image = (other : Name) → other ≢ name → IsImageAt (disk other) (image other)
+
+-- one name alone was changed
+abbrev pub ChangesAlone : Name → HostState → HostState → Type 0
+ChangesAlone name before after = OnDisk before after (Ran (LeavesOthers name) (KeepsOthers name))
+
+-- two names alone were
+abbrev pub LeavesAllBut : Name → Name → Disk → Image → Type 0
+LeavesAllBut name second disk image = (other : Name) → other ≢ name → other ≢ second → IsImageAt (disk other) (image other)
+
+abbrev pub KeepsAllBut : Name → Name → Disk → Disk → Type 0
+KeepsAllBut name second old new = (other : Name) → other ≢ name → other ≢ second → new other ≡ old other
+
+abbrev pub ChangesTwo : Name → Name → HostState → HostState → Type 0
+ChangesTwo name second before after = OnDisk before after (Ran (LeavesAllBut name second) (KeepsAllBut name second))
+
+-- a name and its recovery file are as before in an image
+pub record LeavesNamed (name : Name) (disk : Disk) (image : Image) : Type 0 where
+  pub here : IsImageAt (disk name) (image name)
+  pub recovery : IsImageAt (disk (recovery_of name)) (image (recovery_of name))
