@@ -51,7 +51,7 @@ def reading(content, left=0):
 def driver(*before):
     """A running disk_calls, which ends well at the end of its input. Words `before` run it, as those of strace."""
     if not os.access(CALLS, os.X_OK):
-        raise Skip(f"{CALLS} is not built")
+        raise AssertionError(f"no built program stands at {CALLS}: run rt ci first")
     with subprocess.Popen([*before, CALLS], stdin=subprocess.PIPE, stdout=subprocess.PIPE) as program:
         yield Driver(program)
         program.stdin.close()
