@@ -76,7 +76,7 @@ aside_stopped name node old mid new keeps ran =
     ran_weaker (PlaceImage name node) (LeavesApart name) (PlaceTried name node) (KeepsApart name) old.honest new.honest (λ d image has. has.apart) (λ d e tried. tried.apart)
     (kept_before (PlaceImage name node) (PlaceTried name node) old.honest mid.honest new.honest (image_is name node) keeps ran)
 
-absent_file : (o : Option File) → read_of o ≡ None → o ≡ None
+pub absent_file : (o : Option File) → read_of o ≡ None → o ≡ None
 absent_file None none = refl
 absent_file (Some file) none = absurd (cc)
 

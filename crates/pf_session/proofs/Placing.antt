@@ -73,7 +73,7 @@ both_join S P Q None None does ran = tt
 both_join S P Q (Some a) None does ran = absurd does
 both_join S P Q None (Some b) does ran = absurd does
 
-settled_follow : (T E : Type 0) (x : T) (o p : Option File) → Follows (Syncs {T = T} {E = E} (Ok x)) o p → IsSettledAt p
+pub settled_follow : (T E : Type 0) (x : T) (o p : Option File) → Follows (Syncs {T = T} {E = E} (Ok x)) o p → IsSettledAt p
 settled_follow T E x (Some f) (Some g) sync = sync.settled
 settled_follow T E x None None sync = tt
 settled_follow T E x (Some f) None sync = absurd sync

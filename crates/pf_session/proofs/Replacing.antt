@@ -26,7 +26,7 @@ stood_reads key name sheet d stood = subst (λ (o : Option (List ℕ)). Stands (
 pub new_left : (key : List ℕ) (name : Name) (next : Sheet) (file : File) (e : Disk) (image : Image) → e name ≡ Some file → IsSettledFile file → Stands file.bytes key next → IsImageAt (e name) (image name) → LeftAs key name next image
 new_left key name next file e image there settled stands is = record { file = file.bytes; whole = settled_at file (e name) (image name) there settled is; stands = stands }
 
-settled_there : (file : File) (o : Option File) → o ≡ Some file → IsSettledFile file → IsSettledAt o
+pub settled_there : (file : File) (o : Option File) → o ≡ Some file → IsSettledFile file → IsSettledAt o
 settled_there file o there settled = subst (λ (p : Option File). IsSettledAt p) (sym there) settled
 
 pub new_stood : (key : List ℕ) (name : Name) (next : Sheet) (file : File) (d e : Disk) → IsSettledAt (d (recovery_of name)) → e (recovery_of name) ≡ d (recovery_of name) → e name ≡ Some file → IsSettledFile file → Stands file.bytes key next → Stood key name next e

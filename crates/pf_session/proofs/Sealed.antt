@@ -132,13 +132,13 @@ module _ (block file : List ℕ) (long : length block ≡ 4096) where
   reached : reach 0 (length block) ≡ 4096
   reached = ap (reach 0) long
 
-  new_length : length (overwrite 0 block file) ≡ max (length file) 4096
+  pub new_length : length (overwrite 0 block file) ≡ max (length file) 4096
   new_length = omega (arith, overwrite-length 0 block file, reached)
 
-  node_0_there : (i : ℕ) → i < 4096 → slice_get (overwrite 0 block file) i ≡ slice_get block i
+  pub node_0_there : (i : ℕ) → i < 4096 → slice_get (overwrite 0 block file) i ≡ slice_get block i
   node_0_there i lt = sym (get_take 4096 (overwrite 0 block file) i lt) ∙ ap (λ (l : List ℕ). slice_get l i) (written 0 block file long)
 
-  behind_it : (i : ℕ) → 4096 ≤ i → slice_get (overwrite 0 block file) i ≡ slice_get file i
+  pub behind_it : (i : ℕ) → 4096 ≤ i → slice_get (overwrite 0 block file) i ≡ slice_get file i
   behind_it i le = overwrite-back 0 block file i (omega (arith, long))
 
   block_still : (k : ℕ) → 1 ≤ k → block_of (overwrite 0 block file) k ≡ block_of file k

@@ -32,7 +32,7 @@ use Rattle.pf_session.proofs.Standing.{length-image, stands_next}
 
 -- the nodes of a sheet that a tree on it has not changed are in its file
 module _ (key : List ℕ) (sheet : Sheet) (tree : TreeState) (file : List ℕ) (key_length : length key ≡ 16) (backs : Backs sheet tree) (stands : Stands file key sheet) where
-  clean_whole : (k : ℕ) → Contains (clean_below tree.dirty (node_count tree.size)) k → 4096 * k + 4096 ≤ length file
+  pub clean_whole : (k : ℕ) → Contains (clean_below tree.dirty (node_count tree.size)) k → 4096 * k + 4096 ≤ length file
   clean_whole k among =
       let m = clean_member tree.dirty 1 (node_count tree.size - 1) k among in
       let low = m.0 in

@@ -36,24 +36,25 @@ fn expect_byte(rt: &impl Abort, alloc: Global, host: &mut MemHost, byte: u8) {
     assert_eq!(rt; to, [byte, 1]);
 }
 
-// The flush makes eight calls. A crash after fewer leaves the last version, and after all of them the next one.
+// Behind the four calls of the change the flush makes eight. A crash after fewer leaves the last version, and after all of
+// them the next one.
 fn stop_flush(rt: &impl Abort, alloc: Global, calls: u64, tear: Tear) -> Result<(), Fail> {
     let mut host = sealed_host(rt, alloc)?;
     let mut random = words_of(alloc, 4)?;
     let mut session = changed(rt, alloc, &mut host, &mut random);
-    host.stop_at(4 + calls);
+    host.stop_at(calls);
     assert!(rt; !session.broken());
     let flushed = session.flush(&mut host, &mut random);
-    assert_eq!(rt; flushed.is_ok(), calls == 8, "{calls} calls");
-    assert_eq!(rt; session.broken(), calls < 8, "{calls} calls");
+    assert_eq!(rt; flushed.is_ok(), calls == 12, "{calls} calls");
+    assert_eq!(rt; session.broken(), calls < 12, "{calls} calls");
     let mut left = host.after_crash(tear)?;
-    expect_byte(rt, alloc, &mut left, if calls == 8 { 2 } else { 1 });
+    expect_byte(rt, alloc, &mut left, if calls == 12 { 2 } else { 1 });
     Ok(())
 }
 
 #[test]
 fn a_crash_leaves_the_last_version_or_the_next_one(rt: HostRuntime) -> Result<(), Fail> {
-    for calls in 0..9 {
+    for calls in 4..13 {
         for tear in EACH_TEAR {
             stop_flush(&rt, rt.alloc(), calls, tear)?;
         }

@@ -19,6 +19,9 @@ mod flushing;
 #[cfg(test)]
 mod flushing_tests;
 mod laws;
+mod moving;
+#[cfg(test)]
+mod moving_tests;
 mod node_zero;
 mod open_fault;
 mod opening;
@@ -28,7 +31,7 @@ mod reading;
 mod sealing;
 mod session;
 
-pub use fault::{BesideFault, CreateFault, FlushFault, SizeFault, WriteFault, Written};
+pub use fault::{BesideFault, CreateFault, FlushFault, MoveFault, SizeFault, WriteFault, Written};
 pub use laws::openings_are_decided;
 pub use open_fault::OpenFault;
 pub use session::Session;

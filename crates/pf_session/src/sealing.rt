@@ -25,7 +25,8 @@ pub(crate) fn make_node(
     nonce: &[u8; 32],
     tree: &Tree,
 ) -> [u8; 4096]
-    ensures { result ≡ node_of key.now path.now nonce.now tree.now }
+    ensures same { result ≡ node_of key.now path.now nonce.now tree.now }
+    ensures first { length tree.now.first ≡ 3072 }
 {
     let secret = tree.meta(path);
     let mut node = [0; 4096];
