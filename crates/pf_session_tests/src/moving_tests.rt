@@ -192,6 +192,21 @@ fn a_short_node_breaks_the_session_and_leaves_the_old_name(rt: HostRuntime) -> R
     Ok(())
 }
 
+#[test]
+fn nothing_stays_pending_at_the_new_recovery_name(rt: HostRuntime) -> Result<(), Fail> {
+    let alloc = rt.alloc();
+    let mut host = MemHost::new(alloc);
+    let mut random = words_of(alloc, 8)?;
+    let mut session = sealed_file(&rt, alloc, &mut host, &mut random);
+    assert_eq!(rt; host.make("b.pf.recovery"), Ok(()));
+    assert_eq!(rt; host.write_at("b.pf.recovery", 0, b"pending"), Ok(()));
+    let moved = move_to(&rt, alloc, &mut session, &mut host, &mut random, "b.pf");
+    assert_eq!(rt; moved, Ok(()));
+    let left = host.after_crash(Tear::Lost)?;
+    assert_eq!(rt; left.bytes("b.pf.recovery"), Some(&b"pending"[..]));
+    Ok(())
+}
+
 // A move makes so many calls where the session was flushed before it, and more where it was not.
 const CALLS: u64 = 11;
 
