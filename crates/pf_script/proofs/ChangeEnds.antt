@@ -79,13 +79,13 @@ module _ (key : List ℕ) (sealed : List Sheet) (own : OwnSeat) (line : ScriptLi
     once (Ok ok) go facts state =
         seen_until sheets base old.name before_it these was.among split
         (λ of_base.
-        let out = facts base was.backed of_base in
+        let out = facts base was.kept.backed of_base in
         go.went false refl sheets base refl
         (subst (λ (w : List (List ℕ)). Made sealed own new (made ++ step ∷ []) w sheets base) (sym words_are)
-        (made_more key sealed own line given old made words sheets base was step new (ap (λ (s : SessionState). s.key) state) (ap (λ (s : SessionState). s.name) state) (ap (λ (s : SessionState). s.broken) state ∙ was.whole)
+        (made_more key sealed own line given old made words sheets base was step new (ap (λ (s : SessionState). s.changed) state) (ap (λ (s : SessionState). s.key) state) (ap (λ (s : SessionState). s.name) state) (ap (λ (s : SessionState). s.broken) state ∙ was.whole)
             (fits_at base old step roomy) out.0 out.1)))
     once (Err (trees.Damaged damage)) go facts state =
-        once_failed (ByDamage damage) go (facts base was.backed) (ap (λ (s : SessionState). s.key) state) (ap (λ (s : SessionState). s.name) state) (ap (λ (s : SessionState). s.broken) state)
+        once_failed (ByDamage damage) go (facts base was.kept.backed) (ap (λ (s : SessionState). s.key) state) (ap (λ (s : SessionState). s.name) state) (ap (λ (s : SessionState). s.broken) state)
     once (Err trees.Host) go facts state = once_failed ByHost go (λ of_base. tt) (ap (λ (s : SessionState). s.key) state) (ap (λ (s : SessionState). s.name) state) (ap (λ (s : SessionState). s.broken) state)
     once (Err trees.Memory) go facts state = absurd (go.memory refl)
 
@@ -93,7 +93,7 @@ module _ (key : List ℕ) (sealed : List Sheet) (own : OwnSeat) (line : ScriptLi
   module _ (first : IsFlushedFirst step old.tree) (mid : SessionState) (front those : List Answer) (parts : these ≡ front ++ those) (seals : SealsOwn old more (λ next. StandsOn next mid)) {nonce : List ℕ} {tree : TreeState}
       (same : mid ≡ record old { nonce = nonce; drawn = None; tree = tree; changed = false }) (dirty : mid.tree.dirty ≡ []) where
     abbrev next : Sheet
-    next = (seals base was.linked was.backed).0
+    next = (seals base was.linked was.kept.backed).0
 
     own_name : mid.name ≡ own.name
     own_name = ap (λ (s : SessionState). s.name) same ∙ was.name_is
@@ -110,7 +110,7 @@ module _ (key : List ℕ) (sealed : List Sheet) (own : OwnSeat) (line : ScriptLi
         in_the_end (flushes own (sheets ++ next ∷ []))
         (λ unforged. go.broke blame refl (flushes own (sheets ++ next ∷ []))
             (fetch_failed_after key sealed own line given old made words sheets base was step steps asks new (key_is ∙ ap (λ (s : SessionState). s.key) same) (name_is ∙ ap (λ (s : SessionState). s.name) same) blame more next
-                (flushes_first base old step first) (seals base was.linked was.backed).1
+                (flushes_first base old step first) (seals base was.linked was.kept.backed).1
                 (fetch_blames next mid.name (before_it ++ front) those blame own_name (split_at front those parts)
                     (blames (gives key sealed own line given (sheets ++ next ∷ []) next mid.name (before_it ++ front) those rest next_among (split_at front those parts) unforged))) broken))
 
@@ -119,14 +119,14 @@ module _ (key : List ℕ) (sealed : List Sheet) (own : OwnSeat) (line : ScriptLi
         flushed_then
         (seen_until (sheets ++ next ∷ []) next mid.name (before_it ++ front) those next_among (split_at front those parts)
         (λ of_next.
-        let sealed_next = seals base was.linked was.backed in
+        let sealed_next = seals base was.linked was.kept.backed in
         let out = facts next sealed_next.2.backed of_next in
         go.went true refl (sheets ++ next ∷ []) next (next, refl)
         (made_after key sealed own line given old made words sheets base was step mid new more next (flushes_first base old step first) sealed_next.1 sealed_next.2 same dirty
-            (ap (λ (s : SessionState). s.key) state) (ap (λ (s : SessionState). s.name) state) (ap (λ (s : SessionState). s.broken) state ∙ ap (λ (s : SessionState). s.broken) same ∙ was.whole) out.0 out.1)))
+            (ap (λ (s : SessionState). s.changed) state) (ap (λ (s : SessionState). s.key) state) (ap (λ (s : SessionState). s.name) state) (ap (λ (s : SessionState). s.broken) state ∙ ap (λ (s : SessionState). s.broken) same ∙ was.whole) out.0 out.1)))
     after (Err (trees.Damaged damage)) go facts state =
         flushed_then
-        (after_failed (ByDamage damage) go (facts next (seals base was.linked was.backed).2.backed) (ap (λ (s : SessionState). s.key) state) (ap (λ (s : SessionState). s.name) state) (ap (λ (s : SessionState). s.broken) state))
+        (after_failed (ByDamage damage) go (facts next (seals base was.linked was.kept.backed).2.backed) (ap (λ (s : SessionState). s.key) state) (ap (λ (s : SessionState). s.name) state) (ap (λ (s : SessionState). s.broken) state))
     after (Err trees.Host) go facts state =
         flushed_then (after_failed ByHost go (λ of_next. tt) (ap (λ (s : SessionState). s.key) state) (ap (λ (s : SessionState). s.name) state) (ap (λ (s : SessionState). s.broken) state))
     after (Err trees.Memory) go facts state = absurd (go.memory refl)
@@ -135,7 +135,7 @@ module _ (key : List ℕ) (sealed : List Sheet) (own : OwnSeat) (line : ScriptLi
   unflushed : (blame : Blame) → Continues (Broke blame) → IsFlushedFirst step old.tree → BlamesFlush old.name these blame → SealsOwn old more (λ next. Unit {0}) → new.key ≡ old.key → new.name ≡ old.name → new.broken ≡ true
       → Unfolds key sealed P given (flushes own sheets)
   unflushed blame go first blames seals key_is name_is broken =
-      let next = seals base was.linked was.backed in
+      let next = seals base was.linked was.kept.backed in
       let acts : List Act = record { deed = Flush (seat_of own.key own.name next.0); done = false } ∷ [] in
       then_more (flushes own sheets) acts [] given refl
       (λ unforged. in_the_end (flushes own sheets ++ acts)

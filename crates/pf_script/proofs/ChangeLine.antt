@@ -9,7 +9,7 @@ use Rattle.pf_io.specs.Host.{Answer, HostState, OnDisk}
 use Rattle.pf_io.specs.Words.{WordsState}
 use Rattle.pf_io.specs.declared.faults.Memory.{Memory}
 use Rattle.pf_io.proofs.Telling.{told_weaker}
-use Rattle.pf_session.specs.Backing.{IsBacked}
+use Rattle.pf_session.specs.Moving.{IsKeptOn}
 use Rattle.pf_session.specs.Changing.{ChangeGoes, refused, unchanged, changed, not_flushed, flushed_and_changed, StepState}
 use Rattle.pf_session.specs.State.{SessionState}
 use Rattle.pf_session.specs.declared.fault.FlushFault.{FlushFault}
@@ -96,12 +96,12 @@ module _ (key : List ℕ) (old : SessionState) (seated : IsSeated key old) (whol
       )
 
 -- the first step of a line
-pub none_made : (sealed : List Sheet) (base : Sheet) (old : SessionState) → Contains sealed base → IsLinked base → IsBacked base old → old.broken ≡ false → Made sealed (seat_on base old) old [] [] [] base
-none_made sealed base old among linked backed whole = record {
+pub none_made : (sealed : List Sheet) (base : Sheet) (old : SessionState) → Contains sealed base → IsLinked base → IsKeptOn base old → old.broken ≡ false → Made sealed (seat_on base old) old [] [] [] base
+none_made sealed base old among linked kept whole = record {
   makes = none_left (seat_on base old);
   among = subst (λ (l : List Sheet). Contains l base) (sym (append-nil sealed)) among;
   linked = linked;
-  backed = backed;
+  kept = kept;
   whole = whole;
   key_is = refl;
   name_is = refl;
@@ -115,9 +115,9 @@ module _ (key : List ℕ) (line : ScriptLine) (old new : SessionState) (whole : 
     split = sym (append-nil given)
 
     went_turns : (flushed : Bool) → ChangeTold step old new given words (Went flushed) → SheetTurns key false line (seen_by given words false false) (replied flushed) old (Some new) given
-    went_turns flushed told sealed base among linked backed =
+    went_turns flushed told sealed base among linked kept =
         let own = seat_on base old in
-        change_ends key sealed own line given [] given [] split (LineEnds key sealed own line given words false false (replied flushed) new) old [] [] [] base (none_made sealed base old among linked backed whole) step [] (asks (length own.content)) new words
+        change_ends key sealed own line given [] given [] split (LineEnds key sealed own line given words false false (replied flushed) new) old [] [] [] base (none_made sealed base old among linked kept whole) step [] (asks (length own.content)) new words
         (Went flushed)
         (record {
           went = λ f is sheets' base' grew made.
@@ -133,10 +133,10 @@ module _ (key : List ℕ) (line : ScriptLine) (old new : SessionState) (whole : 
         same_flag f g is = cc
 
     broke_turns : (blame : Blame) → ChangeTold step old new given words (Broke blame) → SheetTurns key false line (seen_by given words (host_blamed blame) false) (flush_reply (fault_of blame)) old (Some new) given
-    broke_turns blame told sealed base among linked backed =
+    broke_turns blame told sealed base among linked kept =
         let own = seat_on base old in
         change_ends key sealed own line given [] given [] split (LineEnds key sealed own line given words (host_blamed blame) false (flush_reply (fault_of blame)) new) old [] [] [] base
-        (none_made sealed base old among linked backed whole) step [] (asks (length own.content)) new words (Broke blame)
+        (none_made sealed base old among linked kept whole) step [] (asks (length own.content)) new words (Broke blame)
         (record {
           went = λ f is sheets' base' grew made. absurd (cc);
           broke = λ other is acts ends.
@@ -149,9 +149,9 @@ module _ (key : List ℕ) (line : ScriptLine) (old new : SessionState) (whole : 
         same_blame b other is = cc
 
     lacked_turns : ChangeTold step old new given words Lacked → SheetTurns key false line (seen_by given words false true) replies.WordsFault old (Some new) given
-    lacked_turns told sealed base among linked backed =
+    lacked_turns told sealed base among linked kept =
         let own = seat_on base old in
-        change_ends key sealed own line given [] given [] split (LineEnds key sealed own line given words false true replies.WordsFault new) old [] [] [] base (none_made sealed base old among linked backed whole) step [] (asks (length own.content)) new words
+        change_ends key sealed own line given [] given [] split (LineEnds key sealed own line given words false true replies.WordsFault new) old [] [] [] base (none_made sealed base old among linked kept whole) step [] (asks (length own.content)) new words
         Lacked
         (record {
           went = λ f is sheets' base' grew made. absurd (cc);

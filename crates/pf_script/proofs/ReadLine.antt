@@ -22,6 +22,7 @@ use Rattle.pf_io.specs.Words.{WordsState}
 use Rattle.pf_io.specs.declared.faults.Memory.{Memory}
 use Rattle.pf_io.proofs.Telling.{told_weaker}
 use Rattle.pf_session.specs.Backing.{IsBacked}
+use Rattle.pf_session.specs.Moving.{IsKeptOn}
 use Rattle.pf_session.specs.Reading.{KeepsFields, StaysRead, BackedRead, ReadsStanding}
 use Rattle.pf_session.specs.State.{SessionState, file_of}
 use Rattle.pf_script.specs.BookSeats.{Covers, KeepsUnder}
@@ -122,44 +123,52 @@ module _ (key : List ℕ) (k at count : ℕ) (old : SessionState) (seated : IsSe
   }
 
   module _ (few : count ≤ 32768) (given : List Answer) where
+    kept_new : (base : Sheet) → IsKeptOn base old → IsBacked base new → now base new.tree ≡ now base old.tree → IsKeptOn base new
+    kept_new base kept backed same = record {
+      backed = backed;
+      rests = λ unchanged.
+          let was = kept.rests (sym (ap (λ (s : SessionState). s.changed) fields) ∙ unchanged) in
+          record { stands = record { backed = backed; now_is = same ∙ was.stands.now_is }; clean = ap (λ (t : TreeState). t.dirty) reads.rest ∙ was.clean };
+    }
+
     -- on a sheet of those that were sealed
     on_sheet : (r : Result ℕ TreeFault) → ReadFacts r at buffer old new given → (sealed : List Sheet) (base : Sheet) → Contains sealed base → IsBacked base old → Unforged key (sealed ++ []) given
         → StaysRead r base (Given (file_of old) given) at buffer old new × ReadBlames r base old.name given
     on_sheet r facts sealed base among backed unforged =
         facts base backed ((unforged_gives key sealed given (subst (λ (l : List Sheet). Unforged key l given) (append-nil sealed) unforged)).nodes old.name base among)
 
-    shows_new : (sealed : List Sheet) (base : Sheet) → Contains sealed base → IsLinked base → IsBacked base new → now base new.tree ≡ now base old.tree → Shows (sealed ++ []) (Own (seat_on base old)) (Some new)
-    shows_new sealed base among linked backed same = shows_same sealed (Own (seat_on base old)) (Some new) (whole_file base new whole_new among linked backed (ap Own (same_seat base same)) refl)
+    shows_new : (sealed : List Sheet) (base : Sheet) → Contains sealed base → IsLinked base → IsKeptOn base old → IsBacked base new → now base new.tree ≡ now base old.tree → Shows (sealed ++ []) (Own (seat_on base old)) (Some new)
+    shows_new sealed base among linked kept backed same = shows_same sealed (Own (seat_on base old)) (Some new) (whole_file base new whole_new among linked (kept_new base kept backed same) (ap Own (same_seat base same)) refl)
 
     given_turns : (n : ℕ) → n ≡ readable old.tree at (length buffer) → ReadFacts (Ok n) at buffer old new given → SheetTurns key false (lines.Read k at count) (seen_by given [] false false) (replies.Given buffer) old (Some new) given
-    given_turns n counted facts sealed base among linked backed =
+    given_turns n counted facts sealed base among linked kept =
         let own = seat_on base old in
         at_last [] (λ unforged.
-            let out = on_sheet (Ok n) facts sealed base among backed unforged in (
+            let out = on_sheet (Ok n) facts sealed base among kept.backed unforged in (
               Own own,
               subst (λ (b : List ℕ). SeatTurn (on_carried key sealed) key false (Own own) (lines.Read k at count) (seen_by given [] false false) (replies.Given b) [] (Own own)) (sym (slice_is n counted base out.0.slice))
                   (accepted (none_then (refuses whys.TooLong (PIECE < count) ∷ []) (Own own) own refl whole ((λ other long. omega (arith, long.1, few)), tt)) (record { host = refl; random = refl }) (read k at count own refl)),
-              shows_new sealed base among linked out.0.backed out.0.same,
+              shows_new sealed base among linked kept out.0.backed out.0.same,
             ))
 
     damage_turns : (d : Damage) → ReadFacts (Err (trees.Damaged d)) at buffer old new given → SheetTurns key false (lines.Read k at count) (seen_by given [] false false) (replies.DamagedNode d) old (Some new) given
-    damage_turns d facts sealed base among linked backed =
+    damage_turns d facts sealed base among linked kept =
         let own = seat_on base old in
         at_last [] (λ unforged.
-            let out = on_sheet (Err (trees.Damaged d)) facts sealed base among backed unforged in (
+            let out = on_sheet (Err (trees.Damaged d)) facts sealed base among kept.backed unforged in (
               Own own,
               was_damaged d (record { host = refl; random = refl }) (not_read k at count own (ByDamage d) refl out.1) refl,
-              shows_new sealed base among linked out.0.backed out.0.same,
+              shows_new sealed base among linked kept out.0.backed out.0.same,
             ))
 
     host_turns : ReadFacts (Err trees.Host) at buffer old new given → SheetTurns key false (lines.Read k at count) (seen_by given [] true false) replies.HostFault old (Some new) given
-    host_turns facts sealed base among linked backed =
+    host_turns facts sealed base among linked kept =
         let own = seat_on base old in
         at_last [] (λ unforged.
-            let out = on_sheet (Err trees.Host) facts sealed base among backed unforged in (
+            let out = on_sheet (Err trees.Host) facts sealed base among kept.backed unforged in (
               Own own,
               host_failed (record { host = refl; random = refl }) (not_read k at count own ByHost refl tt) refl,
-              shows_new sealed base among linked out.0.backed out.0.same,
+              shows_new sealed base among linked kept out.0.backed out.0.same,
             ))
 
   module _ (words : WordsState) (few : count ≤ 32768) (books : OnDisk before after (KeepsUnder (Covers old) (Covers new) (λ name. name ≡ old.name))) (disk : KeepsDisk before after) where
@@ -202,7 +211,7 @@ pub read_goes : (key : List ℕ) (k at count : ℕ) (old new : SessionState) (re
     → BackedRead result at buffer old new before after → DamageComes result (file_of old) at (length buffer) old.tree before after → ReadsStanding result at buffer old new before → KeepsDisk before after
     → SeatGoes key false (lines.Read k at count) (read_reply buffer result) (Some old) (Some new) before after words words
 read_goes key k at count old new result buffer before after words seated whole few room fields reads cause backed damage standing disk =
-    by_result key k at count old seated whole new fields result buffer room before after reads words few (read_keeps old seated.of_script new result at buffer before after fields standing disk) disk result
+    by_result key k at count old seated whole new fields result buffer room before after reads words few (read_keeps old seated.of_script new result at buffer before after fields (ap (λ (t : TreeState). t.dirty) reads.rest) standing disk) disk result
     (ends_count result (Given (file_of old) reads.these) at buffer old.tree new.tree reads.ends) cause (facts_told key k at count old seated whole new fields result buffer room before after reads result backed damage)
 
 -- a read keeps the length of its buffer

@@ -3,7 +3,7 @@ use Rattle.std.proofs.Common.{◌≡◌, inl, inr, Bool, true, false, List, [], 
 use Rattle.std.proofs.lemmas.List.{append-nil}
 use Rattle.std.specs.Prelude.{Contains}
 use Rattle.node_tree.specs.Sheet.{Sheet, IsLinked}
-use Rattle.pf_session.specs.Backing.{IsBacked}
+use Rattle.pf_session.specs.Moving.{IsKeptOn}
 use Rattle.pf_io.specs.Disk.{Name}
 use Rattle.pf_io.specs.Host.{Answer, HostState, WhereTold, OnDisk}
 use Rattle.pf_io.specs.Words.{WordsState}
@@ -45,7 +45,7 @@ own_same sheet key key' name name' content content' dirty dirty' changed changed
 -- the turns of a whole session, by the sheet that it stands on
 abbrev pub SheetTurns : List ℕ → Bool → ScriptLine → Seen → Reply → SessionState → Option SessionState → List Answer → Type 0
 SheetTurns key taken line seen reply old new given =
-    (sealed : List Sheet) (base : Sheet) → Contains sealed base → IsLinked base → IsBacked base old
+    (sealed : List Sheet) (base : Sheet) → Contains sealed base → IsLinked base → IsKeptOn base old
     → Unfolds key sealed (λ acts. (left : Seat) × SeatTurn (on_carried key sealed) key taken (Own (seat_on base old)) line seen reply acts left × Shows (sealed ++ sheets_of acts) left new) given []
 
 pub whole_turns : (key : List ℕ) (taken : Bool) (line : ScriptLine) (seen : Seen) (reply : Reply) (old : SessionState) (new : Option SessionState) (given : List Answer) → old.broken ≡ false
@@ -53,7 +53,7 @@ pub whole_turns : (key : List ℕ) (taken : Bool) (line : ScriptLine) (seen : Se
 whole_turns key taken line seen reply old new given whole turns sealed seat shows =
     let on = shows_whole sealed seat old whole shows in
     subst (λ (x : Seat). Unfolds key sealed (λ acts. (left : Seat) × SeatTurn (on_carried key sealed) key taken x line seen reply acts left × Shows (sealed ++ sheets_of acts) left new) given []) (sym on.seat_is)
-    (turns sealed on.sheet on.among on.linked on.backed)
+    (turns sealed on.sheet on.among on.linked on.kept)
 
 -- the counts that rose where a flush failed
 pub host_reply : (blame : Blame) → is_host_fault (flush_reply (fault_of blame)) ≡ host_blamed blame

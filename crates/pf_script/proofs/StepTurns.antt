@@ -13,6 +13,7 @@ use Rattle.node_tree.proofs.Giving.{unforged_gives}
 use Rattle.pf_io.specs.Disk.{Name}
 use Rattle.pf_io.specs.Host.{Answer}
 use Rattle.pf_session.specs.Backing.{IsBacked, StandsOn}
+use Rattle.pf_session.specs.Moving.{IsKeptOn}
 use Rattle.pf_session.specs.State.{SessionState}
 use Rattle.pf_script.specs.BookActs.{Flush, Act}
 use Rattle.pf_script.specs.BookDebts.{seat_of}
@@ -28,7 +29,7 @@ use Rattle.pf_script.specs.declared.reply.Reply.{Reply}
 use Rattle.pf_script.specs.declared.reply.Reply.TheVariants as replies
 use Rattle.pf_script.proofs.Flushed.{SealsOwn, host_blamed, fault_of}
 use Rattle.pf_script.proofs.FlushLine.{resealed_own}
-use Rattle.pf_script.proofs.SeatCalls.{seen_by}
+use Rattle.pf_script.proofs.SeatCalls.{seen_by, false_true}
 use Rattle.pf_script.proofs.StepFacts.{StepFacts, given_part}
 
 -- the sheets of flushes
@@ -55,7 +56,7 @@ pub record Made (sealed : List Sheet) (own : OwnSeat) (old : SessionState) (made
   pub makes : MakesAll own made words sheets (seat_on base old)
   pub among : Contains (sealed ++ sheets) base
   pub linked : IsLinked base
-  pub backed : IsBacked base old
+  pub kept : IsKeptOn base old
   pub whole : old.broken ≡ false
   pub key_is : old.key ≡ own.key
   pub name_is : old.name ≡ own.name
@@ -87,7 +88,7 @@ module _ (key : List ℕ) (sealed : List Sheet) (own : OwnSeat) (line : ScriptLi
     all_made asks reply is_reply passes = (
       Own (seat_on base old),
       accepted passes (record { host = refl; random = refl }) (changed own (seat_on base old) line reply made sheets asks was.makes is_reply),
-      whole_file base old was.whole (subst (λ (s : List Sheet). Contains (sealed ++ s) base) (sym (sheets_flushed own sheets)) was.among) was.linked was.backed refl refl,
+      whole_file base old was.whole (subst (λ (s : List Sheet). Contains (sealed ++ s) base) (sym (sheets_flushed own sheets)) was.among) was.linked was.kept refl refl,
     )
 
     module _ (step : Step) (rest : List Step) (asks : AsksFor line (length own.content) (made ++ step ∷ rest)) (new : SessionState) (key_is : new.key ≡ old.key) (name_is : new.name ≡ old.name) where
@@ -112,7 +113,7 @@ module _ (key : List ℕ) (sealed : List Sheet) (own : OwnSeat) (line : ScriptLi
         Own (seat_on base old),
         words_failed (record { host = refl; random = refl }) (no_flush_before own (seat_on base old) line step words lost sheets some first refl) refl,
         subst (λ (s : SessionState). Shows (sealed ++ sheets_of (flushes own sheets)) (Own (seat_on base old)) (Some s)) (sym same)
-            (whole_file base old was.whole (subst (λ (s : List Sheet). Contains (sealed ++ s) base) (sym (sheets_flushed own sheets)) was.among) was.linked was.backed refl refl),
+            (whole_file base old was.whole (subst (λ (s : List Sheet). Contains (sealed ++ s) base) (sym (sheets_flushed own sheets)) was.among) was.linked was.kept refl refl),
       )
 
       -- the flush before failed
@@ -136,15 +137,15 @@ module _ (key : List ℕ) (sealed : List Sheet) (own : OwnSeat) (line : ScriptLi
       )
 
     -- a step was made
-    pub made_more : (step : Step) (new : SessionState) → new.key ≡ old.key → new.name ≡ old.name → new.broken ≡ false → Fits (length (now base old.tree)) old.tree.dirty step → IsBacked base new → IsStepped step (seat_on base old) (seat_on base new)
+    pub made_more : (step : Step) (new : SessionState) → new.changed ≡ true → new.key ≡ old.key → new.name ≡ old.name → new.broken ≡ false → Fits (length (now base old.tree)) old.tree.dirty step → IsBacked base new → IsStepped step (seat_on base old) (seat_on base new)
         → Made sealed own new (made ++ step ∷ []) words sheets base
-    made_more step new key_is name_is whole fits backed stepped = record {
+    made_more step new is_changed key_is name_is whole fits backed stepped = record {
       makes = subst (λ (w : List (List ℕ)). MakesAll own (made ++ step ∷ []) w sheets (seat_on base new)) (append-nil words)
           (subst (λ (s : List Sheet). MakesAll own (made ++ step ∷ []) (words ++ []) s (seat_on base new)) (append-nil sheets)
           (makes_then own (seat_on base old) (seat_on base new) made step words [] sheets [] was.makes (at_once fits refl refl stepped)));
       among = was.among;
       linked = was.linked;
-      backed = backed;
+      kept = record { backed = backed; rests = λ unchanged. absurd (false_true new.changed is_changed unchanged) };
       whole = whole;
       key_is = key_is ∙ was.key_is;
       name_is = name_is ∙ was.name_is;
@@ -153,13 +154,13 @@ module _ (key : List ℕ) (sealed : List Sheet) (own : OwnSeat) (line : ScriptLi
     -- a step was made after a flush
     pub made_after : (step : Step) (mid new : SessionState) (more : List (List ℕ)) (next : Sheet) → FlushesFirst (length (now base old.tree)) old.tree.dirty step → Seals (seat_on base old) more next → StandsOn next mid
         → {nonce : List ℕ} {tree : TreeState} → mid ≡ record old { nonce = nonce; drawn = None; tree = tree; changed = false } → mid.tree.dirty ≡ []
-        → new.key ≡ mid.key → new.name ≡ mid.name → new.broken ≡ false → IsBacked next new → IsStepped step (seat_on next mid) (seat_on next new) → Made sealed own new (made ++ step ∷ []) (words ++ more) (sheets ++ next ∷ []) next
-    made_after step mid new more next first seals on same dirty key_is name_is whole backed stepped = record {
+        → new.changed ≡ true → new.key ≡ mid.key → new.name ≡ mid.name → new.broken ≡ false → IsBacked next new → IsStepped step (seat_on next mid) (seat_on next new) → Made sealed own new (made ++ step ∷ []) (words ++ more) (sheets ++ next ∷ []) next
+    made_after step mid new more next first seals on same dirty is_changed key_is name_is whole backed stepped = record {
       makes = makes_then own (seat_on base old) (seat_on next new) made step words more sheets (next ∷ []) was.makes
           (once_flushed next first seals refl (subst (λ (x : OwnSeat). IsStepped step x (seat_on next new)) (sym (resealed_own base old mid more next seals on same dirty)) stepped));
       among = subst (λ (l : List Sheet). Contains l next) (append_assoc sealed sheets (next ∷ [])) (Contains-push (sealed ++ sheets) next);
       linked = seals.next.linked;
-      backed = backed;
+      kept = record { backed = backed; rests = λ unchanged. absurd (false_true new.changed is_changed unchanged) };
       whole = whole;
       key_is = key_is ∙ ap (λ (s : SessionState). s.key) same ∙ was.key_is;
       name_is = name_is ∙ ap (λ (s : SessionState). s.name) same ∙ was.name_is;

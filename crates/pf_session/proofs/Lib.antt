@@ -33,3 +33,4 @@ pub mod Relocated
 pub mod Carried
 pub mod Moved
 pub mod MovedTo
+pub mod NoText

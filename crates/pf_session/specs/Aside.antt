@@ -5,6 +5,7 @@ use Rattle.pf_io.specs.Host.{HostState, OnDisk}
 use Rattle.pf_io.specs.Moments.{Ran}
 use Rattle.pf_io.specs.Names.{recovery_of, side_of, side_recovery_of}
 use Rattle.pf_io.specs.Steps.{KeepsOthers}
+pub use Rattle.pf_io.specs.SideFile.{OthersLeft as LeavesOthers}
 
 -- another name than the name, its recovery file, its side file and the side file's recovery file
 pub record Apart (name other : Name) : Type 0 where
@@ -22,10 +23,6 @@ KeepsApart name old new = (other : Name) → Apart name other → new other ≡ 
 -- Whatever stands at these names, every other name is as before at every moment and in the end.
 abbrev pub Aside : Name → HostState → HostState → Type 0
 Aside name before after = OnDisk before after (Ran (LeavesApart name) (KeepsApart name))
-
--- every other name is as before in an image
-abbrev pub LeavesOthers : Name → Disk → Image → Type 0
-LeavesOthers name disk image = (other : Name) → other ≢ name → IsImageAt (disk other) (image other)
 
 -- one name alone was changed
 abbrev pub ChangesAlone : Name → HostState → HostState → Type 0

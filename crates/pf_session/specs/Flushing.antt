@@ -19,7 +19,7 @@ use Rattle.pf_session.specs.Making.{ReplaceShort}
 use Rattle.pf_session.specs.declared.fault.FlushFault.{FlushFault}
 use Rattle.pf_session.specs.declared.fault.FlushFault.TheVariants as faults
 
--- On a sheet that backs the session a flush seals the next one. Where it is done, the session stands on it, and a file that stood for the sheet stands for it, also where something was pending.
+-- On a sheet that backs the session a flush seals the next one. Where it is done, the session stands on it, and a file that stood for the sheet stands for the next one, also where something was pending.
 pub record Seals (done : Bool) (sheet : Sheet) (nonce : List ℕ) (keys : List (List ℕ)) (old new : SessionState) (before after : HostState) : Type 0 where
   pub next : Sheet
   pub is_next : NextSheet sheet old.tree old.path nonce keys next

@@ -104,7 +104,8 @@ impl Session {
         Ok(())
     }
 
-    /// Seals the content as a new version, which takes the place of the last one at once.
+    /// Seals the content as a new version, which takes the place of the last one at once. A file that is not published yet is
+    /// sealed in place.
     ///
     /// `Words` comes where a random word was wanting, and then nothing is changed but for the words that were taken.
     /// `Damaged` comes where a node to be copied is short, and `Host` where a call failed; the session is broken then.

@@ -234,14 +234,15 @@ impl Session {
         self.path = path;
     }
 
-    /// Moves the file to a new name, which also becomes its path. What was changed is flushed first, and the content is at
-    /// every moment under one of the two names.
+    /// Moves the file to a new name, which also becomes its path. What was changed is flushed first. On an honest disk where
+    /// the file stood for what was last sealed, the content is at every moment under one of the two names.
     ///
     /// The refusals are, in this order: `BadName`, where a protected file may not have the new name; `Memory`; `Host`, where
     /// the host failed to say whether the new name is there; `TargetExists`, where it is, also where it is the session's own;
     /// `Words`, where a random word was wanting; `Damaged`, where a node to be copied is short; `Host`, where a later call
-    /// failed. Up to `Words` the session is unchanged, but for words that were taken. After the last two it is broken: the
-    /// content is under the old name, under the new one, or under both.
+    /// failed. Up to `Words` the session is unchanged, but for words that were taken. After the last two it is broken: on such
+    /// a disk the content is under the old name, under the new one, or under both, and where the flush failed the old name
+    /// has the content that was last sealed or the one that was to be.
     pub fn move_to<H: Host, R: Words>(
         &mut self,
         alloc: Global,
