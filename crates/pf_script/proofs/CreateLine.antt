@@ -204,7 +204,7 @@ module _ (key : List ℕ) (k : ℕ) (name : Name) (utf8 : IsUtf8 name) (before a
             (record { of_script = of_created key name nonce good; key_is = refl; clean = λ whole calm. refl }) (λ n has. has)
             replies.Created these words false false seen refl refl
             (empty_turns key line name refl (seen_by these words false false) replies.Created (Some made) these (act nonce these drawn true ∷ []) (Own (new_seat key name sheet)) turn
-                (λ sealed. whole_file sheet made refl (Contains-push sealed sheet) is_fresh.linked is_fresh.stands.backed (ap Own same) refl));
+                (λ sealed. whole_file sheet made refl (Contains-push sealed sheet) is_fresh.linked (record { backed = is_fresh.stands.backed; rests = λ calm. record { stands = is_fresh.stands; clean = refl } }) (ap Own same) refl));
         booked = record {
           seen = seen_by these words false false;
           was_seen = seen_in these words false false before after random random' seen;

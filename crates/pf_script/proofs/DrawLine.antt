@@ -48,7 +48,7 @@ module _ (key : List ℕ) (k : ℕ) (old : SessionState) (whole : old.broken ≡
         shows_same sealed (Own own) (Some new) (subst (λ (s : SessionState). Shows sealed (Own own) (Some s)) (sym same) (whole_file base old whole among linked kept refl refl)),
       ))
 
-  with_drawn : (base : Sheet) (drawn : Option (List ℕ)) → IsKeptOn base old → IsKeptOn base (record old { drawn = drawn })
+  pub with_drawn : (base : Sheet) (drawn : Option (List ℕ)) → IsKeptOn base old → IsKeptOn base (record old { drawn = drawn })
   with_drawn base drawn kept =
       let with : IsBacked base (record old { drawn = drawn }) = record { path_is = kept.backed.path_is; nonce_is = kept.backed.nonce_is; backs = kept.backed.backs } in
       record { backed = with; rests = λ unchanged. record { stands = record { backed = with; now_is = (kept.rests unchanged).stands.now_is }; clean = (kept.rests unchanged).clean } }

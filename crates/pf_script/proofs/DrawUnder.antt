@@ -9,7 +9,6 @@ use Rattle.pf_io.specs.declared.faults.WordsFault.{WordsFault}
 use Rattle.pf_io.proofs.Telling.{both_same, told_none}
 use Rattle.pf_session.specs.Asking.{IsTaken as AreTaken}
 use Rattle.pf_session.specs.Drawing.{DrawGoes, drawn_before, drawn_now, not_drawn}
-use Rattle.pf_session.specs.Moving.{IsKeptOn}
 use Rattle.pf_session.specs.State.{SessionState}
 use Rattle.pf_script.specs.Book.{Book, Seal}
 use Rattle.pf_script.specs.BookDebts.{seat_of}
@@ -23,7 +22,7 @@ use Rattle.pf_script.specs.declared.line.ScriptLine.TheVariants as lines
 use Rattle.pf_script.specs.declared.reply.Reply.{Reply}
 use Rattle.pf_script.specs.declared.reply.Reply.TheVariants as replies
 use Rattle.pf_script.proofs.ActKeeping.{unchanged_now}
-use Rattle.pf_script.proofs.DrawLine.{draw_result}
+use Rattle.pf_script.proofs.DrawLine.{draw_result, with_drawn}
 use Rattle.pf_script.proofs.ReadKeeping.{draw_keeps}
 use Rattle.pf_script.proofs.Refusing.{none_then, none_taken}
 use Rattle.pf_script.proofs.SeatCalls.{seen_by}
@@ -43,19 +42,11 @@ module _ (key : List ℕ) (k : ℕ) (old : SessionState) (seated : IsSeated key 
         left = seats;
         after = Own (record (seat_on base old) { drawn = drawn });
         did = (unchanged_now a, λ s has. has);
-        shows = subst (λ (s : SessionState). ShowsUnder book seats (Own (record (seat_on base old) { drawn = drawn })) (Some s)) (sym same) (of_book base (record old { drawn = drawn }) whole on.seated (same_kept base drawn on.kept) refl refl);
+        shows = subst (λ (s : SessionState). ShowsUnder book seats (Own (record (seat_on base old) { drawn = drawn })) (Some s)) (sym same) (of_book base (record old { drawn = drawn }) whole on.seated (with_drawn key k old whole new base drawn on.kept) refl refl);
         spares = λ s has apart. has;
         concerned = none_concerned false (lines.Draw k) (Some old);
         turn = λ _. turns _ base;
       }))
-    where
-      same_kept : (base : Sheet) (drawn : Option (List ℕ)) → IsKeptOn base old → IsKeptOn base (record old { drawn = drawn })
-      same_kept base drawn kept = record {
-        backed = record { path_is = kept.backed.path_is; nonce_is = kept.backed.nonce_is; backs = kept.backed.backs };
-        rests = λ calm.
-            let rests = kept.rests calm in
-            record { stands = record { backed = record { path_is = kept.backed.path_is; nonce_is = kept.backed.nonce_is; backs = kept.backed.backs }; now_is = rests.stands.now_is }; clean = rests.clean };
-      }
 
   by_case : DrawGoes result old new random random' → SeatAgrees key false (lines.Draw k) (draw_result result) (Some old) (Some new) host host random random'
   by_case (drawn_before nonce was same words said) =

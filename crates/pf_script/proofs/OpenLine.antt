@@ -236,7 +236,7 @@ module _ (key : List ℕ) (k : ℕ) (name : Name) (utf8 : IsUtf8 name) (before a
             (λ _. (
               Own (new_seat key name on.sheet),
               turn (on_carried key sealed) on.sheet on.on (on.block, on.last, on.first),
-              shows_same sealed (Own (new_seat key name on.sheet)) (Some session) (whole_file on.sheet session refl among (unforged.linked on.sheet among) on.on.backed (ap Own (same_seat on.sheet on.on)) refl),
+              shows_same sealed (Own (new_seat key name on.sheet)) (Some session) (whole_file on.sheet session refl among (unforged.linked on.sheet among) (record { backed = on.on.backed; rests = λ calm. record { stands = on.on; clean = refl } }) (ap Own (same_seat on.sheet on.on)) refl),
             )))
 
     -- under a book
