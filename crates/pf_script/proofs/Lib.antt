@@ -42,6 +42,7 @@ pub mod DrawUnder
 pub mod OnEmpty
 pub mod CreateLine
 pub mod OpenLine
+pub mod ReadUnder
 pub mod CloseLine
 pub mod Desking
 pub mod DeskUnder

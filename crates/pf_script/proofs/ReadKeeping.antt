@@ -1,5 +1,5 @@
 -- What reads and drawings keep of a book, from their contracts.
-use Rattle.std.proofs.Common.{◌≡◌, List, ℕ, sym, ◌∙◌, ap, subst, Option, Result}
+use Rattle.std.proofs.Common.{◌≡◌, List, ℕ, sym, ◌∙◌, ap, subst, Option, Some, Result}
 use Rattle.std.specs.Prelude.{IfSome, option_map}
 use Rattle.pf_io.specs.Disk.{reading}
 use Rattle.pf_io.specs.Moments.{Honest}
@@ -14,6 +14,7 @@ use Rattle.pf_session.specs.Backing.{IsBacked, RestsOn}
 use Rattle.pf_session.specs.Drawing.{DrawGoes, drawn_before, drawn_now, not_drawn}
 use Rattle.pf_session.specs.Moving.{IsKeptOn}
 use Rattle.pf_session.specs.Reading.{KeepsFields, ReadsStanding, StandingRead}
+use Rattle.pf_session.specs.Reopening.{Stood}
 use Rattle.pf_session.specs.State.{SessionState, file_of}
 use Rattle.pf_script.specs.BookDebts.{Unchanged}
 use Rattle.pf_script.specs.BookSeats.{IsOfScript, Covers, KeepsUnder}
@@ -30,6 +31,13 @@ module _ (old : SessionState) (mine : IsOfScript old) (new : SessionState) where
         record { stands = record { backed = reads.backed; now_is = reads.same ∙ was.stands.now_is }; clean = dirty ∙ was.clean };
   }
 
+  -- on the sheet that the file stands for
+  pub stood_read : (result : Result ℕ TreeFault) (at : ℕ) (buffer : List ℕ) (before : HostState) (a : Honest) → before.honest ≡ Some a → ReadsStanding result at buffer old new before → (base : Sheet) → Stood old.key old.name base a.now → IsBacked base old
+      → StandingRead result base at buffer old new
+  stood_read result at buffer before a is reads base stood backed =
+      subst (λ (o : Option Honest). IfSome (option_map (λ host. reading host.now) o) (λ files. (sheet : Sheet) → Stands (contents (files (file_of old))) old.key sheet → IsBacked sheet old → StandingRead result sheet at buffer old new)) is
+      reads base (stands_there old mine a base stood) backed
+
   pub read_keeps : (result : Result ℕ TreeFault) (at : ℕ) (buffer : List ℕ) (before after : HostState) → KeepsFields old new → new.tree.dirty ≡ old.tree.dirty → ReadsStanding result at buffer old new before → KeepsDisk before after
       → OnDisk before after (KeepsUnder (Covers old) (Covers new) (λ name. name ≡ old.name))
   read_keeps result at buffer before after fields dirty reads keeps =
@@ -39,10 +47,7 @@ module _ (old : SessionState) (mine : IsOfScript old) (new : SessionState) where
         key_is = ap (λ (s : SessionState). s.key) fields;
         name_is = ap (λ (s : SessionState). s.name) fields;
         whole = λ whole. sym (ap (λ (s : SessionState). s.broken) fields) ∙ whole;
-        kept = λ base kept stood whole.
-            kept_on result at buffer fields dirty base
-            (subst (λ (o : Option Honest). IfSome (option_map (λ host. reading host.now) o) (λ files. (sheet : Sheet) → Stands (contents (files (file_of old))) old.key sheet → IsBacked sheet old → StandingRead result sheet at buffer old new)) is
-            reads base (stands_there old mine a base stood) kept.backed) kept;
+        kept = λ base kept stood whole. kept_on result at buffer fields dirty base (stood_read result at buffer before a is reads base stood kept.backed) kept;
       }))
 
   -- a drawing makes no call of a host

@@ -97,7 +97,7 @@ module _ (key : List ℕ) (k at count : ℕ) (old : SessionState) (seated : IsSe
       told_weaker (Backed (Err trees.Memory)) (ReadFacts (Err trees.Memory) at buffer old new) before after (told_came (Backed (Err trees.Memory)) before after backed) (λ these facts base on given. (facts base (of_file base these given) on, tt))
 
   -- what was read is the slice that the line asks for
-  slice_is : (n : ℕ) → n ≡ readable old.tree at (length buffer) → (base : Sheet) → take n buffer ≡ take n (drop at (now base old.tree)) → buffer ≡ take count (drop at (now base old.tree))
+  pub slice_is : (n : ℕ) → n ≡ readable old.tree at (length buffer) → (base : Sheet) → take n buffer ≡ take n (drop at (now base old.tree)) → buffer ≡ take count (drop at (now base old.tree))
   slice_is n counted base slice =
       let rest = drop at (now base old.tree) in
       let long : length rest ≡ old.tree.size - at = length-drop at (now base old.tree) ∙ ap (λ m. m - at) (length_now base old.tree) in
@@ -106,13 +106,13 @@ module _ (key : List ℕ) (k at count : ℕ) (old : SessionState) (seated : IsSe
       sym (ap (λ m. take m buffer) all ∙ take_all (length buffer) buffer (omega arith)) ∙ slice ∙ ap (λ m. take m rest) is ∙ take_min count rest
 
   -- the seat stays as it is
-  same_seat : (base : Sheet) → now base new.tree ≡ now base old.tree → seat_on base old ≡ seat_on base new
+  pub same_seat : (base : Sheet) → now base new.tree ≡ now base old.tree → seat_on base old ≡ seat_on base new
   same_seat base same =
       own_same base old.key new.key old.name new.name (now base old.tree) (now base new.tree) old.tree.dirty new.tree.dirty old.changed new.changed old.drawn new.drawn old.broken new.broken
       (sym (ap (λ (s : SessionState). s.key) fields)) (sym (ap (λ (s : SessionState). s.name) fields)) (sym same) (sym (ap (λ (t : TreeState). t.dirty) reads.rest)) (sym (ap (λ (s : SessionState). s.changed) fields))
       (sym (ap (λ (s : SessionState). s.drawn) fields)) (sym (ap (λ (s : SessionState). s.broken) fields))
 
-  whole_new : new.broken ≡ false
+  pub whole_new : new.broken ≡ false
   whole_new = ap (λ (s : SessionState). s.broken) fields ∙ whole
 
   seated_new : IsSeated key new
@@ -123,7 +123,7 @@ module _ (key : List ℕ) (k at count : ℕ) (old : SessionState) (seated : IsSe
   }
 
   module _ (few : count ≤ 32768) (given : List Answer) where
-    kept_new : (base : Sheet) → IsKeptOn base old → IsBacked base new → now base new.tree ≡ now base old.tree → IsKeptOn base new
+    pub kept_new : (base : Sheet) → IsKeptOn base old → IsBacked base new → now base new.tree ≡ now base old.tree → IsKeptOn base new
     kept_new base kept backed same = record {
       backed = backed;
       rests = λ unchanged.
@@ -202,7 +202,7 @@ module _ (key : List ℕ) (k at count : ℕ) (old : SessionState) (seated : IsSe
         goes_wanting key false (lines.Read k at count) old before after words words (record {}) new (record { takes = λ none. none; ends = inl (record { seat = fields; disk = disk; words = refl }) }) books seated_new
         (ap (λ (s : SessionState). s.name) fields) cause.still refl
 
-ends_count : (r : Result ℕ TreeFault) (given : AtNodes) (at : ℕ) (buffer : List ℕ) (old new : TreeState) → ReadEnds r given at buffer old new → IfOk r (λ n. n ≡ readable old at (length buffer))
+pub ends_count : (r : Result ℕ TreeFault) (given : AtNodes) (at : ℕ) (buffer : List ℕ) (old new : TreeState) → ReadEnds r given at buffer old new → IfOk r (λ n. n ≡ readable old at (length buffer))
 ends_count (Ok n) given at buffer old new ends = ends.0
 ends_count (Err fault) given at buffer old new ends = tt
 

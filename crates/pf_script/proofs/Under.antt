@@ -127,18 +127,24 @@ module _ (key : List ℕ) (taken : Bool) (line : ScriptLine) (seen : Seen) (repl
         by_shows (other_file shown own (inl broken) key_is name_is broken_is is some) = let same = same_session old own some in absurd (not_broken (sym (ap (λ (s : SessionState). s.broken) same) ∙ broken))
         by_shows (other_file shown own (inr none) key_is name_is broken_is is some) = unknown (subst (λ (s : SessionState). book s.name ≡ None) (same_session old own some) none)
 
--- so of a call that changes the session's name alone
+-- so of a call on a host
+pub on_disk_by : (P : Honest → Honest → Type 0) (key : List ℕ) (taken : Bool) (line : ScriptLine) (seen : Seen) (reply : Reply) (old : SessionState) (whole : old.broken ≡ false) (new : Option SessionState) (before after : HostState)
+    → OnDisk before after (KeepsUnder (Covers old) (CoversSome new) (λ name. name ≡ old.name)) → OnDisk before after P
+    → ((a b : Honest) → before.honest ≡ Some a → after.honest ≡ Some b → P a b → KnownUnder key taken line seen reply old whole new a b) → OnDisk before after (SeatUnder key taken line seen reply (Some old) new)
+on_disk_by P key taken line seen reply old whole new before after keeps holds known =
+    both_with P (SeatUnder key taken line seen reply (Some old) new) before.honest after.honest holds
+    (λ a b is is2 p.
+    own_under key taken line seen reply old whole new a b
+    (keeps_more (Covers old) (CoversSome new) (λ name. name ≡ old.name) (Concerns taken line (Some old)) a b (λ name same. inl same)
+        (at_both (KeepsUnder (Covers old) (CoversSome new) (λ name. name ≡ old.name)) before.honest after.honest a b is is2 keeps))
+    (known a b is is2 p))
+
+-- of one that changes the session's name alone
 pub on_disk : (key : List ℕ) (taken : Bool) (line : ScriptLine) (seen : Seen) (reply : Reply) (old : SessionState) (whole : old.broken ≡ false) (new : Option SessionState) (before after : HostState)
     → OnDisk before after (KeepsUnder (Covers old) (CoversSome new) (λ name. name ≡ old.name)) → Aside old.name before after
     → ((a b : Honest) → before.honest ≡ Some a → after.honest ≡ Some b → Ran (LeavesApart old.name) (KeepsApart old.name) a b → KnownUnder key taken line seen reply old whole new a b)
     → OnDisk before after (SeatUnder key taken line seen reply (Some old) new)
-on_disk key taken line seen reply old whole new before after keeps aside known =
-    both_with (Ran (LeavesApart old.name) (KeepsApart old.name)) (SeatUnder key taken line seen reply (Some old) new) before.honest after.honest aside
-    (λ a b is is2 ran.
-    own_under key taken line seen reply old whole new a b
-    (keeps_more (Covers old) (CoversSome new) (λ name. name ≡ old.name) (Concerns taken line (Some old)) a b (λ name same. inl same)
-        (at_both (KeepsUnder (Covers old) (CoversSome new) (λ name. name ≡ old.name)) before.honest after.honest a b is is2 keeps))
-    (known a b is is2 ran))
+on_disk key taken line seen reply old whole new before after keeps aside known = on_disk_by (Ran (LeavesApart old.name) (KeepsApart old.name)) key taken line seen reply old whole new before after keeps aside known
 
 -- no act is of any name, and one flush is of the session's
 pub none_concerned : (taken : Bool) (line : ScriptLine) (old : Option SessionState) (name : Name) → Among [] name → Concerns taken line old name
