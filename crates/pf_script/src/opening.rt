@@ -55,7 +55,7 @@ pub(crate) fn create_file<H: Host, R: Words>(
     name: &str,
     taken: bool,
 ) -> Result<Reply, Memory>
-    ensures { (k : ℕ) → IsSeatOf key.now seat.old → SeatGoes key.now taken (lines.Create k name.now) result seat.old seat.new (H.state host.old) (H.state host.new) (R.state random.old) (R.state random.new) }
+    ensures goes { (k : ℕ) → IsSeatOf key.now seat.old → SeatGoes key.now taken (lines.Create k name.now) result seat.old seat.new (H.state host.old) (H.state host.new) (R.state random.old) (R.state random.new) }
 {
     if seat.is_some() {
         return Ok(Reply::Refused { why: Why::SeatBusy });
@@ -82,7 +82,7 @@ pub(crate) fn open_file<H: Host>(
     name: &str,
     taken: bool,
 ) -> Result<Reply, Memory>
-    ensures { (k : ℕ) (words : WordsState) → IsSeatOf key.now seat.old → SeatGoes key.now taken (lines.Open k name.now) result seat.old seat.new (H.state host.old) (H.state host.new) words words }
+    ensures goes { (k : ℕ) (words : WordsState) → IsSeatOf key.now seat.old → SeatGoes key.now taken (lines.Open k name.now) result seat.old seat.new (H.state host.old) (H.state host.new) words words }
 {
     if seat.is_some() {
         return Ok(Reply::Refused { why: Why::SeatBusy });
@@ -103,7 +103,7 @@ pub(crate) fn open_file<H: Host>(
 
 /// The line `view`: there is no manifest of which files could be viewed.
 pub(crate) fn view_file(seat: &Option<Session>) -> Reply
-    ensures { (key : List ℕ) (k : ℕ) (path : List ℕ) (host : HostState) (words : WordsState) → IsSeatOf key seat.now → SeatGoes key false (lines.View k path) (Ok result) seat.now seat.now host host words words }
+    ensures goes { (key : List ℕ) (k : ℕ) (path : List ℕ) (host : HostState) (words : WordsState) → IsSeatOf key seat.now → SeatGoes key false (lines.View k path) (Ok result) seat.now seat.now host host words words }
 {
     let why = match seat {
         Some(_) => Why::SeatBusy,
