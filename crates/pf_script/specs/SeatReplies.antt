@@ -13,6 +13,8 @@ use Rattle.pf_session.specs.declared.fault.CreateFault.{CreateFault}
 use Rattle.pf_session.specs.declared.fault.CreateFault.TheVariants as creates
 use Rattle.pf_session.specs.declared.fault.FlushFault.{FlushFault}
 use Rattle.pf_session.specs.declared.fault.FlushFault.TheVariants as flushes
+use Rattle.pf_session.specs.declared.fault.MoveFault.{MoveFault}
+use Rattle.pf_session.specs.declared.fault.MoveFault.TheVariants as moves
 use Rattle.pf_session.specs.declared.fault.SizeFault.{SizeFault}
 use Rattle.pf_session.specs.declared.fault.SizeFault.TheVariants as sizes
 use Rattle.pf_session.specs.declared.fault.WriteFault.{WriteFault}
@@ -52,6 +54,15 @@ read_reply bytes (Ok n) = Ok (replies.Given bytes)
 read_reply bytes (Err (trees.Damaged damage)) = Ok (replies.DamagedNode damage)
 read_reply bytes (Err trees.Host) = Ok replies.HostFault
 read_reply bytes (Err trees.Memory) = Err (record {})
+
+abbrev pub move_reply : Result (Unit {0}) MoveFault → Result Reply Memory
+move_reply (Ok done) = Ok replies.Moved
+move_reply (Err moves.BadName) = refused whys.BadName
+move_reply (Err moves.Memory) = Err (record {})
+move_reply (Err moves.Host) = Ok replies.HostFault
+move_reply (Err moves.TargetExists) = refused whys.TargetExists
+move_reply (Err moves.Words) = Ok replies.WordsFault
+move_reply (Err (moves.Damaged damage)) = Ok (replies.DamagedNode damage)
 
 abbrev pub flush_reply : FlushFault → Reply
 flush_reply flushes.Words = replies.WordsFault

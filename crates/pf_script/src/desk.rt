@@ -9,6 +9,7 @@ ghost use Rattle.pf_script.specs.declared.line.ScriptLine.TheVariants as lines;
 
 use crate::changing::{fill_bytes, set_size, write_bytes};
 use crate::looking::read_bytes;
+use crate::renaming::move_file;
 use crate::opening::{create_file, open_file, view_file};
 use crate::sealing::{close_seat, draw_nonce, flush_seat};
 use crate::{Reply, ScriptLine};
@@ -81,7 +82,7 @@ impl Desk {
         name: &str,
     ) -> Result<Reply, Memory>
         requires { seat < SEAT_COUNT }
-        ensures { DeskGoes (lines.Create seat name.now) result self.old self.new (H.state host.old) (H.state host.new) (R.state random.old) (R.state random.new) }
+        ensures goes { DeskGoes (lines.Create seat name.now) result self.old self.new (H.state host.old) (H.state host.new) (R.state random.old) (R.state random.new) }
     {
         let seat = seat as usize;
         let taken = self.is_taken(seat, name);
@@ -91,12 +92,27 @@ impl Desk {
 
     fn open<H: Host>(&mut self, host: &mut H, seat: u8, name: &str) -> Result<Reply, Memory>
         requires { seat < SEAT_COUNT }
-        ensures { (words : WordsState) → DeskGoes (lines.Open seat name.now) result self.old self.new (H.state host.old) (H.state host.new) words words }
+        ensures goes { (words : WordsState) → DeskGoes (lines.Open seat name.now) result self.old self.new (H.state host.old) (H.state host.new) words words }
     {
         let seat = seat as usize;
         let taken = self.is_taken(seat, name);
         let key = self.key;
         open_file(self.alloc, host, &key, &mut self.seats[seat], name, taken)
+    }
+
+    fn rename<H: Host, R: Words>(
+        &mut self,
+        host: &mut H,
+        random: &mut R,
+        seat: u8,
+        name: &str,
+    ) -> Result<Reply, Memory>
+        requires { seat < SEAT_COUNT }
+        ensures goes { DeskGoes (lines.Move seat name.now) result self.old self.new (H.state host.old) (H.state host.new) (R.state random.old) (R.state random.new) }
+    {
+        let seat = seat as usize;
+        let taken = self.is_taken(seat, name);
+        move_file(self.alloc, host, random, &mut self.seats[seat], name, taken)
     }
 
     fn close<H: Host, R: Words>(&mut self, host: &mut H, random: &mut R, seat: u8) -> Reply
@@ -160,7 +176,7 @@ impl Desk {
             ScriptLine::Flush { seat } => {
                 Ok(flush_seat(host, random, &mut self.seats[*seat as usize]))
             }
-            ScriptLine::Move { .. } => Err(Memory),
+            ScriptLine::Move { seat, name } => self.rename(host, random, *seat, name.as_str()),
             ScriptLine::Draw { seat } => Ok(draw_nonce(random, &mut self.seats[*seat as usize])),
             ScriptLine::Close { seat } => Ok(self.close(host, random, *seat)),
         }

@@ -47,7 +47,7 @@ fn read_content<H: Host>(
 ) -> Result<Reply, Memory>
     requires whole { session.old.broken ≡ false }
     requires few { count ≤ 32768 }
-    ensures { (key : List ℕ) (k : ℕ) (words : WordsState) → IsSeated key session.old → SeatGoes key false (lines.Read k at count) result (Some session.old) (Some session.new) (H.state host.old) (H.state host.new) words words }
+    ensures goes { (key : List ℕ) (k : ℕ) (words : WordsState) → IsSeated key session.old → SeatGoes key false (lines.Read k at count) result (Some session.old) (Some session.new) (H.state host.old) (H.state host.new) words words }
 {
     let count = reach(session.size(), at, count);
     let mut bytes = Bytes::zeroed(alloc, count as usize)?;
@@ -63,7 +63,7 @@ pub(crate) fn read_bytes<H: Host>(
     at: u64,
     count: u64,
 ) -> Result<Reply, Memory>
-    ensures { (key : List ℕ) (k : ℕ) (words : WordsState) → IsSeatOf key seat.old → SeatGoes key false (lines.Read k at count) result seat.old seat.new (H.state host.old) (H.state host.new) words words }
+    ensures goes { (key : List ℕ) (k : ℕ) (words : WordsState) → IsSeatOf key seat.old → SeatGoes key false (lines.Read k at count) result seat.old seat.new (H.state host.old) (H.state host.new) words words }
 {
     let Some(session) = seat else {
         return Ok(Reply::Refused { why: Why::SeatEmpty });
