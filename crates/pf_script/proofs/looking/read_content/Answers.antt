@@ -12,15 +12,15 @@ use Rattle.pf_script.proofs.ReadLine.{read_goes, lent_all, same_length}
 use Rattle.pf_script.proofs.Refusing.{nothing_wanting}
 use Rattle.pf_script.proofs.looking.read_content.Goals as goal
 
-pub returns-in_err-bytes : goal.returns-in_err-bytes
-returns-in_err-bytes g c key k words seated =
+pub returns-in_err-bytes-clause-goes : goal.returns-in_err-bytes-clause-goes
+returns-in_err-bytes-clause-goes g c key k words seated =
     let p = err_from_is_err_and c.from_residual.result c.from_residual.ensures.1 in
     let before = g.H.Host.state c.args.host.now in
     subst (λ (r : Result Reply Memory). SeatGoes key false (lines.Read k c.args.at c.args.count) r (Some c.args.session.now) (Some c.args.session.now) before before words words) (sym p.1)
     (nothing_wanting key false (lines.Read k c.args.at c.args.count) p.0 (Some c.args.session.now) before words (λ none. none) seated)
 
-pub returns : goal.returns
-returns g c key k words seated =
+pub returns-clause-goes : goal.returns-clause-goes
+returns-clause-goes g c key k words seated =
     let s = c.args.session.now in
     let line = lines.Read k c.args.at c.args.count in
     let before = g.H.Host.state c.args.host.now in
