@@ -60,6 +60,7 @@ mod SumsEnding
 mod RunLaws
 mod RunClauses
 mod ScriptCauses
+mod ScriptKey
 mod EncryptRuns
 mod EncryptClauses
 mod RunChoices

@@ -56,7 +56,7 @@ nothing_passed es old new none passed =
     same_world old.host new.host old.input new.input old.out new.out old.log new.log old.random new.random (passed.host.untouched (ap (λ (l : List Event). answers_in l) none)) passed.input
     (passed.out.untouched (ap (λ (l : List Event). pieces_in l) none)) passed.log (passed.random.untouched (ap (λ (l : List Event). words_in l) none))
 
-all_of : (files : Files) (o : Option Files) (these : List Answer) → o ≡ Some files → IfSome o (λ f. AllByRecursion (IsAnswerOf f) these) → AllByRecursion (IsAnswerOf files) these
+pub all_of : (files : Files) (o : Option Files) (these : List Answer) → o ≡ Some files → IfSome o (λ f. AllByRecursion (IsAnswerOf f) these) → AllByRecursion (IsAnswerOf files) these
 all_of files o these is honest = subst (λ (x : Option Files). IfSome x (λ f. AllByRecursion (IsAnswerOf f) these)) is honest
 
 -- a list with an event in it
