@@ -8,6 +8,7 @@ use Rattle.pf_io.proofs.Runs.{only_now}
 use Rattle.node_tree.specs.Sheet.{Sheet, IsLinked}
 use Rattle.pf_session.specs.Aside.{LeavesApart, KeepsApart}
 use Rattle.pf_session.specs.Backing.{IsBacked}
+use Rattle.pf_session.specs.Moving.{IsKeptOn}
 use Rattle.pf_session.specs.Reopening.{AsEither, Stood}
 use Rattle.pf_session.specs.Sealing.{StoodIf}
 use Rattle.pf_session.specs.State.{SessionState}
@@ -38,7 +39,7 @@ pub record Idles (old new : SessionState) (a b : Honest) : Type 0 where
   pub key_is : new.key ≡ old.key
   pub name_is : new.name ≡ old.name
   pub whole : new.broken ≡ false → old.broken ≡ false
-  pub backed : (base : Sheet) → IsBacked base old → Stood old.key old.name base a.now → new.broken ≡ false → IsBacked base new
+  pub kept : (base : Sheet) → IsKeptOn base old → Stood old.key old.name base a.now → new.broken ≡ false → IsKeptOn base new
 
 pub idle_keeps : (old new : SessionState) (a b : Honest) (concerns : Name → Type 0) → Idles old new a b → KeepsUnder (Covers old) (Covers new) concerns a b
 idle_keeps old new a b concerns idles book seats agrees reads covers = ([], seats, (idles.unchanged, λ seat has. has), covers_new, λ seat has apart. has, λ name none. absurd none)
@@ -50,8 +51,12 @@ idle_keeps old new a b concerns idles book seats agrees reads covers = ([], seat
         let stands = agrees.stand (seat_of old.key old.name seat.0) entry seat.1 was in (
           seat.0,
           subst (λ (k : List ℕ). Contains seats (seat_of k new.name seat.0)) (sym idles.key_is) (subst (λ (n : Name). Contains seats (seat_of old.key n seat.0)) (sym idles.name_is) seat.1),
-          idles.backed seat.0 seat.2 stands.stood whole,
+          idles.kept seat.0 seat.2 stands.stood whole,
         )
+
+-- only reads
+pub only_reads : (covering : Covering) (a b : Honest) (concerns : Name → Type 0) → Unchanged a b → KeepsUnder covering covering concerns a b
+only_reads covering a b concerns unchanged book seats agrees reads covers = ([], seats, (unchanged, λ seat has. has), covers, λ seat has apart. has, λ name none. absurd none)
 
 -- where there is no session after it
 pub lets_go : (before : Covering) (a b : Honest) (concerns : Name → Type 0) → Unchanged a b → KeepsUnder before CoversNone concerns a b
@@ -62,7 +67,7 @@ pub record SealsOn (done : Bool) (old new : SessionState) (base : Sheet) (a b : 
   pub next : Sheet
   pub path_is : next.path ≡ old.name
   pub sealed : Where (Stood old.key old.name base) (Ran (AsEither old.key old.name base next) (StoodIf done old.key old.name next)) a b
-  pub on_next : done ≡ true → new.broken ≡ false → Stood old.key old.name base a.now → IsBacked next new
+  pub on_next : done ≡ true → new.broken ≡ false → Stood old.key old.name base a.now → IsKeptOn next new
 
 -- A call of a whole session that flushed it, or failed in the flush. After a flush it may have read.
 pub record SealsOnce (done : Bool) (old new : SessionState) (a b : Honest) : Type 0 where
@@ -106,7 +111,7 @@ seal_keeps done old new a b target once book seats agrees reads covers = by_entr
     by_entry (Some entry) was =
         let seat = covers entry once.whole was in
         let stood = (agrees.stand (seat_of old.key old.name seat.0) entry seat.1 was).stood in
-        let on = once.seals seat.0 stood.as_sheet.stands.linked seat.2 in
+        let on = once.seals seat.0 stood.as_sheet.stands.linked seat.2.backed in
         let seal = seat_of old.key old.name on.next in (
           acts_of on.next,
           seats_after (Flush seal) done seats,
@@ -118,7 +123,7 @@ seal_keeps done old new a b target once book seats agrees reads covers = by_entr
         )
       where
         covered : (d : Bool) → done ≡ d → {base : Sheet} (on : SealsOn done old new base a b) → Stood old.key old.name base a.now → new.broken ≡ false
-            → (sheet : Sheet) × Contains (seats_after (Flush (seat_of old.key old.name on.next)) done seats) (seat_of new.key new.name sheet) × IsBacked sheet new
+            → (sheet : Sheet) × Contains (seats_after (Flush (seat_of old.key old.name on.next)) done seats) (seat_of new.key new.name sheet) × IsKeptOn sheet new
         covered true is on stood whole =
             let seal = seat_of old.key old.name on.next in (
               on.next,

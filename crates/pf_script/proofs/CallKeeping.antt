@@ -1,5 +1,5 @@
 -- What the calls of a session keep of a book, from their contracts.
-use Rattle.std.proofs.Common.{◌≡◌, inl, Bool, true, false, List, ℕ, refl, sym, ◌∙◌, ap, subst, Option, Some, None, Result, Ok, Err}
+use Rattle.std.proofs.Common.{◌≡◌, inl, Bool, true, false, List, [], ℕ, refl, sym, ◌∙◌, ap, subst, Option, Some, None, Result, Ok, Err}
 use Rattle.std.specs.Prelude.{IfSome, cond, option_map}
 use Rattle.pf_io.specs.Disk.{Name, Disk, Image, IsImage, reading}
 use Rattle.pf_io.specs.Names.{side_of}
@@ -16,6 +16,7 @@ use Rattle.pf_session.specs.Backing.{IsBacked}
 use Rattle.pf_session.specs.Changing.{StepGoes, StepState}
 use Rattle.pf_session.specs.Ending.{CloseGoes, let_go, flushed_last}
 use Rattle.pf_session.specs.Flushing.{FlushGoes, no_words, had_words, SealGoes, node_short, call_failed, flushed, Seals, SealsEach}
+use Rattle.pf_session.specs.Moving.{IsKeptOn}
 use Rattle.pf_session.specs.Reopening.{AsEither, Stood}
 use Rattle.pf_session.specs.Sealing.{StoodIf}
 use Rattle.pf_session.specs.State.{SessionState, file_of}
@@ -38,6 +39,11 @@ at_both P o p a b is is2 holds = subst (λ q. Both (Some a) q P) is2 (subst (λ 
 pub back_to : {A : Type 0} (P : A → A → Type 0) (o p : Option A) (b : A) → p ≡ Some b → Both o p P → (m : A) × (o ≡ Some m) × P m b
 back_to P (Some m) p b is holds = (m, refl, subst (λ q. Both (Some m) q P) is holds)
 back_to P None p b is holds = absurd (subst (λ q. Both None q P) is holds)
+
+-- what was told before is told after
+pub on_to : {A : Type 0} (P : A → A → Type 0) (o p : Option A) (a : A) → o ≡ Some a → Both o p P → (m : A) × (p ≡ Some m) × P a m
+on_to P o (Some m) a is holds = (m, refl, subst (λ q. Both q (Some m) P) is holds)
+on_to P o None a is holds = absurd (subst (λ q. Both q None P) is holds)
 
 pub read_image : (o : Option Honest) (b : Honest) → o ≡ Some b → IfSome o (λ host. IsImage host.now (reading host.now)) → IsImage b.now (reading b.now)
 read_image o b is reads = subst (λ (q : Option Honest). IfSome q (λ host. IsImage host.now (reading host.now))) is reads
@@ -73,39 +79,42 @@ module _ (old : SessionState) (mine : IsOfScript old) where
         subst (λ (o : Option Honest). IfSome (option_map (λ host. reading host.now) o) (λ files. (sheet : Sheet) → Stands (contents (files (file_of old))) old.key sheet → IsBacked sheet old → StandingStep one step sheet old.tree new.tree)) is
         goes.standing base (stands_there a base stood) backed
 
-    by_result : (r : Result (Unit {0}) TreeFault) (base : Sheet) → StepState r old new → StandingStep r step base old.tree new.tree → IsBacked base old → new.broken ≡ false → IsBacked base new
+    by_result : (r : Result (Unit {0}) TreeFault) (base : Sheet) → StepState r old new → StandingStep r step base old.tree new.tree → IsBacked base old → new.broken ≡ false → IsKeptOn base new
     by_result (Ok done) base state standing backed whole = record {
-      path_is = ap (λ (s : SessionState). s.path) state ∙ backed.path_is;
-      nonce_is = ap (λ (s : SessionState). s.nonce) state ∙ backed.nonce_is;
-      backs = standing.backs;
+      backed = record {
+        path_is = ap (λ (s : SessionState). s.path) state ∙ backed.path_is;
+        nonce_is = ap (λ (s : SessionState). s.nonce) state ∙ backed.nonce_is;
+        backs = standing.backs;
+      };
+      rests = λ calm. let e : true ≡ false = sym (ap (λ (s : SessionState). s.changed) state) ∙ calm in absurd (cc);
     }
     by_result (Err fault) base state standing backed whole = let e : true ≡ false = sym (ap (λ (s : SessionState). s.broken) state) ∙ whole in absurd (cc)
 
-    pub step_backed : (a : Honest) → before.honest ≡ Some a → (base : Sheet) → IsBacked base old → Stood old.key old.name base a.now → new.broken ≡ false → IsBacked base new
-    step_backed a is base backed stood whole = by_result one base goes.state (step_stands a is base stood backed) backed whole
+    pub step_kept : (a : Honest) → before.honest ≡ Some a → (base : Sheet) → IsBacked base old → Stood old.key old.name base a.now → new.broken ≡ false → IsKeptOn base new
+    step_kept a is base backed stood whole = by_result one base goes.state (step_stands a is base stood backed) backed whole
 
-    pub step_key : (r : Result (Unit {0}) TreeFault) → StepState r old new → (new.key ≡ old.key) × (new.name ≡ old.name)
-    step_key (Ok done) state = (ap (λ (s : SessionState). s.key) state, ap (λ (s : SessionState). s.name) state)
-    step_key (Err fault) state = (ap (λ (s : SessionState). s.key) state, ap (λ (s : SessionState). s.name) state)
-
-  -- nothing was asked, and the session is the same
-  pub idle_same : (new : SessionState) (before after : HostState) (a b : Honest) → before.honest ≡ Some a → after.honest ≡ Some b → old.broken ≡ false → new ≡ old → after ≡ before → Idles old new a b
-  idle_same new before after a b is is2 whole same stays = record {
-    unchanged = same_disk before after a b is is2 stays;
+  -- nothing was changed, and the session is the same
+  pub idle_reads : (new : SessionState) (a b : Honest) → old.broken ≡ false → new ≡ old → Unchanged a b → Idles old new a b
+  idle_reads new a b whole same only = record {
+    unchanged = only;
     key_is = ap (λ (s : SessionState). s.key) same;
     name_is = ap (λ (s : SessionState). s.name) same;
     whole = λ _. whole;
-    backed = λ base backed stood _. subst (λ (s : SessionState). IsBacked base s) (sym same) backed;
+    kept = λ base kept stood _. subst (λ (s : SessionState). IsKeptOn base s) (sym same) kept;
   }
 
+  -- nothing was asked
+  pub idle_same : (new : SessionState) (before after : HostState) (a b : Honest) → before.honest ≡ Some a → after.honest ≡ Some b → old.broken ≡ false → new ≡ old → after ≡ before → Idles old new a b
+  idle_same new before after a b is is2 whole same stays = idle_reads new a b whole same (same_disk before after a b is is2 stays)
+
   -- what a flush sealed
-  seals_on : (done : Bool) (nonce : List ℕ) (keys : List (List ℕ)) (new : SessionState) (before after : HostState) (a b : Honest) → before.honest ≡ Some a → after.honest ≡ Some b → (base : Sheet)
+  seals_on : (done : Bool) (nonce : List ℕ) (keys : List (List ℕ)) (new : SessionState) (before after : HostState) (a b : Honest) → before.honest ≡ Some a → after.honest ≡ Some b → (done ≡ true → new.tree.dirty ≡ []) → (base : Sheet)
       → Seals done base nonce keys old new before after → SealsOn done old new base a b
-  seals_on done nonce keys new before after a b is is2 base seals = record {
+  seals_on done nonce keys new before after a b is is2 clean base seals = record {
     next = seals.next;
     path_is = seals.is_next.path_is ∙ mine.path_is;
     sealed = at_both (Where (Stood old.key old.name base) (Ran (AsEither old.key old.name base seals.next) (StoodIf done old.key old.name seals.next))) before.honest after.honest a b is is2 (seals.named mine.named);
-    on_next = λ is_done whole stood. (seals.on_next is_done).backed;
+    on_next = λ is_done whole stood. let on = seals.on_next is_done in record { backed = on.backed; rests = λ calm. record { stands = on; clean = clean is_done } };
   }
 
   -- a flush that failed after its words
@@ -118,7 +127,7 @@ module _ (old : SessionState) (mine : IsOfScript old) where
     key_is = ap (λ (s : SessionState). s.key) state;
     name_is = ap (λ (s : SessionState). s.name) state;
     fails = λ _. ap (λ (s : SessionState). s.broken) state;
-    seals = λ base linked backed. seals_on false nonce keys new before after a b is is2 base (seals base linked backed);
+    seals = λ base linked backed. seals_on false nonce keys new before after a b is is2 (λ e. absurd (cc)) base (seals base linked backed);
   }
 
   -- how a flush ended: nothing was done, or it sealed or failed
@@ -126,7 +135,7 @@ module _ (old : SessionState) (mine : IsOfScript old) where
     idled : Idles old new a b → FlushEnded new a b
     sealed : (done : Bool) → SealsOnce done old new a b → FlushEnded new a b
 
-  seal_ended : (result : Result (Unit {0}) FlushFault) (nonce : List ℕ) (keys : List (List ℕ)) (new : SessionState) (before after : HostState) (a b : Honest) → before.honest ≡ Some a → after.honest ≡ Some b → old.broken ≡ false
+  pub seal_ended : (result : Result (Unit {0}) FlushFault) (nonce : List ℕ) (keys : List (List ℕ)) (new : SessionState) (before after : HostState) (a b : Honest) → before.honest ≡ Some a → after.honest ≡ Some b → old.broken ≡ false
       → Ran (LeavesApart old.name) (KeepsApart old.name) a b → IsImage b.now (reading b.now) → SealGoes result nonce keys old new before after → FlushEnded new a b
   seal_ended result nonce keys new before after a b is is2 whole others reads (node_short damage named short seals state said) = sealed false (failed_flush nonce keys new before after a b is is2 whole others reads seals state)
   seal_ended result nonce keys new before after a b is is2 whole others reads (call_failed stopped beside seals shape state said) = sealed false (failed_flush nonce keys new before after a b is is2 whole others reads seals state)
@@ -138,7 +147,7 @@ module _ (old : SessionState) (mine : IsOfScript old) where
         key_is = ap (λ (s : SessionState). s.key) state;
         name_is = ap (λ (s : SessionState). s.name) state;
         fails = λ e. absurd (cc);
-        seals = λ base linked backed. seals_on true nonce keys new before after a b is is2 base (seals base linked backed);
+        seals = λ base linked backed. seals_on true nonce keys new before after a b is is2 (λ _. settled.dirty) base (seals base linked backed);
       })
 
   pub flush_ended : (result : Result (Unit {0}) FlushFault) (new : SessionState) (before after : HostState) (random random' : WordsState) (a b : Honest) → before.honest ≡ Some a → after.honest ≡ Some b → old.broken ≡ false
@@ -175,7 +184,7 @@ module _ (old : SessionState) (mine : IsOfScript old) where
     pub seals : SealsEach true nonce keys old mid before after
     pub state : mid ≡ record old { nonce = nonce; drawn = None; tree = mid.tree; changed = false }
 
-  was_sealed : (nonce : List ℕ) (keys : List (List ℕ)) (mid : SessionState) (before after : HostState) → SealGoes (Ok tt) nonce keys old mid before after → WasFlushed mid before after
+  pub was_sealed : (nonce : List ℕ) (keys : List (List ℕ)) (mid : SessionState) (before after : HostState) → SealGoes (Ok tt) nonce keys old mid before after → WasFlushed mid before after
   was_sealed nonce keys mid before after (node_short damage named short seals state said) = absurd (cc)
   was_sealed nonce keys mid before after (call_failed stopped beside seals shape state said) = absurd (cc)
   was_sealed nonce keys mid before after (flushed tree done beside settled seals state said) = record { nonce = nonce; keys = keys; seals = seals; state = state }

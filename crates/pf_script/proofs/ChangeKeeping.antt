@@ -19,7 +19,8 @@ use Rattle.pf_session.specs.declared.fault.Written.{Written}
 use Rattle.pf_script.specs.BookDebts.{Unchanged}
 use Rattle.pf_script.specs.BookSeats.{IsOfScript, Covers, KeepsUnder}
 use Rattle.pf_script.proofs.ActKeeping.{Idles, idle_keeps, SealsOn, SealsOnce, seal_keeps}
-use Rattle.pf_script.proofs.CallKeeping.{both_with, at_both, back_to, read_image, reads_after, step_backed, step_key, idle_same, flush_ended, ended_keeps, WasFlushed, was_flushed}
+use Rattle.pf_script.proofs.OfScript.{step_names}
+use Rattle.pf_script.proofs.CallKeeping.{both_with, at_both, back_to, read_image, reads_after, step_kept, idle_same, flush_ended, ended_keeps, WasFlushed, was_flushed}
 
 module _ (old : SessionState) (mine : IsOfScript old) where
   -- a step with no flush before it
@@ -27,10 +28,10 @@ module _ (old : SessionState) (mine : IsOfScript old) where
       → StepGoes one step old new before after → Idles old new a b
   step_idles new one step before after a b is is2 whole goes = record {
     unchanged = at_both (Ran IsImage Stays) before.honest after.honest a b is is2 goes.disk;
-    key_is = (step_key old mine new one step before after goes one goes.state).0;
-    name_is = (step_key old mine new one step before after goes one goes.state).1;
+    key_is = (step_names old new one goes.state).0;
+    name_is = (step_names old new one goes.state).1;
     whole = λ _. whole;
-    backed = λ base backed stood whole_new. step_backed old mine new one step before after goes a is base backed stood whole_new;
+    kept = λ base kept stood whole_new. step_kept old mine new one step before after goes a is base kept.backed stood whole_new;
   }
 
   -- a step after a flush
@@ -47,14 +48,14 @@ module _ (old : SessionState) (mine : IsOfScript old) where
           path_is = seals.is_next.path_is ∙ mine.path_is;
           sealed = λ stood. reads_after (AsEither old.key old.name base seals.next) (StoodIf true old.key old.name seals.next) a m b (ran stood) only;
           on_next = λ _ whole stood.
-              step_backed mid mid_mine new one step between after goes m is_mid seals.next (seals.on_next refl).backed
+              step_kept mid mid_mine new one step between after goes m is_mid seals.next (seals.on_next refl).backed
               (subst (λ (s : SessionState). Stood s.key s.name seals.next m.now) (sym was.state) (ran stood).ends) whole;
         }
 
     flushed_step : (a b : Honest) → before.honest ≡ Some a → after.honest ≡ Some b → old.broken ≡ false → Ran (LeavesApart old.name) (KeepsApart old.name) a b → IsImage b.now (reading b.now) → SealsOnce true old new a b
     flushed_step a b is is2 whole others reads =
         let m = back_to (Ran IsImage Stays) between.honest after.honest b is2 goes.disk in
-        let same = step_key mid mid_mine new one step between after goes one goes.state in
+        let same = step_names mid new one goes.state in
         record {
           others = others;
           reads = reads;

@@ -49,7 +49,7 @@ module _ (key : List ℕ) (k : ℕ) (old : SessionState) where
       at_last [] (λ unforged. (Empty, closed_on sealed seat shown.shown shown.seat_is shown.broken_is (inr (shown.broken_is ∙ is)), no_file refl refl))
   idle_turns false is (inl clean) =
       whole_turns key false (lines.Close k) (seen_by [] [] false false) (replies.Closed old.broken) old None [] is
-      (λ sealed base among linked backed. at_last [] (λ unforged. (Empty, closed_on sealed (Own (seat_on base old)) (seat_on base old) refl refl (inl clean), no_file refl refl)))
+      (λ sealed base among linked kept. at_last [] (λ unforged. (Empty, closed_on sealed (Own (seat_on base old)) (seat_on base old) refl refl (inl clean), no_file refl refl)))
   idle_turns false is (inr broken) = absurd (false_true old.broken broken is)
 
   module _ (whole : old.broken ≡ false) (was_changed : old.changed ≡ true) where
@@ -57,7 +57,7 @@ module _ (key : List ℕ) (k : ℕ) (old : SessionState) where
     not_none own = ((λ other refuses. not_empty (Own own) own refl refuses.1), tt)
 
     lacked_turns : (words : List (List ℕ)) → SheetTurns key false (lines.Close k) (seen_by [] words false true) replies.WordsFault old None []
-    lacked_turns words sealed base among linked backed =
+    lacked_turns words sealed base among linked kept =
         at_last [] (λ unforged. (Empty, words_failed (record { host = refl; random = refl }) (no_last_flush k (seat_on base old) was_changed whole) refl, no_file refl refl))
 
     failed_turn : (sealed : List Sheet) (base next : Sheet) (these : List Answer) (words : List (List ℕ)) (blame : Blame) → Seals (seat_on base old) words next → BlamesFlush old.name these blame
@@ -69,13 +69,13 @@ module _ (key : List ℕ) (k : ℕ) (old : SessionState) where
 
     failed_turns : (these : List Answer) (words : List (List ℕ)) (blame : Blame) → SealsOwn old words (λ next. Unit {0}) → BlamesFlush old.name these blame
         → SheetTurns key false (lines.Close k) (seen_by these words (host_blamed blame) false) (flush_reply (fault_of blame)) old None these
-    failed_turns these words blame seals blames sealed base among linked backed =
-        let next = seals base linked backed in
+    failed_turns these words blame seals blames sealed base among linked kept =
+        let next = seals base linked kept.backed in
         at_last (flush_act old next.0 false ∷ []) (λ unforged. (Empty, failed_turn sealed base next.0 these words blame next.1 blames, no_file refl refl))
 
     done_turns : (new : SessionState) (these : List Answer) (words : List (List ℕ)) → SealsOwn old words (λ next. StandsOn next new) → SheetTurns key false (lines.Close k) (seen_by these words false false) (replies.Closed false) old None these
-    done_turns new these words seals sealed base among linked backed =
-        let next = seals base linked backed in
+    done_turns new these words seals sealed base among linked kept =
+        let next = seals base linked kept.backed in
         let own = seat_on base old in
         at_last (flush_act old next.0 true ∷ []) (λ unforged. (Empty, accepted (not_none own) (record { host = refl; random = refl }) (flushes_last k own next.0 was_changed whole next.1), no_file refl refl))
 

@@ -58,4 +58,4 @@ module _ (key : List ℕ) (name : Name) (target : IsTarget name) where
       by_case a b is is2 ran (created nonce between good looks drawn asked creates is_fresh said) =
           subst (λ (r : Result SessionState CreateFault). KeepsUnder CoversNone (CoversMade r) (λ n. n ≡ name) a b) (sym said)
           (made_keeps true nonce (Covers (fresh key name name nonce false)) a b ran (read_image after.honest b is2 reads) (at_both (CreatesOn true key name (empty_sheet name nonce)) before.honest after.honest a b is is2 creates)
-          (λ book seats entry whole is_entry. (empty_sheet name nonce, seat_is_left (Creation (seat_of key name (empty_sheet name nonce))) seats, is_fresh.stands.backed)))
+          (λ book seats entry whole is_entry. (empty_sheet name nonce, seat_is_left (Creation (seat_of key name (empty_sheet name nonce))) seats, record { backed = is_fresh.stands.backed; rests = λ _. record { stands = is_fresh.stands; clean = refl } })))

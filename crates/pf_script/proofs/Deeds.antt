@@ -13,7 +13,7 @@ use Rattle.pf_session.specs.Aside.{Apart}
 use Rattle.pf_script.specs.BookDebts.{IsApart, LeavesOthers, SparesOthers, Flushes, Creates, KeepsOpened, OpensOn, SeatsAfter, IsLeft, seat_of}
 use Rattle.pf_session.specs.Creating.{AbsentOr}
 use Rattle.pf_session.specs.Sealing.{StoodIf}
-use Rattle.pf_script.proofs.Apartness.{apart_name, apart_recovery}
+use Rattle.pf_session.proofs.Apartness.{apart_name, apart_recovery}
 use Rattle.pf_script.proofs.NameMaps.{differ}
 use Rattle.pf_script.proofs.Ruling.{ready_stood}
 use Rattle.pf_script.proofs.Leaving.{of_images, of_image, stood_as}

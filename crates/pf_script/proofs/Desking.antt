@@ -24,11 +24,12 @@ use Rattle.pf_script.specs.Turns.{SeatTurn, on_seat, on_carried, SaysTaken}
 use Rattle.pf_script.specs.Words.{SEATS}
 use Rattle.pf_script.specs.declared.line.ScriptLine.{ScriptLine}
 use Rattle.pf_script.specs.declared.reply.Reply.{Reply}
+use Rattle.pf_script.proofs.Refusing.{keeps_same}
 use Rattle.pf_script.proofs.Showing.{shows_none, shows_some, shows_more}
 use Rattle.pf_script.proofs.StepKeeping.{keeps_more, others_too, covers_less}
 
 -- a seat is the k-th, or another one
-same_or_not : (j k : ℕ) → (j ≡ k) ⊎ (j ≢ k)
+pub same_or_not : (j k : ℕ) → (j ≡ k) ⊎ (j ≢ k)
 same_or_not j k = ⊎_elim (λ e. inl e.1) (λ e. inr e.1) (eqb_tells j k)
 
 -- what follows from what holds in the end
@@ -58,12 +59,8 @@ covers_of o s book seats is covers = subst (λ (x : Option SessionState). Covers
 seated_of : (key : List ℕ) (o : Option SessionState) (s : SessionState) → o ≡ Some s → IsSeatOf key o → IsSeated key s
 seated_of key o s is seated = subst (λ (x : Option SessionState). IsSeatOf key x) is seated
 
-has_name_of : (o : Option SessionState) (s : SessionState) → o ≡ Some s → HasItsName o s.name
+pub has_name_of : (o : Option SessionState) (s : SessionState) → o ≡ Some s → HasItsName o s.name
 has_name_of o s is = subst (λ (x : Option SessionState). HasItsName x s.name) (sym is) refl
-
-keeps_same : (o : Option SessionState) → KeepsSession o o
-keeps_same None = refl
-keeps_same (Some s) = refl
 
 broken_at : (o : Option SessionState) → IsBrokenSession o → (s : SessionState) × (o ≡ Some s) × (s.broken ≡ true)
 broken_at None none = absurd none
@@ -74,20 +71,20 @@ abbrev pub SaysOther : DeskState → ℕ → Option Name → Bool → Type 0
 SaysOther old k given taken = IfSome given (λ name. IsTrue taken ↔ OtherHas old k name)
 
 module _ (old : DeskState) (desk : IsDesk old) (k : ℕ) (below : k < SEATS) (taken : Bool) (line : ScriptLine) (names : seat_of_line line ≡ Some k) (says : SaysOther old k (name_of_line line) taken) (left : Option SessionState) where
-  abbrev new : DeskState
+  abbrev pub new : DeskState
   new = record { key = old.key; seats = set old.seats k left }
 
   within : k < length old.seats
   within = subst (λ n. k < n) (sym desk.eight) below
 
-  here : session_at new k ≡ left
+  pub here : session_at new k ≡ left
   here = get_or-set_same old.seats k left None within
 
-  there : (j : ℕ) → j ≢ k → session_at new j ≡ session_at old j
+  pub there : (j : ℕ) → j ≢ k → session_at new j ≡ session_at old j
   there j apart = get_or-set_other old.seats k j left None apart
 
   -- another seat's name is not concerned
-  others_apart : (j : ℕ) (s : SessionState) → j ≢ k → session_at old j ≡ Some s → ¬ (Concerns taken line (session_at old k) s.name)
+  pub others_apart : (j : ℕ) (s : SessionState) → j ≢ k → session_at old j ≡ Some s → ¬ (Concerns taken line (session_at old k) s.name)
   others_apart j s apart is (inl has) = apart (by_old (session_at old k) refl has)
     where
       by_old : (o : Option SessionState) → session_at old k ≡ o → HasItsName o s.name → j ≡ k

@@ -7,6 +7,7 @@ use Rattle.pf_io.specs.declared.faults.WordsFault.{WordsFault}
 use Rattle.pf_io.proofs.Telling.{both_same, told_none}
 use Rattle.pf_session.specs.Asking.{IsTaken as AreTaken}
 use Rattle.pf_session.specs.Backing.{IsBacked}
+use Rattle.pf_session.specs.Moving.{IsKeptOn}
 use Rattle.pf_session.specs.Drawing.{DrawGoes, drawn_before, drawn_now, not_drawn}
 use Rattle.pf_session.specs.State.{SessionState}
 use Rattle.pf_script.specs.BookSeats.{Covers, KeepsUnder}
@@ -30,26 +31,31 @@ draw_result (Err fault) = replies.WordsFault
 
 module _ (key : List ℕ) (k : ℕ) (old : SessionState) (whole : old.broken ≡ false) (new : SessionState) where
   again_turns : (nonce : List ℕ) → old.drawn ≡ Some nonce → new ≡ old → SheetTurns key false (lines.Draw k) (seen_by [] [] false false) (replies.Drawn nonce) old (Some new) []
-  again_turns nonce was same sealed base among linked backed =
+  again_turns nonce was same sealed base among linked kept =
       let own = seat_on base old in
       at_last [] (λ unforged. (
         Own own,
         accepted (none_then [] (Own own) own refl whole tt) (record { host = refl; random = refl }) (drawn_again k own nonce was refl),
-        shows_same sealed (Own own) (Some new) (subst (λ (s : SessionState). Shows sealed (Own own) (Some s)) (sym same) (whole_file base old whole among linked backed refl refl)),
+        shows_same sealed (Own own) (Some new) (subst (λ (s : SessionState). Shows sealed (Own own) (Some s)) (sym same) (whole_file base old whole among linked kept refl refl)),
       ))
 
   lost_turns : (words : List (List ℕ)) → old.drawn ≡ None → new ≡ old → SheetTurns key false (lines.Draw k) (seen_by [] words false true) replies.WordsFault old (Some new) []
-  lost_turns words none same sealed base among linked backed =
+  lost_turns words none same sealed base among linked kept =
       let own = seat_on base old in
       at_last [] (λ unforged. (
         Own own,
         words_failed (record { host = refl; random = refl }) (no_nonce k own none) refl,
-        shows_same sealed (Own own) (Some new) (subst (λ (s : SessionState). Shows sealed (Own own) (Some s)) (sym same) (whole_file base old whole among linked backed refl refl)),
+        shows_same sealed (Own own) (Some new) (subst (λ (s : SessionState). Shows sealed (Own own) (Some s)) (sym same) (whole_file base old whole among linked kept refl refl)),
       ))
+
+  pub with_drawn : (base : Sheet) (drawn : Option (List ℕ)) → IsKeptOn base old → IsKeptOn base (record old { drawn = drawn })
+  with_drawn base drawn kept =
+      let with : IsBacked base (record old { drawn = drawn }) = record { path_is = kept.backed.path_is; nonce_is = kept.backed.nonce_is; backs = kept.backed.backs } in
+      record { backed = with; rests = λ unchanged. record { stands = record { backed = with; now_is = (kept.rests unchanged).stands.now_is }; clean = (kept.rests unchanged).clean } }
 
   new_turns : (first second : List ℕ) → old.drawn ≡ None → new ≡ record old { drawn = Some (first ++ second) }
       → SheetTurns key false (lines.Draw k) (seen_by [] (first ∷ second ∷ []) false false) (replies.Drawn (first ++ second)) old (Some new) []
-  new_turns first second none same sealed base among linked backed =
+  new_turns first second none same sealed base among linked kept =
       let own = seat_on base old in
       let drawn : SessionState = record old { drawn = Some (first ++ second) } in
       at_last [] (λ unforged. (
@@ -57,7 +63,7 @@ module _ (key : List ℕ) (k : ℕ) (old : SessionState) (whole : old.broken ≡
         accepted (none_then [] (Own own) own refl whole tt) (record { host = refl; random = refl }) (draws_now k own first second none refl),
         shows_same sealed (Own (record own { drawn = Some (first ++ second) })) (Some new)
             (subst (λ (s : SessionState). Shows sealed (Own (record own { drawn = Some (first ++ second) })) (Some s)) (sym same)
-            (whole_file base drawn whole among linked (record { path_is = backed.path_is; nonce_is = backed.nonce_is; backs = backed.backs }) refl refl)),
+            (whole_file base drawn whole among linked (with_drawn base (Some (first ++ second)) kept) refl refl)),
       ))
 
 pub draw_goes : (key : List ℕ) (k : ℕ) (old new : SessionState) (result : Result (List ℕ) WordsFault) (host : HostState) (random random' : WordsState) → IsSeated key old → old.broken ≡ false

@@ -36,18 +36,18 @@ flush_result (Ok ok) = replies.Flushed
 flush_result (Err fault) = flush_reply fault
 
 -- a session that was flushed, on the sheet that it sealed
-pub resealed_is : (base : Sheet) (old new : SessionState) (words : List (List ℕ)) (next : Sheet) → Seals (seat_on base old) words next → StandsOn next new → {nonce : List ℕ} {tree : TreeState}
-    → new ≡ record old { nonce = nonce; drawn = None; tree = tree; changed = false } → new.tree.dirty ≡ [] → Own (resealed (seat_on base old) next) ≡ Own (seat_on next new)
-resealed_is base old new words next seals on same dirty =
-    ap Own (own_same next old.key new.key old.name new.name (now base old.tree) (now next new.tree) [] new.tree.dirty false new.changed None new.drawn old.broken new.broken
-        (sym (ap (λ (s : SessionState). s.key) same)) (sym (ap (λ (s : SessionState). s.name) same)) (sym seals.next.content_is ∙ sym on.now_is) (sym dirty)
-        (sym (ap (λ (s : SessionState). s.changed) same)) (sym (ap (λ (s : SessionState). s.drawn) same)) (sym (ap (λ (s : SessionState). s.broken) same)))
+pub resealed_own : (base : Sheet) (old new : SessionState) (words : List (List ℕ)) (next : Sheet) → Seals (seat_on base old) words next → StandsOn next new → {nonce : List ℕ} {tree : TreeState}
+    → new ≡ record old { nonce = nonce; drawn = None; tree = tree; changed = false } → new.tree.dirty ≡ [] → resealed (seat_on base old) next ≡ seat_on next new
+resealed_own base old new words next seals on same dirty =
+    own_same next old.key new.key old.name new.name (now base old.tree) (now next new.tree) [] new.tree.dirty false new.changed None new.drawn old.broken new.broken
+    (sym (ap (λ (s : SessionState). s.key) same)) (sym (ap (λ (s : SessionState). s.name) same)) (sym seals.next.content_is ∙ sym on.now_is) (sym dirty)
+    (sym (ap (λ (s : SessionState). s.changed) same)) (sym (ap (λ (s : SessionState). s.drawn) same)) (sym (ap (λ (s : SessionState). s.broken) same))
 
 -- the sheet that a call sealed is among those that were sealed
 pub shows_next : (sealed : List Sheet) (base : Sheet) (old new : SessionState) (words : List (List ℕ)) (next : Sheet) → old.broken ≡ false → Seals (seat_on base old) words next → StandsOn next new → {nonce : List ℕ} {tree : TreeState}
     → new ≡ record old { nonce = nonce; drawn = None; tree = tree; changed = false } → new.tree.dirty ≡ [] → Shows (sealed ++ next ∷ []) (Own (resealed (seat_on base old) next)) (Some new)
 shows_next sealed base old new words next whole seals on same dirty =
-    whole_file next new (ap (λ (s : SessionState). s.broken) same ∙ whole) (Contains-push sealed next) seals.next.linked on.backed (resealed_is base old new words next seals on same dirty) refl
+    whole_file next new (ap (λ (s : SessionState). s.broken) same ∙ whole) (Contains-push sealed next) seals.next.linked (record { backed = on.backed; rests = λ unchanged. record { stands = on; clean = dirty } }) (ap Own (resealed_own base old new words next seals on same dirty)) refl
 
 -- the act of a flush
 abbrev pub flush_act : SessionState → Sheet → Bool → Act
@@ -57,11 +57,11 @@ module _ (key : List ℕ) (k : ℕ) (old : SessionState) (seated : IsSeated key 
     (books : OnDisk before after (KeepsUnder (Covers old) (Covers new) (λ name. name ≡ old.name))) (goes : IsOfScript new) where
   -- no word came
   lacked_turns : (words : List (List ℕ)) → new ≡ old → SheetTurns key false (lines.Flush k) (seen_by [] words false true) replies.WordsFault old (Some new) []
-  lacked_turns words same sealed base among linked backed =
+  lacked_turns words same sealed base among linked kept =
       at_last [] (λ unforged. (
         Own (seat_on base old),
         words_failed (record { host = refl; random = refl }) (no_flush k (seat_on base old)) refl,
-        shows_same sealed (Own (seat_on base old)) (Some new) (subst (λ (s : SessionState). Shows sealed (Own (seat_on base old)) (Some s)) (sym same) (whole_file base old whole among linked backed refl refl)),
+        shows_same sealed (Own (seat_on base old)) (Some new) (subst (λ (s : SessionState). Shows sealed (Own (seat_on base old)) (Some s)) (sym same) (whole_file base old whole among linked kept refl refl)),
       ))
 
   -- it failed after its words
@@ -74,8 +74,8 @@ module _ (key : List ℕ) (k : ℕ) (old : SessionState) (seated : IsSeated key 
 
   failed_turns : (these : List Answer) (words : List (List ℕ)) (blame : Blame) → SealsOwn old words (λ next. Unit {0}) → BlamesFlush old.name these blame → new.key ≡ old.key → new.name ≡ old.name → new.broken ≡ true
       → SheetTurns key false (lines.Flush k) (seen_by these words (host_blamed blame) false) (flush_reply (fault_of blame)) old (Some new) these
-  failed_turns these words blame seals blames key_is name_is broken sealed base among linked backed =
-      let next = seals base linked backed in
+  failed_turns these words blame seals blames key_is name_is broken sealed base among linked kept =
+      let next = seals base linked kept.backed in
       at_last (flush_act old next.0 false ∷ []) (λ unforged. (
         Own (broken_seat (seat_on base old)),
         failed_turn sealed base next.0 these words blame next.1 blames,
@@ -85,8 +85,8 @@ module _ (key : List ℕ) (k : ℕ) (old : SessionState) (seated : IsSeated key 
   -- it was done
   done_turns : (these : List Answer) (words : List (List ℕ)) → SealsOwn old words (λ next. StandsOn next new) → {nonce : List ℕ} {tree : TreeState} → new ≡ record old { nonce = nonce; drawn = None; tree = tree; changed = false }
       → new.tree.dirty ≡ [] → SheetTurns key false (lines.Flush k) (seen_by these words false false) replies.Flushed old (Some new) these
-  done_turns these words seals same dirty sealed base among linked backed =
-      let next = seals base linked backed in
+  done_turns these words seals same dirty sealed base among linked kept =
+      let next = seals base linked kept.backed in
       let own = seat_on base old in
       at_last (flush_act old next.0 true ∷ []) (λ unforged. (
         Own (resealed own next.0),

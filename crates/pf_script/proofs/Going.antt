@@ -10,7 +10,7 @@ use Rattle.pf_session.specs.Reopening.{ReopensAs, LeftAt, Stood}
 use Rattle.pf_script.specs.Book.{Book, Entry, Alone, Partner, Leaving, Fits, FitsBook, Seal, IsSeated, Agrees}
 use Rattle.pf_session.specs.Aside.{Apart}
 use Rattle.pf_script.specs.BookDebts.{KeepsOthers}
-use Rattle.pf_script.proofs.Apartness.{apart_name, apart_recovery}
+use Rattle.pf_session.proofs.Apartness.{apart_name, apart_recovery}
 use Rattle.pf_script.proofs.NameMaps.{name_or, set_at-same, set_at-other}
 use Rattle.pf_script.proofs.Ruling.{settled_same, ready_same}
 use Rattle.pf_script.proofs.Resting.{Rest, stayed, was_freed, rest_fits}

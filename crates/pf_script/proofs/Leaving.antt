@@ -7,7 +7,8 @@ use Rattle.node_tree.specs.Sheet.{Sheet}
 use Rattle.pf_session.specs.Reopening.{ReopensAs, LeftAt, Stood}
 use Rattle.pf_script.specs.Book.{HasAt}
 use Rattle.pf_io.proofs.Images.{settled_reads}
-use Rattle.pf_script.proofs.Apartness.{longer, apart_recovery}
+use Rattle.pf_session.proofs.Apartness.{apart_recovery}
+use Rattle.pf_session.proofs.Names.{recovery_apart}
 use Rattle.pf_script.proofs.NameMaps.{name_or, set_at-same, set_at-other}
 
 -- an image with other bytes at one name
@@ -28,7 +29,7 @@ is_with_left disk image name here log is left = image_with disk (set_at (recover
 has_left : (image : Image) (name : Name) (here log : Option (List ℕ)) → HasAt (with_left name here log image) name here log
 has_left image name here log = record {
   file = sym (set_at-same name here (set_at (recovery_of name) log image));
-  recovery = sym (set_at-other name (recovery_of name) here (set_at (recovery_of name) log image) (longer name) ∙ set_at-same (recovery_of name) log image);
+  recovery = sym (set_at-other name (recovery_of name) here (set_at (recovery_of name) log image) (recovery_apart name) ∙ set_at-same (recovery_of name) log image);
 }
 
 -- what each image of a disk has at a name

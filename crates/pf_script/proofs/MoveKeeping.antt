@@ -6,7 +6,8 @@ use Rattle.pf_io.specs.Names.{IsTarget}
 use Rattle.pf_io.specs.Moments.{Honest, Ran}
 use Rattle.node_tree.specs.Sheet.{Sheet, IsLinked}
 use Rattle.pf_session.specs.Aside.{Apart}
-use Rattle.pf_session.specs.Backing.{IsBacked}
+use Rattle.pf_session.specs.Backing.{RestsOn}
+use Rattle.pf_session.specs.Moving.{IsKeptOn}
 use Rattle.pf_session.specs.State.{SessionState}
 use Rattle.pf_script.specs.Book.{Entry, Seal}
 use Rattle.pf_script.specs.BookActs.{Move, Act, Among, moved, freed, without_partner}
@@ -20,7 +21,7 @@ use Rattle.pf_script.proofs.ActKeeping.{no_sheet, one_act, one_spares}
 pub record MovesOn (done : Bool) (old new : SessionState) (to : Name) (base : Sheet) (a b : Honest) : Type 0 where
   pub next : Sheet
   pub moves : Moves done old.name base (seat_of old.key to next) a b
-  pub on_next : done ≡ true → IsBacked next new
+  pub on_next : done ≡ true → IsKeptOn next new
 
 -- A move of a whole session, of which nothing is to be flushed. In any case the new name was absent.
 pub record MovesOnce (done : Bool) (old new : SessionState) (to : Name) (a b : Honest) : Type 0 where
@@ -28,13 +29,14 @@ pub record MovesOnce (done : Bool) (old new : SessionState) (to : Name) (a b : H
   pub reads : IsImage b.now (reading b.now)
   pub absent : a.now to ≡ None
   pub whole : old.broken ≡ false
+  pub calm : old.changed ≡ false
   pub key_is : new.key ≡ old.key
   pub name_is : done ≡ true → new.name ≡ to
   pub fails : done ≡ false → new.broken ≡ true
-  pub moved : (base : Sheet) → IsLinked base → IsBacked base old → MovesOn done old new to base a b
+  pub moved : (base : Sheet) → IsLinked base → RestsOn base old → MovesOn done old new to base a b
 
-pub move_keeps : (done : Bool) (old new : SessionState) (to : Name) (a b : Honest) → IsTarget old.name → IsTarget to → MovesOnce done old new to a b → KeepsUnder (Covers old) (Covers new) (λ name. (name ≡ to) ⊎ (name ≡ old.name)) a b
-move_keeps done old new to a b target of_to once book seats agrees reads covers = by_entry (book old.name) refl
+pub moved_keeps : (done : Bool) (old new : SessionState) (to : Name) (a b : Honest) → IsTarget old.name → IsTarget to → MovesOnce done old new to a b → KeepsUnder (Covers old) (Covers new) (λ name. (name ≡ to) ⊎ (name ≡ old.name)) a b
+moved_keeps done old new to a b target of_to once book seats agrees reads covers = by_entry (book old.name) refl
   where
     seal_as : Sheet → Seal
     seal_as sheet = seat_of old.key to sheet
@@ -63,7 +65,7 @@ move_keeps done old new to a b target of_to once book seats agrees reads covers 
     covered_none false failed entry was whole is = let e : true ≡ false = sym (once.fails failed) ∙ whole in absurd (cc)
 
     covered : (d : Bool) → done ≡ d → {base : Sheet} (on : MovesOn done old new to base a b) → new.broken ≡ false
-        → (sheet : Sheet) × Contains (seats_after (Move old.name (seal_as on.next)) done seats) (seat_of new.key new.name sheet) × IsBacked sheet new
+        → (sheet : Sheet) × Contains (seats_after (Move old.name (seal_as on.next)) done seats) (seat_of new.key new.name sheet) × IsKeptOn sheet new
     covered true is on whole =
         let deed = Move old.name (seal_as on.next) in (
           on.next,
@@ -87,7 +89,7 @@ move_keeps done old new to a b target of_to once book seats agrees reads covers 
     by_entry (Some entry) was =
         let seat = covers entry once.whole was in
         let stood = (agrees.stand (seat_of old.key old.name seat.0) entry seat.1 was).stood in
-        let on = once.moved seat.0 stood.as_sheet.stands.linked seat.2 in
+        let on = once.moved seat.0 stood.as_sheet.stands.linked (seat.2.rests once.calm) in
         let deed = Move old.name (seal_as on.next) in (
           acts_of on.next,
           seats_after deed done seats,

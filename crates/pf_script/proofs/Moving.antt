@@ -6,14 +6,15 @@ use Rattle.pf_io.specs.Names.{recovery_of, IsTarget}
 use Rattle.pf_io.specs.Moments.{Honest, Ran}
 use Rattle.pf_io.specs.Replay.{set_at}
 use Rattle.node_tree.specs.Sheet.{Sheet}
+use Rattle.pf_session.specs.Moving.{MovedAs, still_there, was_moved, MovedIf}
+use Rattle.pf_session.specs.Moving as moving
 use Rattle.pf_session.specs.Restored.{Ready}
 use Rattle.pf_session.specs.Reopening.{LeftAt}
 use Rattle.pf_script.specs.Book.{HasAt, Book, Entry, Alone, Partner, Leaving, Fits, FitsBook, ImageFits, IsMoved, first_alone, second_alone, both_there, Seal, IsSeated, Agrees}
 use Rattle.pf_script.specs.BookActs.{Move, Names, booked, moved, freed, without_partner}
 use Rattle.pf_session.specs.Aside.{Apart}
-use Rattle.pf_script.specs.BookDebts.{IsApart, LeavesOthers, KeepsOthers, SparesOthers, MovedAs, still_there, was_moved, MovedIf, Moves, SeatsAfter, IsLeft, seat_of}
-use Rattle.pf_script.specs.BookDebts as debts
-use Rattle.pf_script.proofs.Apartness.{apart_name, apart_recovery}
+use Rattle.pf_script.specs.BookDebts.{IsApart, LeavesOthers, KeepsOthers, SparesOthers, Moves, SeatsAfter, IsLeft, seat_of}
+use Rattle.pf_session.proofs.Apartness.{apart_name, apart_recovery}
 use Rattle.pf_script.proofs.NameMaps.{name_or, set_at-same, set_at-other}
 use Rattle.pf_script.proofs.Ruling.{never, ready_same}
 use Rattle.pf_script.proofs.Leaving.{of_images_two}
@@ -99,7 +100,7 @@ module _ (book : Book) (before after : List Seal) (old new : Honest) (agrees : A
     move_seat : IsSeated (seat_of seal.key from base) entry old.now
     move_seat = agrees.stand (seat_of seal.key from base) entry in_seat was
 
-    pub move_ran : Ran (λ disk. MovedAs seal.key from base seal.name seal.sheet) (MovedIf done from seal) old new
+    pub move_ran : Ran (λ disk. MovedAs seal.key from base seal.name seal.sheet) (MovedIf done seal.key from seal.name seal.sheet) old new
     move_ran = moves.sealed move_seat.stood
 
     move_was : book from ≡ Some (Alone seal.key (Some base.content) None true)
@@ -133,8 +134,8 @@ module _ (book : Book) (before after : List Seal) (old new : Honest) (agrees : A
     moved_as : (image : Image) → MovedAs seal.key from base seal.name seal.sheet image → IsMoved seal.key seal.sheet.content from seal.name (image from) (image (recovery_of from)) (image seal.name) (image (recovery_of seal.name))
     moved_as image (still_there is gone) = first_alone (record { sheet = base; path_is = move_seat.path_is; content_is = sym moves.content_is; as_sheet = is }) gone
     moved_as image (was_moved gone is) = second_alone gone (record { sheet = seal.sheet; path_is = moves.path_is; content_is = refl; as_sheet = is })
-    moved_as image (debts.both_there may is is2) =
-        both_there may (record { sheet = base; path_is = move_seat.path_is; content_is = sym moves.content_is; as_sheet = is })
+    moved_as image (moving.both_there is is2) =
+        both_there tt (record { sheet = base; path_is = move_seat.path_is; content_is = sym moves.content_is; as_sheet = is })
         (record { sheet = seal.sheet; path_is = moves.path_is; content_is = refl; as_sheet = is2 })
 
     abbrev IsLeftMoved : Option (List ℕ) → Option (List ℕ) → Option (List ℕ) → Option (List ℕ) → Type 0
@@ -199,7 +200,7 @@ module _ (book : Book) (before after : List Seal) (old new : Honest) (agrees : A
         (subst (λ (o : Option (List ℕ)). IsLeftMoved (image from) (image (recovery_of from)) (image seal.name) o) (sym has2.recovery) (moved_as image as_moved))))))
 
     -- accepted
-    moved_agrees : MovedIf true from seal old.now new.now → SeatsAfter (Move from seal) true before after → Agrees (booked (Move from seal) true book) after new.now
+    moved_agrees : MovedIf true seal.key from seal.name seal.sheet old.now new.now → SeatsAfter (Move from seal) true before after → Agrees (booked (Move from seal) true book) after new.now
     moved_agrees ends seats =
         subst (λ (b : Book). Agrees b after new.now) (sym (ap (λ (o : Option Entry). moved from seal true o book) move_was))
         (one_agrees book before old.now agrees reads seal.name cleared (Neither from seal.name) cleared_others (Some (Alone seal.key (Some seal.sheet.content) None true)) new.now after keeps_far spares.targets.0 (seat_far true seats)
@@ -291,6 +292,6 @@ module _ (book : Book) (before after : List Seal) (old new : Honest) (agrees : A
     pub known_move_agrees : SeatsAfter (Move from seal) done before after → Agrees (booked (Move from seal) done book) after new.now
     known_move_agrees = by_done done move_ran.ends
       where
-        by_done : (d : Bool) → MovedIf d from seal old.now new.now → SeatsAfter (Move from seal) d before after → Agrees (booked (Move from seal) d book) after new.now
+        by_done : (d : Bool) → MovedIf d seal.key from seal.name seal.sheet old.now new.now → SeatsAfter (Move from seal) d before after → Agrees (booked (Move from seal) d book) after new.now
         by_done true ends seats = moved_agrees ends seats
         by_done false ends seats = halved_agrees seats

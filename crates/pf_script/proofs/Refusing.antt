@@ -5,7 +5,9 @@ use Rattle.node_tree.specs.Sheet.{Sheet}
 use Rattle.node_tree.specs.Unforged.{Unforged}
 use Rattle.pf_io.specs.Disk.{Name}
 use Rattle.pf_io.specs.Host.{Answer, HostState, Both, IsMore}
-use Rattle.pf_io.specs.Moments.{Honest}
+use Rattle.pf_io.specs.Disk.{IsImage}
+use Rattle.pf_io.specs.Moments.{Honest, Ran}
+use Rattle.pf_io.specs.Steps.{Stays}
 use Rattle.pf_io.specs.Words.{WordsState}
 use Rattle.pf_io.specs.declared.faults.Memory.{Memory}
 use Rattle.pf_io.proofs.Telling.{both_same, told_none, told_by}
@@ -14,7 +16,7 @@ use Rattle.pf_session.specs.State.{SessionState}
 use Rattle.pf_script.specs.BookActs.{Act}
 use Rattle.pf_script.specs.BookSeats.{Covering, KeepsUnder}
 use Rattle.pf_script.specs.Desk.{IsSeatOf, IsSeated, Shows}
-use Rattle.pf_script.specs.DeskSteps.{Unfolds, in_the_end, then_more, WasSeen, SeatAsks, CoversSome, Concerns, SeatGoes}
+use Rattle.pf_script.specs.DeskSteps.{Unfolds, in_the_end, then_more, WasSeen, SeatAsks, CoversSome, Concerns, KeepsSession, TakesNone, SeatGoes}
 use Rattle.pf_script.specs.Rules.{Rule, IsFirst, NoneRefuses, IsBroken, rules, seated_rules}
 use Rattle.pf_script.specs.Script.{OwnSeat, Seat, Empty, Own, sheets_of}
 use Rattle.pf_script.specs.Turns.{Seen, SeatTurn, refused, on_carried}
@@ -63,6 +65,23 @@ module _ (key : List ℕ) (taken : Bool) (line : ScriptLine) (why : Why) (old : 
     seated = seated;
     named = λ name has. inl has;
   }
+
+-- a session is kept
+pub keeps_same : (old : Option SessionState) → KeepsSession old old
+keeps_same None = refl
+keeps_same (Some own) = refl
+
+-- memory was wanting before anything was done
+pub nothing_wanting : (key : List ℕ) (taken : Bool) (line : ScriptLine) (fault : Memory) (old : Option SessionState) (host : HostState) (words : WordsState) → ¬ (TakesNone line) → IsSeatOf key old
+    → SeatGoes key taken line (Err fault) old old host host words words
+nothing_wanting key taken line fault old host words takes seated = record {
+  asks = tt;
+  books = both_same (KeepsUnder (CoversSome old) (CoversSome old) (Concerns taken line old)) host.honest host.honest refl (same_keeps (CoversSome old) (Concerns taken line old));
+  counts = (refl, refl);
+  wants = record { takes = takes; ends = inl (record { seat = keeps_same old; disk = both_same (Ran IsImage Stays) host.honest host.honest refl unchanged_now; words = refl }) };
+  seated = seated;
+  named = λ name has. inl has;
+}
 
 -- the first rules of a line that needs a file
 pub first_empty : (rest : List Rule) (seat : Seat) → seat ≡ Empty → IsFirst (seated_rules seat ++ rest) whys.SeatEmpty

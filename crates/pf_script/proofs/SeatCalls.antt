@@ -3,16 +3,17 @@ use Rattle.std.proofs.Common.{◌≡◌, inl, inr, Bool, true, false, List, [], 
 use Rattle.std.proofs.lemmas.List.{append-nil}
 use Rattle.std.specs.Prelude.{Contains}
 use Rattle.node_tree.specs.Sheet.{Sheet, IsLinked}
-use Rattle.pf_session.specs.Backing.{IsBacked}
+use Rattle.pf_session.specs.Moving.{IsKeptOn}
 use Rattle.pf_io.specs.Disk.{Name}
-use Rattle.pf_io.specs.Host.{Answer, HostState, OnDisk}
+use Rattle.pf_io.specs.Host.{Answer, HostState, WhereTold, OnDisk}
 use Rattle.pf_io.specs.Words.{WordsState}
+use Rattle.pf_io.specs.declared.faults.Memory.{Memory}
 use Rattle.pf_io.proofs.Telling.{told_by, both_weaker}
 use Rattle.pf_session.specs.State.{SessionState}
-use Rattle.pf_script.specs.BookSeats.{Covers, CoversNone, KeepsUnder}
+use Rattle.pf_script.specs.BookSeats.{Covering, Covers, CoversNone, KeepsUnder}
 use Rattle.pf_script.specs.BookActs.{Act}
 use Rattle.pf_script.specs.Desk.{IsSeated, Shows, seat_on}
-use Rattle.pf_script.specs.DeskSteps.{Unfolds, CountsFault, SeatTurns, SeatAsks, CoversSome, Concerns, HasItsName, SeatGoes, is_host_fault, is_words_fault}
+use Rattle.pf_script.specs.DeskSteps.{Unfolds, CountsFault, SeatTurns, SeatAsks, CoversSome, Concerns, HasItsName, CountsReply, SeatWants, SeatGoes, is_host_fault, is_words_fault}
 use Rattle.pf_script.specs.Script.{OwnSeat, Seat, Own, sheets_of}
 use Rattle.pf_script.specs.SeatReplies.{flush_reply}
 use Rattle.pf_script.specs.Turns.{Seen, SeatTurn, on_carried, Blame, ByHost, ByDamage}
@@ -44,7 +45,7 @@ own_same sheet key key' name name' content content' dirty dirty' changed changed
 -- the turns of a whole session, by the sheet that it stands on
 abbrev pub SheetTurns : List ℕ → Bool → ScriptLine → Seen → Reply → SessionState → Option SessionState → List Answer → Type 0
 SheetTurns key taken line seen reply old new given =
-    (sealed : List Sheet) (base : Sheet) → Contains sealed base → IsLinked base → IsBacked base old
+    (sealed : List Sheet) (base : Sheet) → Contains sealed base → IsLinked base → IsKeptOn base old
     → Unfolds key sealed (λ acts. (left : Seat) × SeatTurn (on_carried key sealed) key taken (Own (seat_on base old)) line seen reply acts left × Shows (sealed ++ sheets_of acts) left new) given []
 
 pub whole_turns : (key : List ℕ) (taken : Bool) (line : ScriptLine) (seen : Seen) (reply : Reply) (old : SessionState) (new : Option SessionState) (given : List Answer) → old.broken ≡ false
@@ -52,7 +53,7 @@ pub whole_turns : (key : List ℕ) (taken : Bool) (line : ScriptLine) (seen : Se
 whole_turns key taken line seen reply old new given whole turns sealed seat shows =
     let on = shows_whole sealed seat old whole shows in
     subst (λ (x : Seat). Unfolds key sealed (λ acts. (left : Seat) × SeatTurn (on_carried key sealed) key taken x line seen reply acts left × Shows (sealed ++ sheets_of acts) left new) given []) (sym on.seat_is)
-    (turns sealed on.sheet on.among on.linked on.backed)
+    (turns sealed on.sheet on.among on.linked on.kept)
 
 -- the counts that rose where a flush failed
 pub host_reply : (blame : Blame) → is_host_fault (flush_reply (fault_of blame)) ≡ host_blamed blame
@@ -70,6 +71,35 @@ false_true b is_true is_false = let e : true ≡ false = sym is_true ∙ is_fals
 pub shows_same : (sealed : List Sheet) (seat : Seat) (session : Option SessionState) → Shows sealed seat session → Shows (sealed ++ []) seat session
 shows_same sealed seat session shows = subst (λ (l : List Sheet). Shows l seat session) (sym (append-nil sealed)) shows
 
+module _ (key : List ℕ) (taken : Bool) (line : ScriptLine) (old : SessionState) (before after : HostState) (random random' : WordsState) where
+  books_on : (last : Covering) → OnDisk before after (KeepsUnder (Covers old) last (λ name. name ≡ old.name)) → OnDisk before after (KeepsUnder (Covers old) last (Concerns taken line (Some old)))
+  books_on last books =
+      both_weaker (KeepsUnder (Covers old) last (λ name. name ≡ old.name)) (KeepsUnder (Covers old) last (Concerns taken line (Some old))) before.honest after.honest books
+      (λ a b keeps. keeps_more (Covers old) last (λ name. name ≡ old.name) (Concerns taken line (Some old)) a b (λ name is. inl is) keeps)
+
+  -- memory was wanting
+  pub goes_wanting : (fault : Memory) (new : SessionState) → SeatWants line (Some old) (Some new) before after random random' → OnDisk before after (KeepsUnder (Covers old) (Covers new) (λ name. name ≡ old.name)) → IsSeated key new → new.name ≡ old.name
+      → after.faults ≡ before.faults → random'.faults ≡ random.faults → SeatGoes key taken line (Err fault) (Some old) (Some new) before after random random'
+  goes_wanting fault new wants books seated name_is on_host on_words = record {
+    asks = tt;
+    books = books_on (Covers new) books;
+    counts = (on_host, on_words);
+    wants = wants;
+    seated = seated;
+    named = λ name has. inl (has ∙ name_is);
+  }
+
+  module _ (reply : Reply) (counts : CountsReply (Ok reply) before after random random') where
+    -- the session goes on
+    pub goes_told : (new : SessionState) → WhereTold before after (λ given. SeatAsks key taken line reply (Some old) (Some new) given before after random random')
+        → OnDisk before after (KeepsUnder (Covers old) (Covers new) (λ name. name ≡ old.name)) → IsSeated key new → new.name ≡ old.name → SeatGoes key taken line (Ok reply) (Some old) (Some new) before after random random'
+    goes_told new asks books seated name_is = record { asks = asks; books = books_on (Covers new) books; counts = counts; wants = tt; seated = seated; named = λ name has. inl (has ∙ name_is) }
+
+    -- it is let go
+    pub out_told : WhereTold before after (λ given. SeatAsks key taken line reply (Some old) None given before after random random')
+        → OnDisk before after (KeepsUnder (Covers old) CoversNone (λ name. name ≡ old.name)) → SeatGoes key taken line (Ok reply) (Some old) None before after random random'
+    out_told asks books = record { asks = asks; books = books_on CoversNone books; counts = counts; wants = tt; seated = tt; named = λ name none. absurd none }
+
 module _ (key : List ℕ) (taken : Bool) (line : ScriptLine) (reply : Reply) (old : SessionState) (before after : HostState) (random random' : WordsState) (these : List Answer) (words : List (List ℕ)) (of_host of_words : Bool)
     (seen : SeenOf these words of_host of_words before after random random') (host_is : is_host_fault reply ≡ of_host) (words_is : is_words_fault reply ≡ of_words) where
   asks_by : (new : Option SessionState) → SeatTurns key taken line (seen_by these words of_host of_words) reply (Some old) new these → SeatAsks key taken line reply (Some old) new these before after random random'
@@ -79,28 +109,17 @@ module _ (key : List ℕ) (taken : Bool) (line : ScriptLine) (reply : Reply) (ol
     turns = turns;
   }
 
-  -- the session goes on
+  counts_by : CountsReply (Ok reply) before after random random'
+  counts_by = (subst (λ b. CountsFault b before.faults after.faults) (sym host_is) seen.on_host, subst (λ b. CountsFault b random.faults random'.faults) (sym words_is) seen.on_words)
+
   pub goes_on : (new : SessionState) → SeatTurns key taken line (seen_by these words of_host of_words) reply (Some old) (Some new) these → OnDisk before after (KeepsUnder (Covers old) (Covers new) (λ name. name ≡ old.name))
       → IsSeated key new → new.name ≡ old.name → SeatGoes key taken line (Ok reply) (Some old) (Some new) before after random random'
-  goes_on new turns books seated name_is = record {
-    asks = told_by (λ given. SeatAsks key taken line reply (Some old) (Some new) given before after random random') these before after seen.told (asks_by (Some new) turns);
-    books = both_weaker (KeepsUnder (Covers old) (Covers new) (λ name. name ≡ old.name)) (KeepsUnder (Covers old) (Covers new) (Concerns taken line (Some old))) before.honest after.honest books
-        (λ a b keeps. keeps_more (Covers old) (Covers new) (λ name. name ≡ old.name) (Concerns taken line (Some old)) a b (λ name is. inl is) keeps);
-    counts = (subst (λ b. CountsFault b before.faults after.faults) (sym host_is) seen.on_host, subst (λ b. CountsFault b random.faults random'.faults) (sym words_is) seen.on_words);
-    wants = tt;
-    seated = seated;
-    named = λ name has. inl (has ∙ name_is);
-  }
+  goes_on new turns =
+      goes_told key taken line old before after random random' reply counts_by new
+      (told_by (λ given. SeatAsks key taken line reply (Some old) (Some new) given before after random random') these before after seen.told (asks_by (Some new) turns))
 
-  -- it is let go
   pub goes_out : SeatTurns key taken line (seen_by these words of_host of_words) reply (Some old) None these → OnDisk before after (KeepsUnder (Covers old) CoversNone (λ name. name ≡ old.name))
       → SeatGoes key taken line (Ok reply) (Some old) None before after random random'
-  goes_out turns books = record {
-    asks = told_by (λ given. SeatAsks key taken line reply (Some old) None given before after random random') these before after seen.told (asks_by None turns);
-    books = both_weaker (KeepsUnder (Covers old) CoversNone (λ name. name ≡ old.name)) (KeepsUnder (Covers old) CoversNone (Concerns taken line (Some old))) before.honest after.honest books
-        (λ a b keeps. keeps_more (Covers old) CoversNone (λ name. name ≡ old.name) (Concerns taken line (Some old)) a b (λ name is. inl is) keeps);
-    counts = (subst (λ b. CountsFault b before.faults after.faults) (sym host_is) seen.on_host, subst (λ b. CountsFault b random.faults random'.faults) (sym words_is) seen.on_words);
-    wants = tt;
-    seated = tt;
-    named = λ name none. absurd none;
-  }
+  goes_out turns =
+      out_told key taken line old before after random random' reply counts_by
+      (told_by (λ given. SeatAsks key taken line reply (Some old) None given before after random random') these before after seen.told (asks_by None turns))

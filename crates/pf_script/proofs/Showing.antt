@@ -3,7 +3,7 @@ use Rattle.std.proofs.Common.{◌≡◌, true, false, List, [], ◌++◌, ℕ, r
 use Rattle.std.specs.Prelude.{Contains}
 use Rattle.std.proofs.lemmas.List.Elements.{Contains-append_left}
 use Rattle.node_tree.specs.Sheet.{Sheet, IsLinked}
-use Rattle.pf_session.specs.Backing.{IsBacked}
+use Rattle.pf_session.specs.Moving.{IsKeptOn}
 use Rattle.pf_session.specs.State.{SessionState}
 use Rattle.pf_script.specs.Desk.{seat_on, Shows, no_file, whole_file, broken_file}
 use Rattle.pf_script.specs.Script.{OwnSeat, Seat, Empty, Own}
@@ -13,7 +13,7 @@ pub record ShowsWhole (sealed : List Sheet) (seat : Seat) (own : SessionState) :
   pub sheet : Sheet
   pub among : Contains sealed sheet
   pub linked : IsLinked sheet
-  pub backed : IsBacked sheet own
+  pub kept : IsKeptOn sheet own
   pub seat_is : seat ≡ Own (seat_on sheet own)
 
 -- one that shows any
@@ -24,17 +24,17 @@ pub record ShowsSome (seat : Seat) (own : SessionState) : Type 0 where
   pub broken_is : shown.broken ≡ own.broken
   pub seat_is : seat ≡ Own shown
 
-same_session : (s t : SessionState) → Some s ≡ Some t → t ≡ s
+pub same_session : (s t : SessionState) → Some s ≡ Some t → t ≡ s
 same_session s t is = cc
 
 pub shows_none : (sealed : List Sheet) (seat : Seat) → Shows sealed seat None → seat ≡ Empty
 shows_none sealed seat (no_file is none) = is
-shows_none sealed seat (whole_file sheet own whole among linked backed is some) = absurd (cc)
+shows_none sealed seat (whole_file sheet own whole among linked kept is some) = absurd (cc)
 shows_none sealed seat (broken_file shown own broken as_broken key name is some) = absurd (cc)
 
 pub shows_some : (sealed : List Sheet) (seat : Seat) (s : SessionState) → Shows sealed seat (Some s) → ShowsSome seat s
 shows_some sealed seat s (no_file is none) = absurd (cc)
-shows_some sealed seat s (whole_file sheet own whole among linked backed is some) =
+shows_some sealed seat s (whole_file sheet own whole among linked kept is some) =
     let same = same_session s own some in
     record {
       shown = seat_on sheet own;
@@ -55,13 +55,13 @@ shows_some sealed seat s (broken_file shown own broken as_broken key name is som
 
 pub shows_whole : (sealed : List Sheet) (seat : Seat) (s : SessionState) → s.broken ≡ false → Shows sealed seat (Some s) → ShowsWhole sealed seat s
 shows_whole sealed seat s whole (no_file is none) = absurd (cc)
-shows_whole sealed seat s whole (whole_file sheet own also among linked backed is some) =
+shows_whole sealed seat s whole (whole_file sheet own also among linked kept is some) =
     let same = same_session s own some in
     record {
       sheet = sheet;
       among = among;
       linked = linked;
-      backed = subst (λ (x : SessionState). IsBacked sheet x) same backed;
+      kept = subst (λ (x : SessionState). IsKeptOn sheet x) same kept;
       seat_is = is ∙ ap (λ (x : SessionState). Own (seat_on sheet x)) same;
     }
 shows_whole sealed seat s whole (broken_file shown own broken as_broken key name is some) =
@@ -72,5 +72,5 @@ shows_whole sealed seat s whole (broken_file shown own broken as_broken key name
 -- more sheets were sealed
 pub shows_more : (sealed more : List Sheet) (seat : Seat) (session : Option SessionState) → Shows sealed seat session → Shows (sealed ++ more) seat session
 shows_more sealed more seat session (no_file is none) = no_file is none
-shows_more sealed more seat session (whole_file sheet own whole among linked backed is some) = whole_file sheet own whole (Contains-append_left sealed more sheet among) linked backed is some
+shows_more sealed more seat session (whole_file sheet own whole among linked kept is some) = whole_file sheet own whole (Contains-append_left sealed more sheet among) linked kept is some
 shows_more sealed more seat session (broken_file shown own broken as_broken key name is some) = broken_file shown own broken as_broken key name is some

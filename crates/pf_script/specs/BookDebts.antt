@@ -7,10 +7,10 @@ use Rattle.pf_io.specs.Steps.{Stays}
 use Rattle.node_tree.specs.Sheet.{Sheet}
 use Rattle.pf_session.specs.Aside.{Apart}
 use Rattle.pf_session.specs.Creating.{CreatesOn}
-use Rattle.pf_session.specs.Reopening.{LeftAs, AsEither, EachReopens, ReopensEither, Stood}
+use Rattle.pf_session.specs.Moving.{MovedAs, MovedIf}
+use Rattle.pf_session.specs.Reopening.{AsEither, EachReopens, ReopensEither, Stood}
 use Rattle.pf_session.specs.Sealing.{StoodIf}
 use Rattle.pf_session.specs.Restored.{Ready}
-use Rattle.pf_script.specs.BookRules.{MayLeaveBoth}
 use Rattle.pf_script.specs.Book.{Book, Entry, Seal}
 use Rattle.pf_script.specs.BookActs.{Deed, Opening, Creation, Flush, Move, Act, Names, booked, speaks}
 
@@ -65,21 +65,11 @@ pub record OpensOn (seal : Seal) (old new : Honest) : Type 0 where
   pub path_is : seal.sheet.path ≡ seal.name
   pub stood : (v w : List ℕ) → EachReopens seal.key seal.name v w old.now → Ready old.now seal.name → Stood seal.key seal.name seal.sheet new.now
 
--- a move at some moment: the old name under the old path, or the new name under the new path
-pub data MovedAs (key : List ℕ) (from : Name) (base : Sheet) (to : Name) (next : Sheet) (image : Image) : Type 0 where
-  still_there : LeftAs key from base image → image to ≡ None → MovedAs key from base to next image
-  was_moved : image from ≡ None → LeftAs key to next image → MovedAs key from base to next image
-  both_there : MayLeaveBoth → LeftAs key from base image → LeftAs key to next image → MovedAs key from base to next image
-
-abbrev pub MovedIf : Bool → Name → Seal → Disk → Disk → Type 0
-MovedIf true from seal old new = (new from ≡ None) × Stood seal.key seal.name seal.sheet new
-MovedIf false from seal old new = Unit {0}
-
 -- A move that had taken its words and comes after its flush.
 pub record Moves (done : Bool) (from : Name) (base : Sheet) (seal : Seal) (old new : Honest) : Type 0 where
   pub path_is : seal.sheet.path ≡ seal.name
   pub content_is : seal.sheet.content ≡ base.content
-  pub sealed : Where (Stood seal.key from base) (Ran (λ disk. MovedAs seal.key from base seal.name seal.sheet) (MovedIf done from seal)) old new
+  pub sealed : Where (Stood seal.key from base) (Ran (λ disk. MovedAs seal.key from base seal.name seal.sheet) (MovedIf done seal.key from seal.name seal.sheet)) old new
 
 -- a seat of this key and name that stands on the sheet
 abbrev pub seat_of : List ℕ → Name → Sheet → Seal

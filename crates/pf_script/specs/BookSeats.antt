@@ -4,7 +4,7 @@ use Rattle.pf_io.specs.Disk.{Name, IsImage, reading}
 use Rattle.pf_io.specs.Moments.{Honest}
 use Rattle.pf_io.specs.Names.{IsTarget}
 use Rattle.node_tree.specs.Sheet.{Sheet}
-use Rattle.pf_session.specs.Backing.{IsBacked}
+use Rattle.pf_session.specs.Moving.{IsKeptOn}
 use Rattle.pf_session.specs.State.{SessionState}
 use Rattle.pf_script.specs.Book.{Book, Entry, Seal, Agrees}
 use Rattle.pf_script.specs.BookActs.{Act, Among, booked_all}
@@ -20,9 +20,9 @@ pub record IsOfScript (session : SessionState) : Type 0 where
 abbrev pub Covering : Type 1
 Covering = Book → List Seal → Type 0
 
--- where the book speaks of the name of a session that is not broken, one of the seats is on its name, under a sheet that backs it
+-- where the book speaks of the name of a session that is not broken, one of the seats is on its name, under a sheet that backs it; one that is not changed rests on it
 abbrev pub Covers : SessionState → Covering
-Covers session book seats = (entry : Entry) → session.broken ≡ false → book session.name ≡ Some entry → (sheet : Sheet) × Contains seats (seat_of session.key session.name sheet) × IsBacked sheet session
+Covers session book seats = (entry : Entry) → session.broken ≡ false → book session.name ≡ Some entry → (sheet : Sheet) × Contains seats (seat_of session.key session.name sheet) × IsKeptOn sheet session
 
 -- there is no session
 abbrev pub CoversNone : Covering

@@ -2,7 +2,7 @@
 use Rattle.std.specs.Prelude.{◌≡◌, ℕ, true, false, List, length, get_or, Contains, Option, Some, None}
 use Rattle.node_tree.specs.Backing.{now}
 use Rattle.node_tree.specs.Sheet.{Sheet, IsLinked}
-use Rattle.pf_session.specs.Backing.{IsBacked}
+use Rattle.pf_session.specs.Moving.{IsKeptOn}
 use Rattle.pf_session.specs.State.{SessionState}
 use Rattle.pf_script.specs.BookSeats.{IsOfScript}
 use Rattle.pf_script.specs.Script.{OwnSeat, Seat, Empty, Own, ScriptState, seat_at}
@@ -46,10 +46,10 @@ seat_on sheet session = record {
   broken = session.broken;
 }
 
--- A seat shows a session: one that is whole stands on a sheet of those that were sealed. Of a broken one nothing but its closing is left.
+-- A seat shows a session: one that is whole stands on a sheet of those that were sealed, and one that is not changed has its content. Of a broken one nothing but its closing is left.
 pub data Shows (sealed : List Sheet) (seat : Seat) (session : Option SessionState) : Type 0 where
   no_file : seat ≡ Empty → session ≡ None → Shows sealed seat session
-  whole_file : (sheet : Sheet) (own : SessionState) → own.broken ≡ false → Contains sealed sheet → IsLinked sheet → IsBacked sheet own → seat ≡ Own (seat_on sheet own) → session ≡ Some own → Shows sealed seat session
+  whole_file : (sheet : Sheet) (own : SessionState) → own.broken ≡ false → Contains sealed sheet → IsLinked sheet → IsKeptOn sheet own → seat ≡ Own (seat_on sheet own) → session ≡ Some own → Shows sealed seat session
   broken_file : (shown : OwnSeat) (own : SessionState) → own.broken ≡ true → shown.broken ≡ true → shown.key ≡ own.key → shown.name ≡ own.name → seat ≡ Own shown → session ≡ Some own → Shows sealed seat session
 
 -- The state of a script is that of a desk.

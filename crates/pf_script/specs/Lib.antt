@@ -18,4 +18,5 @@ pub mod Turns
 pub mod Desk
 pub mod DeskSteps
 pub mod SeatReplies
+pub mod BookTurns
 pub mod ScriptRuns

@@ -1,7 +1,9 @@
 -- The replies to the answers of a session's calls, and the steps of a change of size.
-use Rattle.std.specs.Prelude.{⊤, ◌≡◌, ℕ, ◌+◌, ◌<◌, ◌≤◌, Bool, false, Result, Ok, Err}
+use Rattle.std.specs.Prelude.{⊤, ◌≡◌, ℕ, ◌+◌, ◌<◌, ◌≤◌, Bool, false, List, Result, Ok, Err}
+use Rattle.node_tree.specs.declared.fault.TreeFault.{TreeFault}
+use Rattle.node_tree.specs.declared.fault.TreeFault.TheVariants as trees
 use Rattle.pf_io.specs.Disk.{Name}
-use Rattle.pf_io.specs.Host.{HostState}
+use Rattle.pf_io.specs.Host.{HostState, ReadsAsImage}
 use Rattle.pf_io.specs.Words.{WordsState}
 use Rattle.pf_io.specs.declared.faults.Memory.{Memory}
 use Rattle.pf_session.specs.Aside.{Aside}
@@ -11,6 +13,8 @@ use Rattle.pf_session.specs.declared.fault.CreateFault.{CreateFault}
 use Rattle.pf_session.specs.declared.fault.CreateFault.TheVariants as creates
 use Rattle.pf_session.specs.declared.fault.FlushFault.{FlushFault}
 use Rattle.pf_session.specs.declared.fault.FlushFault.TheVariants as flushes
+use Rattle.pf_session.specs.declared.fault.MoveFault.{MoveFault}
+use Rattle.pf_session.specs.declared.fault.MoveFault.TheVariants as moves
 use Rattle.pf_session.specs.declared.fault.SizeFault.{SizeFault}
 use Rattle.pf_session.specs.declared.fault.SizeFault.TheVariants as sizes
 use Rattle.pf_session.specs.declared.fault.WriteFault.{WriteFault}
@@ -44,6 +48,21 @@ open_reply name (opens.Damaged damage) = Ok (replies.DamagedNode damage)
 open_reply name opens.Unbuilt = refused whys.Unbuilt
 open_reply name (opens.BadVersion major minor) = refused (whys.BadVersion major minor)
 open_reply name (opens.WrongPath stored) = refused (whys.WrongPath stored)
+
+abbrev pub read_reply : List ℕ → Result ℕ TreeFault → Result Reply Memory
+read_reply bytes (Ok n) = Ok (replies.Given bytes)
+read_reply bytes (Err (trees.Damaged damage)) = Ok (replies.DamagedNode damage)
+read_reply bytes (Err trees.Host) = Ok replies.HostFault
+read_reply bytes (Err trees.Memory) = Err (record {})
+
+abbrev pub move_reply : Result (Unit {0}) MoveFault → Result Reply Memory
+move_reply (Ok done) = Ok replies.Moved
+move_reply (Err moves.BadName) = refused whys.BadName
+move_reply (Err moves.Memory) = Err (record {})
+move_reply (Err moves.Host) = Ok replies.HostFault
+move_reply (Err moves.TargetExists) = refused whys.TargetExists
+move_reply (Err moves.Words) = Ok replies.WordsFault
+move_reply (Err (moves.Damaged damage)) = Ok (replies.DamagedNode damage)
 
 abbrev pub flush_reply : FlushFault → Reply
 flush_reply flushes.Words = replies.WordsFault
@@ -82,6 +101,7 @@ pub record SetsSize (result : Result Written SizeFault) (size : ℕ) (old new : 
   pub whole : old.broken ≡ false
   pub goes : SizeGoes result size old new before after random random'
   pub aside : Aside old.name before after
+  pub reads : ReadsAsImage after
 
 -- the size to be set next: the last one where it is no more than a piece away
 pub data IsNextSize (size now : ℕ) (n : ℕ) : Type 0 where

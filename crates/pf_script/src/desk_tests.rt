@@ -191,3 +191,52 @@ fn the_seats_are_closed_at_the_end(rt: HostRuntime) -> Result<(), Fail> {
     ]);
     Ok(())
 }
+
+#[test]
+fn a_move_takes_the_file_to_another_name(rt: HostRuntime) -> Result<(), Fail> {
+    let alloc = rt.alloc();
+    let mut host = MemHost::new(alloc);
+    let mut random = words_of(alloc, 20)?;
+    let mut desk = Desk::new(alloc, KEY);
+    expect_all(&rt, alloc, &mut desk, &mut host, &mut random, &[
+        ("move 0 g.pf", "refused seat empty\n"),
+        ("create 0 f.pf", "ok create\n"),
+        ("write 0 0 6869", "ok write 2\n"),
+        ("create 1 b.pf", "ok create\n"),
+        ("move 0 b.pf", "refused name busy\n"),
+        ("close 1", "ok close\n"),
+        ("move 0 b.pf", "refused target exists\n"),
+        ("move 0 f.pf", "refused target exists\n"),
+        ("move 0 x.new", "refused bad name\n"),
+        ("move 0 g.pf", "ok move\n"),
+        ("read 0 0 9", "ok read 2 6869\n"),
+        ("open 1 f.pf", "refused not found f.pf\n"),
+        ("close 0", "ok close\n"),
+        ("open 1 g.pf", "ok open 2\n"),
+    ]);
+    assert!(&rt; host.bytes("f.pf").is_none());
+    Ok(())
+}
+
+#[test]
+fn a_fault_breaks_its_own_seat(rt: HostRuntime) -> Result<(), Fail> {
+    let alloc = rt.alloc();
+    let mut host = MemHost::new(alloc);
+    let mut random = words_of(alloc, 20)?;
+    let mut desk = Desk::new(alloc, KEY);
+    expect_all(&rt, alloc, &mut desk, &mut host, &mut random, &[
+        ("create 0 a.pf", "ok create\n"),
+        ("create 1 b.pf", "ok create\n"),
+        ("write 0 0 61", "ok write 1\n"),
+    ]);
+    host.fail_at(15)?;
+    expect_all(&rt, alloc, &mut desk, &mut host, &mut random, &[
+        ("flush 0", "host fault\n"),
+        ("read 0 0 1", "refused broken\n"),
+        ("write 1 0 62", "ok write 1\n"),
+        ("close 0", "ok close lost\n"),
+        ("open 0 a.pf", "ok open 0\n"),
+        ("close 1", "ok close\n"),
+    ]);
+    Ok(())
+}

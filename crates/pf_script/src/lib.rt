@@ -18,6 +18,7 @@ mod next_line;
 mod opening;
 mod printing;
 mod reading;
+mod renaming;
 mod reply;
 mod sealing;
 mod stage;

@@ -2,6 +2,7 @@
 ghost use Rattle.std.specs.Prelude.{◌≡◌, ℕ, List, Ok, false};
 ghost use Rattle.pf_io.specs.Host.{HostState};
 ghost use Rattle.pf_io.specs.Words.{WordsState};
+ghost use Rattle.pf_script.specs.BookTurns.{SeatBooked};
 ghost use Rattle.pf_script.specs.Desk.{IsSeatOf};
 ghost use Rattle.pf_script.specs.DeskSteps.{SeatGoes};
 ghost use Rattle.pf_script.specs.SeatReplies.{create_reply, open_reply};
@@ -55,7 +56,8 @@ pub(crate) fn create_file<H: Host, R: Words>(
     name: &str,
     taken: bool,
 ) -> Result<Reply, Memory>
-    ensures { (k : ℕ) → IsSeatOf key.now seat.old → SeatGoes key.now taken (lines.Create k name.now) result seat.old seat.new (H.state host.old) (H.state host.new) (R.state random.old) (R.state random.new) }
+    ensures goes { (k : ℕ) → IsSeatOf key.now seat.old → SeatGoes key.now taken (lines.Create k name.now) result seat.old seat.new (H.state host.old) (H.state host.new) (R.state random.old) (R.state random.new) }
+    ensures booked { (k : ℕ) → IsSeatOf key.now seat.old → SeatBooked key.now taken (lines.Create k name.now) result seat.old seat.new (H.state host.old) (H.state host.new) (R.state random.old) (R.state random.new) }
 {
     if seat.is_some() {
         return Ok(Reply::Refused { why: Why::SeatBusy });
@@ -82,7 +84,8 @@ pub(crate) fn open_file<H: Host>(
     name: &str,
     taken: bool,
 ) -> Result<Reply, Memory>
-    ensures { (k : ℕ) (words : WordsState) → IsSeatOf key.now seat.old → SeatGoes key.now taken (lines.Open k name.now) result seat.old seat.new (H.state host.old) (H.state host.new) words words }
+    ensures goes { (k : ℕ) (words : WordsState) → IsSeatOf key.now seat.old → SeatGoes key.now taken (lines.Open k name.now) result seat.old seat.new (H.state host.old) (H.state host.new) words words }
+    ensures booked { (k : ℕ) (words : WordsState) → IsSeatOf key.now seat.old → SeatBooked key.now taken (lines.Open k name.now) result seat.old seat.new (H.state host.old) (H.state host.new) words words }
 {
     if seat.is_some() {
         return Ok(Reply::Refused { why: Why::SeatBusy });
@@ -103,11 +106,13 @@ pub(crate) fn open_file<H: Host>(
 
 /// The line `view`: there is no manifest of which files could be viewed.
 pub(crate) fn view_file(seat: &Option<Session>) -> Reply
-    ensures { (key : List ℕ) (k : ℕ) (path : List ℕ) (host : HostState) (words : WordsState) → IsSeatOf key seat.now → SeatGoes key false (lines.View k path) (Ok result) seat.now seat.now host host words words }
+    ensures goes { (key : List ℕ) (k : ℕ) (path : List ℕ) (host : HostState) (words : WordsState) → IsSeatOf key seat.now → SeatGoes key false (lines.View k path) (Ok result) seat.now seat.now host host words words }
+    ensures booked { (key : List ℕ) (k : ℕ) (path : List ℕ) (host : HostState) (words : WordsState) → IsSeatOf key seat.now → SeatBooked key false (lines.View k path) (Ok result) seat.now seat.now host host words words }
 {
-    let why = match seat {
-        Some(_) => Why::SeatBusy,
-        None => Why::NoManifest,
-    };
-    Reply::Refused { why }
+    if seat.is_some() {
+        return Reply::Refused { why: Why::SeatBusy };
+    }
+    Reply::Refused {
+        why: Why::NoManifest,
+    }
 }

@@ -1,6 +1,7 @@
 // The lines `flush`, `draw` and `close`.
 ghost use Rattle.std.specs.Prelude.{◌≡◌, ℕ, List, Ok, None, false};
 ghost use Rattle.pf_io.specs.Host.{HostState};
+ghost use Rattle.pf_script.specs.BookTurns.{SeatBooked};
 ghost use Rattle.pf_script.specs.Desk.{IsSeatOf};
 ghost use Rattle.pf_script.specs.DeskSteps.{SeatGoes};
 ghost use Rattle.pf_script.specs.SeatReplies.{flush_reply};
@@ -27,7 +28,8 @@ pub(crate) fn flush_seat<H: Host, R: Words>(
     random: &mut R,
     seat: &mut Option<Session>,
 ) -> Reply
-    ensures { (key : List ℕ) (k : ℕ) → IsSeatOf key seat.old → SeatGoes key false (lines.Flush k) (Ok result) seat.old seat.new (H.state host.old) (H.state host.new) (R.state random.old) (R.state random.new) }
+    ensures goes { (key : List ℕ) (k : ℕ) → IsSeatOf key seat.old → SeatGoes key false (lines.Flush k) (Ok result) seat.old seat.new (H.state host.old) (H.state host.new) (R.state random.old) (R.state random.new) }
+    ensures booked { (key : List ℕ) (k : ℕ) → IsSeatOf key seat.old → SeatBooked key false (lines.Flush k) (Ok result) seat.old seat.new (H.state host.old) (H.state host.new) (R.state random.old) (R.state random.new) }
 {
     let Some(session) = seat else {
         return Reply::Refused { why: Why::SeatEmpty };
@@ -43,7 +45,8 @@ pub(crate) fn flush_seat<H: Host, R: Words>(
 
 /// The line `draw`.
 pub(crate) fn draw_nonce<R: Words>(random: &mut R, seat: &mut Option<Session>) -> Reply
-    ensures { (key : List ℕ) (k : ℕ) (host : HostState) → IsSeatOf key seat.old → SeatGoes key false (lines.Draw k) (Ok result) seat.old seat.new host host (R.state random.old) (R.state random.new) }
+    ensures goes { (key : List ℕ) (k : ℕ) (host : HostState) → IsSeatOf key seat.old → SeatGoes key false (lines.Draw k) (Ok result) seat.old seat.new host host (R.state random.old) (R.state random.new) }
+    ensures booked { (key : List ℕ) (k : ℕ) (host : HostState) → IsSeatOf key seat.old → SeatBooked key false (lines.Draw k) (Ok result) seat.old seat.new host host (R.state random.old) (R.state random.new) }
 {
     let Some(session) = seat else {
         return Reply::Refused { why: Why::SeatEmpty };
@@ -65,6 +68,7 @@ pub(crate) fn close_seat<H: Host, R: Words>(
 ) -> Reply
     ensures empty { seat.new ≡ None }
     ensures goes { (key : List ℕ) (k : ℕ) → IsSeatOf key seat.old → SeatGoes key false (lines.Close k) (Ok result) seat.old seat.new (H.state host.old) (H.state host.new) (R.state random.old) (R.state random.new) }
+    ensures booked { (key : List ℕ) (k : ℕ) → IsSeatOf key seat.old → SeatBooked key false (lines.Close k) (Ok result) seat.old seat.new (H.state host.old) (H.state host.new) (R.state random.old) (R.state random.new) }
 {
     let Some(session) = seat.take() else {
         return Reply::Refused { why: Why::SeatEmpty };

@@ -1,9 +1,8 @@
 -- Calls of a host, one after the other, and one that fails.
-use Rattle.std.proofs.Common.{◌≡◌, ℕ, suc, ◌+◌, ◌≤◌, max, List, [], ◌∷◌, ◌++◌, refl, ap, ◌∙◌, sym, subst, arith, zero-add, append_assoc}
-use Rattle.std.proofs.lemmas.List.{append-nil}
+use Rattle.std.proofs.Common.{◌≡◌, ℕ, ◌+◌, ◌≤◌, List, [], ◌∷◌, ◌++◌, refl, ap, ◌∙◌, sym, subst, arith, zero-add, append_assoc}
 use Rattle.pf_io.specs.Counts.{counted, counted_times}
 use Rattle.pf_io.specs.Disk.{Name}
-use Rattle.pf_io.specs.Host.{Answer, LengthWas, Gave, Wrote, WasCut, Synced, Made, Swapped, Removed, HostState, Both, IsMore, CountsRead, CountsWrite, CountsNeither}
+use Rattle.pf_io.specs.Host.{Answer, Gave, Wrote, HostState, Both, IsMore, CountsRead, CountsWrite, CountsNeither}
 use Rattle.pf_io.proofs.Slices.{times_then}
 use Rattle.pf_io.proofs.Telling.{told_none, told_on}
 use Rattle.pf_session.specs.Asking.{Failing, NoCall, AReading, AWriting, AnotherCall, reads_in, writes_in, faults_after, kind_of, Asked, Stopped}

@@ -59,9 +59,6 @@ step_goes (Err fault) step old new tree name before after long named of_tree mar
 -- whether there is room
 
 module _ (step : Step) (tree : TreeState) (at end : ℕ) (from_is : from_of step tree.size ≡ at) (to_is : to_of step tree.size ≡ end) where
-  pub roomy : MayChange tree.dirty at end → IsRoomy step tree
-  roomy may = subst (λ (a : ℕ). MayChange tree.dirty a (to_of step tree.size)) (sym from_is) (subst (λ (b : ℕ). MayChange tree.dirty at b) (sym to_is) may)
-
   pub flushed_first : (count : ℕ) → IsChangedCount tree.dirty at end count → MOST_DIRTY < count → IsFlushedFirst step tree
   flushed_first count is many = record {
     count = count;

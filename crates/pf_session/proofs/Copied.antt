@@ -1,14 +1,12 @@
 -- What was asked of a host by the copying of nodes.
 use Rattle.std.proofs.Common.{◌≡◌, ℕ, ◌*◌, ◌<◌, List, [], ◌∷◌, ◌++◌, length, replicate, refl, ap, ◌∙◌, sym, subst, arith, append_assoc, length-append, Result, Ok, Err}
-use Rattle.std.specs.Prelude.{All}
 use Rattle.std.proofs.lemmas.List.{length-replicate}
 use Rattle.std.proofs.lemmas.List.Elements.{All-nil, All-cons, All-append}
-use Rattle.node_layout.specs.declared.damage.Damage.{Damage}
 use Rattle.node_layout.specs.declared.damage.Kind.TheVariants.{Short}
 use Rattle.pf_io.specs.Disk.{Name}
 use Rattle.pf_io.specs.Host.{Answer, Gave, Wrote, HostState}
-use Rattle.pf_session.specs.Asking.{NoCall, AReading, AWriting, Asked, Stopped}
-use Rattle.pf_session.specs.Copying.{copied, AreBlocksOf, Copied, CopyStopped, CopyShort, CopyGoes}
+use Rattle.pf_session.specs.Asking.{NoCall, AReading, AWriting, Asked}
+use Rattle.pf_session.specs.Copying.{copied, AreBlocksOf, Copied, CopyShort, CopyGoes}
 use Rattle.pf_session.specs.declared.fault.FlushFault.{FlushFault}
 use Rattle.pf_session.specs.declared.fault.FlushFault.TheVariants as faults
 use Rattle.pf_session.proofs.Calls.{asked_none, asked_then, same_asked, same_stopped, stopped_then, stopped_more, stopped_first}

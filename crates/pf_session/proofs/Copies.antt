@@ -1,5 +1,5 @@
 -- Nodes that are copied into a file of an honest disk.
-use Rattle.std.proofs.Common.{◌≡◌, ◌≢◌, ◌⊎◌, inl, inr, ℕ, ◌+◌, ◌-◌, ◌*◌, ◌<◌, ◌≤◌, min, List, [], ◌∷◌, ◌++◌, length, take, drop, refl, ap, ◌∙◌, sym, subst, arith, Option, Some, Result, Ok, Err}
+use Rattle.std.proofs.Common.{◌≡◌, ◌≢◌, inl, inr, ℕ, ◌+◌, ◌*◌, ◌<◌, ◌≤◌, List, [], ◌∷◌, ◌++◌, length, take, drop, refl, ap, ◌∙◌, sym, subst, arith, Option, Some, Result, Ok, Err}
 use Rattle.std.specs.Prelude.{Contains, slice_get}
 use Rattle.std.proofs.lemmas.List.{take_all}
 use Rattle.std.proofs.lemmas.List.Elements.{Contains-append_left, Contains-append_right, Contains-append_cases}
@@ -12,11 +12,11 @@ use Rattle.pf_io.specs.Moments.{Honest, Does, Ran}
 use Rattle.pf_io.specs.SplicingProofs.{overwrite-length, overwrite-front}
 use Rattle.pf_io.specs.Steps.{KeepsOthers, Stays, Changes, Writes, overwrite, reach}
 use Rattle.pf_io.proofs.Images.{follows_at, others_then}
-use Rattle.pf_session.specs.Copying.{IsBefore, HasCopies, CopiesInto, CopyBreaks, CopyLeaves}
+use Rattle.pf_session.specs.Copying.{HasCopies, CopiesInto, CopyBreaks, CopyLeaves}
 use Rattle.pf_session.specs.declared.fault.FlushFault.{FlushFault}
 use Rattle.pf_session.specs.declared.fault.FlushFault.TheVariants as faults
 use Rattle.pf_session.specs.Sealing.{LeavesOthers}
-use Rattle.pf_session.proofs.Disks.{alone_none, keeps_same, first_change, next_change, next_changes, ends_weaker}
+use Rattle.pf_session.proofs.Disks.{keeps_same, first_change, next_change}
 use Rattle.pf_session.proofs.Lists.{alone_is, byte_of_piece}
 
 -- nothing was copied

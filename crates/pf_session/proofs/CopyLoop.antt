@@ -1,17 +1,16 @@
 -- The copying of the clean nodes, one after the other.
-use Rattle.std.proofs.Common.{◌≡◌, ◌≢◌, inl, inr, ℕ, suc, ◌+◌, ◌-◌, ◌<◌, ◌≤◌, List, [], ◌∷◌, ◌++◌, length, refl, ap, ◌∙◌, sym, subst, arith, append_assoc, Result, Ok, Err}
+use Rattle.std.proofs.Common.{◌≡◌, ◌≢◌, inl, inr, ℕ, suc, ◌+◌, ◌-◌, ◌<◌, ◌≤◌, List, [], ◌++◌, refl, ap, ◌∙◌, sym, subst, arith, append_assoc, Result, Ok, Err}
 use Rattle.std.specs.Prelude.{Contains}
 use Rattle.std.proofs.lemmas.List.{append-nil}
 use Rattle.std.proofs.lemmas.List.Elements.{Contains-append_cases}
 use Rattle.node_tree.proofs.Order.{no_member}
-use Rattle.node_layout.specs.declared.damage.Damage.{Damage}
 use Rattle.pf_io.specs.Counts.{HasCause}
 use Rattle.pf_io.specs.Disk.{Name, Disk}
 use Rattle.pf_io.specs.Host.{HostState, Both}
 use Rattle.pf_io.specs.Moments.{Ran}
 use Rattle.pf_io.specs.Steps.{KeepsOthers}
 use Rattle.pf_io.proofs.Images.{others_then}
-use Rattle.pf_session.specs.Copying.{clean_from, clean_below, Copied, CopyGoes, CopyLeaves, CopiesInto, CopyBreaks}
+use Rattle.pf_session.specs.Copying.{clean_from, clean_below, Copied, CopyGoes, CopyLeaves, CopiesInto}
 use Rattle.pf_session.specs.Sealing.{LeavesOthers}
 use Rattle.pf_session.specs.declared.fault.FlushFault.{FlushFault}
 use Rattle.pf_session.specs.declared.fault.FlushFault.TheVariants as faults

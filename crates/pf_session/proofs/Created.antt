@@ -29,6 +29,7 @@ use Rattle.pf_session.specs.Aside.{LeavesApart, KeepsApart, Aside}
 use Rattle.pf_session.specs.Sealing.{ChangesAlone, LeavesOthers, StoodIf}
 use Rattle.pf_session.specs.Placing.{place_steps, PlaceImage, PlaceDone, PlaceTried, Placed, PlaceStopped}
 use Rattle.pf_session.specs.Creating.{empty_tree, empty_sheet, empty_node, fresh, AbsentOr, CreatesOn, Creates, LooksUp, IsFresh, CreateStopped, BeginsOn, Begins}
+use Rattle.pf_session.proofs.Names.{recovery_side_of, side_recovery_apart}
 use Rattle.pf_session.proofs.Placing.{ran_weaker}
 
 pub err_is : {T F : Type 0} (r : Result T F) (x y : F) → r ≡ Err x → x ≡ y → r ≡ Err y
@@ -75,15 +76,9 @@ aside_stopped name node old mid new keeps ran =
     ran_weaker (PlaceImage name node) (LeavesApart name) (PlaceTried name node) (KeepsApart name) old.honest new.honest (λ d image has. has.apart) (λ d e tried. tried.apart)
     (kept_before (PlaceImage name node) (PlaceTried name node) old.honest mid.honest new.honest (image_is name node) keeps ran)
 
-absent_file : (o : Option File) → read_of o ≡ None → o ≡ None
+pub absent_file : (o : Option File) → read_of o ≡ None → o ≡ None
 absent_file None none = refl
 absent_file (Some file) none = absurd (cc)
-
-recovery_side_of : (name : Name) → recovery_of (side_of name) ≡ side_recovery_of name
-recovery_side_of name = append_assoc name (codes ".new") (codes ".recovery")
-
-side_recovery_apart : (name : Name) → side_recovery_of name ≢ side_of name
-side_recovery_apart name same = omega (arith, ap (λ (l : List ℕ). length l) same, length-append name (codes ".new.recovery"), length-append name (codes ".new"))
 
 -- the empty version
 

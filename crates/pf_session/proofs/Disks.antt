@@ -1,5 +1,5 @@
 -- Calls that change one name of an honest disk.
-use Rattle.std.proofs.Common.{◌≡◌, ◌≢◌, ap, subst, Option, Some, None, IfSome}
+use Rattle.std.proofs.Common.{◌≡◌, ap, subst, Option, Some, None, IfSome}
 use Rattle.std.specs.Prelude.{option_map}
 use Rattle.pf_io.specs.Disk.{Name, Files, Disk, Image, IsImageAt, reading}
 use Rattle.pf_io.specs.Host.{Both}

@@ -11,6 +11,7 @@ pub mod OfTree
 pub mod Calls
 pub mod Disks
 pub mod Lists
+pub mod Names
 pub mod Copies
 pub mod Copied
 pub mod CopyLoop
@@ -25,3 +26,11 @@ pub mod Changed
 pub mod Rooms
 pub mod Versions
 pub mod Sealings
+pub mod CopiedFile
+pub mod Apartness
+pub mod Renamed
+pub mod Relocated
+pub mod Carried
+pub mod Moved
+pub mod MovedTo
+pub mod NoText

@@ -1,5 +1,5 @@
 -- Numbers in lists, and bytes of blocks.
-use Rattle.std.proofs.Common.{◌≡◌, ◌⊎◌, inl, inr, ℕ, zero, suc, ◌+◌, ◌-◌, ◌*◌, ◌<◌, ◌≤◌, ◌==◌, Bool, true, false, cond, List, [], ◌∷◌, ◌++◌, length, take, drop, refl, ap, ◌∙◌, sym, subst, arith}
+use Rattle.std.proofs.Common.{◌≡◌, inl, inr, ℕ, zero, suc, ◌+◌, ◌-◌, ◌<◌, ◌≤◌, ◌==◌, Bool, true, false, cond, List, [], ◌∷◌, ◌++◌, take, drop, refl, ap, ◌∙◌, sym, subst, arith}
 use Rattle.std.specs.Prelude.{Contains, slice_get}
 use Rattle.std.proofs.lemmas.Bool.{cases_eq, false≢true}
 use Rattle.std.proofs.lemmas.Bool.Decides.{nat_tests}
@@ -49,6 +49,7 @@ there_is_in (d ∷ dirty) k there = elim (in_tail d dirty k there) [
 ] where
   first : (d : ℕ) (dirty : List ℕ) (k : ℕ) → k ≡ d → is_in (d ∷ dirty) k ≡ true
   first d dirty k is = grind (arith, nat_tests)
+
   later : (a b : Bool) → b ≡ true → cond a true b ≡ true
   later true b is = refl
   later false b is = is
@@ -73,6 +74,7 @@ member_more : (dirty : List ℕ) (k n j : ℕ) → (Contains (clean_from dirty (
 member_more dirty k n j rest there = by_test (is_in dirty k) refl there where
   further : IsCleanIn dirty (k + 1) n j → IsCleanIn dirty k (suc n) j
   further m = (omega (arith, m.0), omega (arith, m.1), m.2)
+
   by_test : (b : Bool) → is_in dirty k ≡ b → Contains (cond b (clean_from dirty (k + 1) n) (k ∷ clean_from dirty (k + 1) n)) j → IsCleanIn dirty k (suc n) j
   by_test true is more = further (rest more)
   by_test false is either = elim (in_tail k (clean_from dirty (k + 1) n) j either) [
@@ -88,6 +90,7 @@ there_more : (dirty : List ℕ) (k n j : ℕ) → (IsCleanIn dirty (k + 1) n j �
 there_more dirty k n j rest is_clean = by_test (is_in dirty k) refl where
   later : (k ≡ j → ⊥) → Contains (clean_from dirty (k + 1) n) j
   later other = let low = is_clean.0 in let high = is_clean.1 in rest (omega arith, omega arith, is_clean.2)
+
   by_test : (b : Bool) → is_in dirty k ≡ b → Contains (cond b (clean_from dirty (k + 1) n) (k ∷ clean_from dirty (k + 1) n)) j
   by_test true is = later (λ same. is_clean.2 (subst (λ (i : ℕ). Contains dirty i) same (is_in_there dirty k is)))
   by_test false is = elim (cases_eq k j) [

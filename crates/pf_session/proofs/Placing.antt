@@ -1,6 +1,5 @@
 -- What the making of a side file and its taking of a name come to.
-use Rattle.std.proofs.Common.{◌≡◌, ◌≢◌, ◌⊎◌, inl, inr, ℕ, List, [], ◌∷◌, ◌++◌, length, refl, ap, sym, ◌∙◌, subst, arith, length-append, Option, Some, None, Result, Ok, Err}
-use Rattle.std.specs.Prelude.{codes}
+use Rattle.std.proofs.Common.{◌≡◌, ◌≢◌, ◌⊎◌, inl, inr, ℕ, List, [], ◌∷◌, ◌++◌, length, refl, ap, sym, ◌∙◌, subst, arith, Option, Some, None, Result, Ok, Err}
 use Rattle.pf_io.specs.Counts.{HasCause, counted}
 use Rattle.pf_io.specs.Disk.{Name, File, Disk, Image, IsImageAt, IsImage, IsSettledAt}
 use Rattle.pf_io.specs.Host.{Wrote, Synced, Made, Swapped, HostState, Both, IsMore, Tells, CountsNeither, OnDisk}
@@ -21,6 +20,7 @@ use Rattle.pf_session.specs.Sealing.{LeavesOthers}
 use Rattle.pf_session.specs.Placing.{make_steps, place_steps, MakeLeaves, PlaceImage, IsPlaced, PlaceDone, PlaceTried, PlaceStopped, PlaceGoes}
 use Rattle.pf_session.proofs.Calls.{asked_then, asked_neither, failed_neither, stopped_first, stopped_then, stopped_more}
 use Rattle.pf_session.proofs.Disks.{first_change, next_change}
+use Rattle.pf_session.proofs.Names.{side_apart, recovery_apart, recovery_not_side}
 
 -- the side file
 
@@ -73,23 +73,11 @@ both_join S P Q None None does ran = tt
 both_join S P Q (Some a) None does ran = absurd does
 both_join S P Q None (Some b) does ran = absurd does
 
-settled_follow : (T E : Type 0) (x : T) (o p : Option File) → Follows (Syncs {T = T} {E = E} (Ok x)) o p → IsSettledAt p
+pub settled_follow : (T E : Type 0) (x : T) (o p : Option File) → Follows (Syncs {T = T} {E = E} (Ok x)) o p → IsSettledAt p
 settled_follow T E x (Some f) (Some g) sync = sync.settled
 settled_follow T E x None None sync = tt
 settled_follow T E x (Some f) None sync = absurd sync
 settled_follow T E x None (Some g) sync = absurd sync
-
--- the names of a session
-
-module _ (name : Name) where
-  pub side_apart : side_of name ≢ name
-  side_apart same = omega (arith, ap (λ (l : List ℕ). length l) same, length-append name (codes ".new"))
-
-  pub recovery_apart : recovery_of name ≢ name
-  recovery_apart same = omega (arith, ap (λ (l : List ℕ). length l) same, length-append name (codes ".recovery"))
-
-  pub recovery_side : recovery_of name ≢ side_of name
-  recovery_side same = omega (arith, ap (λ (l : List ℕ). length l) same, length-append name (codes ".recovery"), length-append name (codes ".new"))
 
 -- nothing but the side file was changed, and the recovery file at most synced
 pub record Unmoved (name : Name) (old new : Disk) : Type 0 where
@@ -172,7 +160,7 @@ module _ (name : Name) (node : List ℕ) where
         (subst (λ (n : Name). OnDisk mid new (Ran (LeavesOthers n) (Beside n (λ was is. IsWhole node is)))) is_side made)
         (side_left {T = T} {E = E} (Ok x)) (λ d e f goes beside. record {
           file = beside.file;
-          recovery = subst (λ (o : Option File). IsSettledAt o) (sym (beside.others (recovery_of name) (recovery_side name))) (settled_follow T E x (d (recovery_of name)) (e (recovery_of name)) goes.0.there);
+          recovery = subst (λ (o : Option File). IsSettledAt o) (sym (beside.others (recovery_of name) (recovery_not_side name))) (settled_follow T E x (d (recovery_of name)) (e (recovery_of name)) goes.0.there);
           others = others_kept {T = T} {E = E} (Ok x) d e f goes beside.others;
         })
 
@@ -186,7 +174,7 @@ module _ (name : Name) (node : List ℕ) where
   placed : (d e f : Disk) → IsReady name node d e → Swaps (side_of name) name e f → IsPlaced name node f
   placed d e f was swap = record {
     file = (was.file.0, swap.moved was.file.0 (side_apart name) was.file.1, was.file.2, was.file.3);
-    recovery = subst (λ (o : Option File). IsSettledAt o) (sym (swap.others (recovery_of name) (recovery_side name) (recovery_apart name))) was.recovery;
+    recovery = subst (λ (o : Option File). IsSettledAt o) (sym (swap.others (recovery_of name) (recovery_not_side name) (recovery_apart name))) was.recovery;
   }
 
   apart_kept : {T E : Type 0} (r : Result T E) (d e f : Disk) → IsReady name node d e → AtOnce r (Swaps (side_of name) name) e f → (other : Name) → Apart name other → f other ≡ d other

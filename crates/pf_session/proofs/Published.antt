@@ -1,9 +1,8 @@
 -- A side file that is flushed, and then takes the name.
-use Rattle.std.proofs.Common.{◌≡◌, ◌≢◌, ◌⊎◌, inl, inr, ⊎_elim, ℕ, List, [], ◌∷◌, length, refl, ap, sym, subst, ◌∙◌, arith, length-append, Bool, true, false, Option, Some, None, IfSome, Result, Ok, Err}
-use Rattle.std.specs.Prelude.{codes}
+use Rattle.std.proofs.Common.{◌≡◌, ◌≢◌, inl, inr, ⊎_elim, ℕ, List, [], ◌∷◌, length, refl, ap, sym, subst, ◌∙◌, Bool, true, false, Option, Some, None, Result, Ok, Err}
 use Rattle.node_tree.specs.Sheet.{Sheet, Stands}
-use Rattle.pf_io.specs.Disk.{Name, File, Disk, Image, IsImage, IsImageAt, IsSettledFile, read_of}
-use Rattle.pf_io.specs.Host.{Files, Swapped, HostState, Both, OnDisk, contents, files_of}
+use Rattle.pf_io.specs.Disk.{Name, File, Disk, Image, IsImage, IsImageAt, read_of}
+use Rattle.pf_io.specs.Host.{Swapped, HostState, Both, OnDisk, contents, files_of}
 use Rattle.pf_io.specs.Words.{WordsState}
 use Rattle.pf_io.specs.Moments.{Honest, Does, Ran, Ends, Where}
 use Rattle.pf_io.specs.Names.{recovery_of, side_of}
@@ -12,28 +11,19 @@ use Rattle.pf_io.proofs.Images.{settled_at, swapped_others}
 use Rattle.pf_io.proofs.Runs.{started, goes_on}
 use Rattle.pf_io.proofs.Telling.{both_then, both_weaker}
 use Rattle.pf_session.specs.State.{SessionState, file_of}
-use Rattle.pf_session.specs.Backing.{IsBacked}
 use Rattle.pf_session.specs.Restored.{KeepsBeside}
 use Rattle.pf_session.specs.Drawing.{WordsCame}
 use Rattle.pf_session.specs.Flushing.{SealsEach, SealGoes, node_short, call_failed, flushed, FlushGoes, no_words, had_words, IsUndamaged, UndamagedFlush}
 use Rattle.pf_session.specs.Aside.{LeavesOthers, LeavesNamed, LeavesAllBut, KeepsAllBut, LeavesApart, KeepsApart, Aside}
 use Rattle.pf_session.specs.Reopening.{LeftAs, ReadsAs, HasSheet}
 use Rattle.pf_session.specs.Sealing.{StandsNext}
-use Rattle.pf_session.proofs.Versions.{file_beside}
+use Rattle.pf_session.proofs.Names.{side_apart, recovery_not_side}
+use Rattle.pf_session.proofs.Versions.{file_beside, for_all}
 use Rattle.pf_session.specs.Making.{done_of}
 use Rattle.pf_session.specs.Ending.{KeptOr, PublishedIf, PublishesEach, PublishGoes, not_named, published}
 use Rattle.pf_session.specs.Asking.{NoCall, AnotherCall, Asked}
 use Rattle.pf_session.specs.declared.fault.FlushFault.{FlushFault}
 use Rattle.pf_session.specs.declared.fault.FlushFault.TheVariants as faults
-
-pub side_apart : (name : Name) → name ≢ side_of name
-side_apart name same = omega (arith, ap (λ (l : List ℕ). length l) same, length-append name (codes ".new"))
-
-recovery_apart : (name : Name) → recovery_of name ≢ side_of name
-recovery_apart name same = omega (arith, ap (λ (l : List ℕ). length l) same, length-append name (codes ".recovery"), length-append name (codes ".new"))
-
-recovery_other : (name : Name) → recovery_of name ≢ name
-recovery_other name same = omega (arith, ap (λ (l : List ℕ). length l) same, length-append name (codes ".recovery"))
 
 -- the name reads as the sheet that it has
 pub has_reads : (key : List ℕ) (name : Name) (sheet : Sheet) (d : Disk) → HasSheet key name sheet d → ReadsAs key name sheet d
@@ -52,7 +42,7 @@ module _ (session : SessionState) (next : Sheet) where
     has : HasSheet session.key (side_of session.name) next new
 
   as_named : (d : Disk) (image : Image) → LeavesOthers (side_of session.name) d image → LeavesNamed session.name d image
-  as_named d image others = record { here = others session.name (side_apart session.name); recovery = others (recovery_of session.name) (recovery_apart session.name) }
+  as_named d image others = record { here = others session.name (λ same. side_apart session.name (sym same)); recovery = others (recovery_of session.name) (recovery_not_side session.name) }
 
   as_sheet : (image : Image) (bytes : List ℕ) → image session.name ≡ Some bytes → Stands bytes session.key next → LeftAs session.key session.name next image
   as_sheet image bytes is stands = record { file = bytes; whole = is; stands = stands }
@@ -61,19 +51,19 @@ module _ (session : SessionState) (next : Sheet) where
       → PublishedIf (done_of r) session next d f × ((image : Image) → IsImage f image → KeptOr session next d image)
   swapped (Ok x) d e f was swap =
       let has = was.has in
-      let there = swap.moved has.file (λ same. side_apart session.name (sym same)) has.there in (
+      let there = swap.moved has.file (side_apart session.name) has.there in (
         record { file = has.file; there = there; settled = has.settled; stands = has.stands },
         λ image is. inr (as_sheet image has.file.bytes (settled_at has.file (f session.name) (image session.name) there has.settled (is session.name)) has.stands),
       )
   swapped (Err x) d e f was (inl swap) =
       let has = was.has in
-      let there = swap.moved has.file (λ same. side_apart session.name (sym same)) has.there in (
+      let there = swap.moved has.file (side_apart session.name) has.there in (
         inr (record { file = has.file; there = there; settled = has.settled; stands = has.stands }),
         λ image is. inr (as_sheet image has.file.bytes (settled_at has.file (f session.name) (image session.name) there has.settled (is session.name)) has.stands),
       )
   swapped (Err x) d e f was (inr same) =
       let kept = λ (other : Name) (apart : other ≢ side_of session.name). ap (λ (g : Disk). g other) same ∙ was.others other apart in
-      (inl (kept session.name (side_apart session.name)), λ image is. inl (as_named d image (λ other apart. subst (λ (o : Option File). IsImageAt o (image other)) (kept other apart) (is other))))
+      (inl (kept session.name (λ same. side_apart session.name (sym same))), λ image is. inl (as_named d image (λ other apart. subst (λ (o : Option File). IsImageAt o (image other)) (kept other apart) (is other))))
 
   flushed_run : (a b : Honest) → Ran (LeavesOthers (side_of session.name)) (KeepsOthers (side_of session.name)) a b → HasSheet session.key (side_of session.name) next b.now → Ran (KeptOr session next) Flushed a b
   flushed_run a b ran has = record {
@@ -154,10 +144,7 @@ publishes_each r nonce keys session mid before between after beside seals keeps 
 
 -- no damage
 pub not_damaged : (result : Result (Unit {0}) FlushFault) (session : SessionState) (before : HostState) → IsUndamaged result → UndamagedFlush result session before
-not_damaged result session before undamaged = for_all (files_of before) where
-  for_all : (o : Option Files) → IfSome o (λ files. (sheet : Sheet) → IsBacked sheet session → Stands (contents (files (file_of session))) session.key sheet → IsUndamaged result)
-  for_all (Some files) = λ sheet backed stands. undamaged
-  for_all None = tt
+not_damaged result session before undamaged = for_all _ (files_of before) (λ files sheet backed stands. undamaged)
 
 -- the names apart stay at a swap too
 pub aside_swapped : {T E : Type 0} (r : Result T E) (name : Name) (before between after : HostState) → Aside name before between → OnDisk between after (Does (AtOnce r (Swaps (side_of name) name))) → Aside name before after

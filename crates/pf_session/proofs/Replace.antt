@@ -1,8 +1,8 @@
 -- The replacing of a file by its side file, as calls and on an honest disk.
-use Rattle.std.proofs.Common.{◌≡◌, ◌≢◌, inl, inr, ℕ, ◌*◌, List, [], ◌∷◌, ◌++◌, length, refl, ap, ◌∙◌, sym, subst, Option, Some, Result, Ok, Err}
+use Rattle.std.proofs.Common.{◌≡◌, ◌≢◌, inl, inr, ℕ, ◌*◌, List, [], ◌∷◌, ◌++◌, length, refl, ◌∙◌, sym, subst, Option, Some, Result, Ok, Err}
 use Rattle.std.proofs.lemmas.List.{append-nil}
 use Rattle.pf_io.specs.Disk.{Name, File, Disk, IsImageAt, read_of}
-use Rattle.pf_io.specs.Host.{Answer, Gave, Made, Swapped, HostState, Both, contents}
+use Rattle.pf_io.specs.Host.{Gave, Made, Swapped, HostState, Both, contents}
 use Rattle.pf_io.specs.Moments.{Honest, Does, Ran, Ends}
 use Rattle.pf_io.specs.Names.{side_of}
 use Rattle.pf_io.specs.Steps.{KeepsOthers, Makes, Swaps, AtOnce}
@@ -11,7 +11,7 @@ use Rattle.pf_io.proofs.Runs.{goes_on, ran_leaves, ran_by}
 use Rattle.pf_io.proofs.Telling.{both_weaker}
 use Rattle.node_layout.specs.Places.{node_count}
 use Rattle.node_tree.specs.Next.{IsSealedAs, KeepsShape}
-use Rattle.node_tree.specs.Sheet.{Sheet, Stands}
+use Rattle.node_tree.specs.Sheet.{Sheet}
 use Rattle.node_tree.specs.State.{TreeState}
 use Rattle.pf_session.specs.Aside.{Apart, LeavesApart, KeepsApart}
 use Rattle.pf_session.specs.Asking.{NoCall, AnotherCall, Asked, Stopped}
@@ -23,7 +23,7 @@ use Rattle.pf_session.specs.declared.fault.FlushFault.{FlushFault}
 use Rattle.pf_session.specs.declared.fault.FlushFault.TheVariants as faults
 use Rattle.pf_session.proofs.Calls.{asked_then, same_asked, stopped_then, stopped_more, stopped_first}
 use Rattle.pf_session.proofs.Copied.{any_blocks}
-use Rattle.pf_session.proofs.Disks.{first_change, next_changes, ends_weaker}
+use Rattle.pf_session.proofs.Disks.{first_change, next_changes}
 use Rattle.pf_session.proofs.Replacing.{SideStands}
 use Rattle.pf_session.proofs.Standing.{stands_next}
 
@@ -162,9 +162,13 @@ module _ (name side : Name) (apart : side ≢ name) where
       others = others_then side d e f copied.others sealed.others;
       stands = λ reads.
           let c = copied.copies in
-          let s = sealed.there c.file c.there in
-          (s.0, s.1, s.2, stands_next key path nonce sheet tree keys next (contents (read_of (d name))) c.file.bytes s.0.bytes key_length has reads (as_sealed.size ∙ shape.size) s.3.longer
-            (λ k i among low high. ((c.within k among).1, c.same k i among low high)) s.3);
+          let s = sealed.there c.file c.there in (
+            s.0,
+            s.1,
+            s.2,
+            stands_next key path nonce sheet tree keys next (contents (read_of (d name))) c.file.bytes s.0.bytes key_length has reads (as_sealed.size ∙ shape.size) s.3.longer
+                (λ k i among low high. ((c.within k among).1, c.same k i among low high)) s.3,
+          );
     }
 
     pub seal_ran : (o p q : Option Honest) → Both o p (Ran (LeavesOthers side) (HasCopied (clean_below tree.dirty (node_count tree.size)))) → Both p q (Ran (LeavesOthers side) (KeepsOthers side)) → Both p q (Ends (SealsFile key next tree.dirty side))

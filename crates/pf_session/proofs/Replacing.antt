@@ -1,32 +1,18 @@
 -- A new version that takes the place of the last one, on an honest disk.
-use Rattle.std.proofs.Common.{◌≡◌, ◌≢◌, ◌⊎◌, inl, inr, ℕ, ◌+◌, ◌*◌, ◌<◌, ◌≤◌, Bool, true, false, List, [], ◌∷◌, ◌++◌, length, refl, ap, ◌∙◌, sym, subst, arith, length-append, Option, Some, None, Result, Ok, Err}
-use Rattle.std.specs.Prelude.{Contains, codes, slice_get}
-use Rattle.pf_io.specs.Disk.{Name, File, Disk, Image, IsImage, IsImageAt, IsSettledFile, IsSettledAt, read_of, reading}
+use Rattle.std.proofs.Common.{◌≡◌, ◌≢◌, inl, inr, ℕ, List, ap, ◌∙◌, sym, subst, Option, Some, Result, Ok, Err}
+use Rattle.pf_io.specs.Disk.{Name, File, Disk, Image, IsImage, IsImageAt, IsSettledFile, IsSettledAt, read_of}
 use Rattle.pf_io.specs.Host.{Both, contents}
 use Rattle.pf_io.specs.Moments.{Honest, Does, Ran, Ends, Where}
-use Rattle.pf_io.specs.Names.{recovery_of, side_of}
-use Rattle.pf_io.specs.Steps.{KeepsOthers, Makes, Swaps, AtOnce}
-use Rattle.pf_io.proofs.Images.{settled_at, settled_reads, others_image, others_then, made_others, swapped_others}
+use Rattle.pf_io.specs.Names.{recovery_of}
+use Rattle.pf_io.specs.Steps.{KeepsOthers, Swaps, AtOnce}
+use Rattle.pf_io.proofs.Images.{settled_at, settled_reads}
 use Rattle.pf_io.proofs.Runs.{goes_on, ran_leaves, ran_ends, ran_by, weaker}
 use Rattle.pf_io.proofs.Telling.{both_then, both_weaker}
-use Rattle.node_layout.specs.Places.{node_count}
 use Rattle.node_tree.specs.Sheet.{Sheet, Stands}
-use Rattle.node_tree.specs.State.{TreeState}
-use Rattle.pf_session.specs.Copying.{clean_below, HasCopies, CopiesInto}
-use Rattle.pf_session.specs.Reopening.{ReopensAs, LeftAs, AsEither, Stood, ReadsAs, HasSheet}
-use Rattle.pf_session.specs.Sealing.{LeavesOthers, HasNext, HasSealed, SealsFile, StoodOrKept, StoodIf}
+use Rattle.pf_session.specs.Reopening.{LeftAs, AsEither, Stood, ReadsAs, HasSheet}
+use Rattle.pf_session.specs.Sealing.{LeavesOthers, StoodOrKept, StoodIf}
 use Rattle.pf_session.specs.Making.{done_of}
-use Rattle.pf_session.proofs.Disks.{first_change, next_changes, ends_weaker}
-use Rattle.pf_session.proofs.Standing.{stands_next}
-
-pub side_apart : (name : Name) → side_of name ≢ name
-side_apart name same = let l = ap (λ (n : Name). length n) same in omega (arith, l, length-append name (codes ".new"))
-
-pub recovery_apart : (name : Name) → recovery_of name ≢ name
-recovery_apart name same = let l = ap (λ (n : Name). length n) same in omega (arith, l, length-append name (codes ".recovery"))
-
-pub recovery_not_side : (name : Name) → recovery_of name ≢ side_of name
-recovery_not_side name same = let l = ap (λ (n : Name). length n) same in omega (arith, l, length-append name (codes ".recovery"), length-append name (codes ".new"))
+use Rattle.pf_session.proofs.Names.{recovery_apart}
 
 -- the name as it was leaves the sheet that it stood for
 pub kept_left : (key : List ℕ) (name : Name) (sheet : Sheet) (d : Disk) (image : Image) → Stood key name sheet d → IsImageAt (d name) (image name) → LeftAs key name sheet image
@@ -40,7 +26,7 @@ stood_reads key name sheet d stood = subst (λ (o : Option (List ℕ)). Stands (
 pub new_left : (key : List ℕ) (name : Name) (next : Sheet) (file : File) (e : Disk) (image : Image) → e name ≡ Some file → IsSettledFile file → Stands file.bytes key next → IsImageAt (e name) (image name) → LeftAs key name next image
 new_left key name next file e image there settled stands is = record { file = file.bytes; whole = settled_at file (e name) (image name) there settled is; stands = stands }
 
-settled_there : (file : File) (o : Option File) → o ≡ Some file → IsSettledFile file → IsSettledAt o
+pub settled_there : (file : File) (o : Option File) → o ≡ Some file → IsSettledFile file → IsSettledAt o
 settled_there file o there settled = subst (λ (p : Option File). IsSettledAt p) (sym there) settled
 
 pub new_stood : (key : List ℕ) (name : Name) (next : Sheet) (file : File) (d e : Disk) → IsSettledAt (d (recovery_of name)) → e (recovery_of name) ≡ d (recovery_of name) → e name ≡ Some file → IsSettledFile file → Stands file.bytes key next → Stood key name next e

@@ -27,12 +27,6 @@ use Rattle.pf_session.proofs.Published.{beside_none, kept_by_flush}
 
 -- what is kept
 
-pub beside_same : (session : SessionState) (state : HostState) → KeepsName session state state
-beside_same session state beside = beside_none session.name state
-
-pub beside_flush : (result : Result (Unit {0}) FlushFault) (old new : SessionState) (before after : HostState) (random random' : WordsState) → FlushGoes result old new before after random random' → KeepsName old before after
-beside_flush result old new before after random random' goes beside = kept_by_flush result old new before after random random' beside goes
-
 -- calls that only read, after others
 pub beside_then : (session : SessionState) (before between after : HostState) → KeepsName session before between → KeepsDisk between after → KeepsName session before after
 beside_then session before between after keeps reads beside =
@@ -43,17 +37,6 @@ pub aside_then : (name : Name) (before between after : HostState) → Aside name
 aside_then name before between after aside reads =
     goes_on_ran (LeavesApart name) IsImage (KeepsApart name) Stays (KeepsApart name) before.honest between.honest after.honest aside reads
     (λ d e kept image is other apart. subst (λ o. IsImageAt o (image other)) (kept other apart) (is other)) (λ d e f kept stays other apart. ap (λ (x : Disk). x other) stays ∙ kept other apart)
-
--- a flush that was done leaves nothing dirty
-pub record IsFlushed (old new : SessionState) : Type 0 where
-  pub size : new.tree.size ≡ old.tree.size
-  pub dirty : new.tree.dirty ≡ []
-
-pub is_flushed : (old new : SessionState) (before after : HostState) (random random' : WordsState) → FlushGoes (Ok tt) old new before after random random' → IsFlushed old new
-is_flushed old new before after random random' (no_words lacked same still is) = absurd (cc)
-is_flushed old new before after random random' (had_words nonce keys came (node_short damage named short each state is)) = absurd (cc)
-is_flushed old new before after random random' (had_words nonce keys came (call_failed stopped keeps each shape state is)) = absurd (cc)
-is_flushed old new before after random random' (had_words nonce keys came (flushed mid done keeps settled each state is)) = record { size = settled.size ∙ done.shape.size; dirty = settled.dirty }
 
 -- a change that no rule refuses
 pub write_allowed : (at n size : ℕ) → n ≤ 32768 → at + n ≤ 2 ^ 32 → at ≤ size → (fault : WriteFault) → WriteRefused at n size fault → ⊥
@@ -75,17 +58,6 @@ size_allowed n size small near sizes.Memory refused = refused
 
 pub not_empty : (bytes : List ℕ) → 0 < length bytes → ¬ (bytes ≡ [])
 not_empty bytes some none = let zero : length bytes ≡ 0 = ap (λ (l : List ℕ). length l) none in omega arith
-
--- the range of a change of size
-module _ (n size : ℕ) (small : n ≤ 2 ^ 32) (near : n ≤ size + 32768) where
-  pub in_order : from_of (Size n) size ≤ to_of (Size n) size
-  in_order = omega arith
-
-  pub range_near : to_of (Size n) size ≤ from_of (Size n) size + 32768
-  range_near = omega arith
-
-  pub range_small : size ≤ 2 ^ 32 → to_of (Size n) size ≤ 2 ^ 32
-  range_small bound = omega arith
 
 -- a change for which there was no room, or which was made or not
 module _ (E : Type 0) (Refused : E → Type 0) (Nothing : Type 0) (of_flush : FlushFault → E) (of_tree : TreeFault → E) (step : Step) (old : SessionState) (before : HostState) (random : WordsState) (allowed : (fault : E) → ¬ (Refused fault)) (some : ¬ Nothing) where

@@ -1,26 +1,26 @@
 -- The seals of dirty nodes and node 0, as calls of a host and on an honest disk.
-use Rattle.std.proofs.Common.{◌≡◌, ◌≢◌, ◌⊎◌, inl, inr, ℕ, zero, suc, ◌+◌, ◌-◌, ◌*◌, ◌<◌, ◌≤◌, max, List, [], ◌∷◌, ◌++◌, length, take, drop, refl, ap, ap₂, ◌∙◌, sym, subst, arith, append_assoc, length-drop, Option, Some, None, Result, Ok, Err, OnOk}
-use Rattle.std.specs.Prelude.{Contains, slice_get}
+use Rattle.std.proofs.Common.{◌≡◌, inl, inr, ℕ, zero, suc, ◌+◌, ◌-◌, ◌*◌, ◌<◌, ◌≤◌, max, List, [], ◌∷◌, ◌++◌, length, take, drop, refl, ap, ap₂, ◌∙◌, sym, subst, arith, append_assoc, length-drop, Option, Some, Result, Ok, Err, OnOk}
+use Rattle.std.specs.Prelude.{slice_get}
 use Rattle.pf_io.specs.Counts.{HasCause, counted, counted_times}
-use Rattle.pf_io.specs.Disk.{Name, File, Disk, Image, IsSettledFile}
+use Rattle.pf_io.specs.Disk.{Name, File, Disk, Image}
 use Rattle.pf_io.specs.Host.{Answer, Wrote, Synced, HostState, Both, IsMore, Tells, CountsNeither}
 use Rattle.pf_io.specs.Moments.{Honest, Does, Ran, Ends}
 use Rattle.pf_io.specs.SplicingProofs.{get_take, get_drop, overwrite-length, overwrite-back}
 use Rattle.pf_io.specs.Steps.{KeepsOthers, Changes, Writes, Syncs, overwrite, reach}
 use Rattle.pf_io.proofs.Images.{same_elements, follows_at, others_then}
-use Rattle.pf_io.proofs.Telling.{both_then, both_weaker, told_none}
+use Rattle.pf_io.proofs.Telling.{both_then, both_weaker}
 use Rattle.node_layout.specs.Metadata.{meta_text, meta_block}
 use Rattle.node_tree.specs.Next.{NextSheet, SealsNext, IsSealedAs}
 use Rattle.node_tree.specs.Opened.{block_of}
-use Rattle.node_tree.specs.Sealing.{seal_for, writes_of, CountsPuts, CountsWrites, PutsFront, PutTold, InBlocks, LeavesOutside, SealedFile, HasSealsOf, PutsAll, PutEnds}
-use Rattle.node_tree.specs.Sheet.{Node, Sheet, HasNode, sealed, meta_of}
-use Rattle.node_tree.specs.State.{TreeState, held_at, sealed_root, plain_or}
+use Rattle.node_tree.specs.Sealing.{seal_for, writes_of, CountsPuts, CountsWrites, PutsFront, LeavesOutside, HasSealsOf, PutEnds}
+use Rattle.node_tree.specs.Sheet.{Sheet, meta_of}
+use Rattle.node_tree.specs.State.{TreeState, sealed_root, plain_or}
 use Rattle.node_tree.proofs.Seals.{written}
-use Rattle.pf_session.specs.Asking.{Failing, NoCall, AReading, AWriting, AnotherCall, reads_in, writes_in, Asked, Stopped}
+use Rattle.pf_session.specs.Asking.{Failing, NoCall, AWriting, reads_in, writes_in, Asked, Stopped}
 use Rattle.pf_session.specs.Sealing.{LeavesOthers, HasNext, HasSealed, SealsFile, SealLeaves}
 use Rattle.pf_session.specs.Making.{StepsGo}
 use Rattle.pf_session.specs.Steps.{node_of}
-use Rattle.pf_session.proofs.Calls.{reads_then, writes_then, asked_then, same_asked, same_stopped, stopped_then, stopped_more, stopped_first, asked_neither, failed_neither}
+use Rattle.pf_session.proofs.Calls.{reads_then, writes_then, asked_then, same_asked, same_stopped, stopped_then, stopped_first, asked_neither, failed_neither}
 
 pub seals_next : (sheet : Sheet) (tree : TreeState) (path nonce : List ℕ) (keys : List (List ℕ)) (next : Sheet) → HasNext sheet tree path nonce keys next → SealsNext sheet tree keys next
 seals_next sheet tree path nonce keys next has = record { path = path; nonce = nonce; linked = has.linked; backs = has.backs; is_next = has.is_next }
@@ -132,13 +132,13 @@ module _ (block file : List ℕ) (long : length block ≡ 4096) where
   reached : reach 0 (length block) ≡ 4096
   reached = ap (reach 0) long
 
-  new_length : length (overwrite 0 block file) ≡ max (length file) 4096
+  pub new_length : length (overwrite 0 block file) ≡ max (length file) 4096
   new_length = omega (arith, overwrite-length 0 block file, reached)
 
-  node_0_there : (i : ℕ) → i < 4096 → slice_get (overwrite 0 block file) i ≡ slice_get block i
+  pub node_0_there : (i : ℕ) → i < 4096 → slice_get (overwrite 0 block file) i ≡ slice_get block i
   node_0_there i lt = sym (get_take 4096 (overwrite 0 block file) i lt) ∙ ap (λ (l : List ℕ). slice_get l i) (written 0 block file long)
 
-  behind_it : (i : ℕ) → 4096 ≤ i → slice_get (overwrite 0 block file) i ≡ slice_get file i
+  pub behind_it : (i : ℕ) → 4096 ≤ i → slice_get (overwrite 0 block file) i ≡ slice_get file i
   behind_it i le = overwrite-back 0 block file i (omega (arith, long))
 
   block_still : (k : ℕ) → 1 ≤ k → block_of (overwrite 0 block file) k ≡ block_of file k

@@ -1,21 +1,20 @@
 -- The sealing of a session, from the writing of its version.
-use Rattle.std.proofs.Common.{◌≡◌, ℕ, Bool, true, false, List, [], length, refl, ap, ◌∙◌, sym, subst, None, Result, Ok, Err}
+use Rattle.std.proofs.Common.{◌≡◌, ℕ, true, false, List, length, refl, ap, ◌∙◌, sym, subst, None, Ok, Err}
 use Rattle.std.proofs.lemmas.Bool.{false≢true}
 use Rattle.pf_io.specs.Host.{HostState}
 use Rattle.node_layout.specs.Metadata.{IsPath}
-use Rattle.node_layout.specs.declared.damage.Damage.{Damage}
-use Rattle.node_tree.specs.Existing.{AreKeys, MayBeSealed}
+use Rattle.node_tree.specs.Existing.{AreKeys}
 use Rattle.node_tree.specs.Next.{NextSheet, KeepsShape, IsSealedAs, IsSettled}
 use Rattle.node_tree.specs.Sheet.{Sheet, IsLinked}
 use Rattle.node_tree.specs.State.{TreeState, IsSound}
 use Rattle.node_tree.specs.Stepping.{BacksWith}
 use Rattle.node_tree.proofs.Following.{next_exists}
 use Rattle.pf_session.specs.State.{SessionState}
-use Rattle.pf_session.specs.Backing.{IsBacked, StandsOn}
+use Rattle.pf_session.specs.Backing.{IsBacked}
 use Rattle.pf_session.specs.Sealing.{HasNext}
-use Rattle.pf_session.specs.Making.{done_of, KeptAtDamage}
-use Rattle.pf_session.specs.Flushing.{Seals, SealsEach, KeepsName, SealGoes, node_short, call_failed, flushed}
-use Rattle.pf_session.specs.Versions.{VersionGoes, SealsOn, SealsOns, SealedAll}
+use Rattle.pf_session.specs.Making.{KeptAtDamage}
+use Rattle.pf_session.specs.Flushing.{SealsEach, KeepsName, SealGoes, node_short, call_failed, flushed}
+use Rattle.pf_session.specs.Versions.{VersionGoes, SealsOns, SealedAll}
 use Rattle.pf_session.specs.declared.fault.FlushFault.{FlushFault}
 use Rattle.pf_session.specs.declared.fault.FlushFault.TheVariants as faults
 
@@ -50,16 +49,16 @@ module _ (s : SessionState) (nonce : List ℕ) (keys : List (List ℕ)) (before 
       let whole : u ≡ record s { nonce = nonce; drawn = None; tree = tree; changed = false } = is ∙ ap (λ (x : SessionState). let y : SessionState = record x { nonce = nonce; drawn = None; tree = tree; changed = false } in y) rest in
       let same : u.tree ≡ tree = ap (λ (x : SessionState). x.tree) is in
       let each : SealsEach true nonce keys s (record s { nonce = nonce; drawn = None; tree = tree; changed = false }) before after = λ sheet linked back.
-          let next = next_of sheet linked back in
-          let has = has_next sheet linked back in
-          let on = seals sheet next.0 has in
-          let b = backed next.0 (sealed sheet next.0 has) in
-          record {
-            next = next.0;
-            is_next = next.1;
-            on_next = λ done. record { backed = record { path_is = sym next.1.path_is; nonce_is = sym next.1.nonce_is; backs = b.backs }; now_is = b.content_is };
-            named = on.named;
-            stands = on.stands;
-          } in
+      let next = next_of sheet linked back in
+      let has = has_next sheet linked back in
+      let on = seals sheet next.0 has in
+      let b = backed next.0 (sealed sheet next.0 has) in
+      record {
+        next = next.0;
+        is_next = next.1;
+        on_next = λ done. record { backed = record { path_is = sym next.1.path_is; nonce_is = sym next.1.nonce_is; backs = b.backs }; now_is = b.content_is };
+        named = on.named;
+        stands = on.stands;
+      } in
       flushed mid goes keeps (subst (λ (x : TreeState). IsSettled mid x) (sym same) settled) (subst (λ (x : SessionState). SealsEach true nonce keys s x before after) (sym whole) each)
       (whole ∙ ap (λ (x : TreeState). let y : SessionState = record s { nonce = nonce; drawn = None; tree = x; changed = false } in y) (sym same)) refl

@@ -1,13 +1,12 @@
 -- The file of the next sheet, made of the last one's clean nodes and of seals.
-use Rattle.std.proofs.Common.{◌≡◌, ◌⊎◌, inl, inr, ℕ, zero, suc, ◌+◌, ◌-◌, ◌*◌, ◌/◌, ◌<◌, ◌≤◌, Bool, true, false, List, [], ◌∷◌, ◌++◌, length, take, drop, refl, ap, ◌∙◌, sym, subst, arith, length-append, length-drop, Option, Some, w64}
+use Rattle.std.proofs.Common.{◌≡◌, inl, inr, ℕ, zero, suc, ◌+◌, ◌-◌, ◌*◌, ◌/◌, ◌<◌, ◌≤◌, Bool, true, false, List, ◌++◌, length, drop, refl, ap, ◌∙◌, sym, subst, arith, length-append, length-drop, Some, w64}
 use Rattle.std.specs.Prelude.{Contains, slice_get}
 use Rattle.std.specs.List.{flat_map}
 use Rattle.std.specs.Int.{to_le_bytes}
 use Rattle.std.proofs.lemmas.Bool.{cases_lt, false≢true}
 use Rattle.std.proofs.lemmas.List.{length-take}
-use Rattle.pf_io.specs.Disk.{File}
 use Rattle.pf_io.specs.SplicingProofs.{get_left}
-use Rattle.node_layout.specs.Metadata.{meta_text, meta_block, path_field}
+use Rattle.node_layout.specs.Metadata.{meta_block, path_field}
 use Rattle.node_layout.specs.Places.{node_count}
 use Rattle.node_layout.proofs.Blocks.{length-meta_block}
 use Rattle.node_layout.proofs.InNode.{piece_behind}
@@ -15,13 +14,13 @@ use Rattle.node_layout.proofs.Texts.{length-path_field}
 use Rattle.node_tree.specs.Content.{first_text}
 use Rattle.node_tree.specs.Opened.{block_of}
 use Rattle.node_tree.specs.Sealing.{InBlocks}
-use Rattle.node_tree.specs.Sheet.{Node, Sheet, HasNode, IsLinked, sealed, meta_of, image_of, root_of, PADDING, Stands}
+use Rattle.node_tree.specs.Sheet.{Node, Sheet, HasNode, IsLinked, sealed, meta_of, image_of, root_of, Stands}
 use Rattle.node_tree.specs.State.{TreeState}
 use Rattle.node_tree.proofs.Blocks.{length-sealed_node, length-blocks, block_there}
-use Rattle.node_tree.proofs.Standing.{node_there, within, meta_is_text, block_is}
-use Rattle.pf_session.specs.Copying.{is_in, clean_from, clean_below, HasCopies}
+use Rattle.node_tree.proofs.Standing.{node_there, meta_is_text, block_is}
+use Rattle.pf_session.specs.Copying.{is_in, clean_below}
 use Rattle.pf_session.specs.Sealing.{HasNext, HasSealed}
-use Rattle.pf_session.proofs.Lists.{byte_of_piece, is_in_there, there_is_in, not_is_in, clean_there}
+use Rattle.pf_session.proofs.Lists.{byte_of_piece, is_in_there, there_is_in, clean_there}
 
 -- the length of a sheet's file
 module _ (key : List ℕ) (sheet : Sheet) (linked : IsLinked sheet) (key_length : length key ≡ 16) where

@@ -1,15 +1,14 @@
 -- A new version of a session's content, from the writing of its parts.
-use Rattle.std.proofs.Common.{◌≡◌, ℕ, ◌+◌, ◌-◌, ◌*◌, ◌<◌, ◌≤◌, Bool, true, false, cond, List, [], ◌∷◌, ◌++◌, length, refl, ap, ◌∙◌, sym, subst, arith, Option, Some, None, IfSome, Result, Ok, Err, OnOk}
+use Rattle.std.proofs.Common.{◌≡◌, ℕ, ◌+◌, ◌-◌, ◌*◌, ◌≤◌, Bool, true, false, cond, List, length, refl, ap, ◌∙◌, sym, subst, arith, Option, Some, None, IfSome, Result, Ok, Err, OnOk}
 use Rattle.std.specs.Prelude.{Contains}
 use Rattle.std.proofs.lemmas.Bool.{false≢true}
 use Rattle.std.proofs.lemmas.Option.{IfSome_then}
-use Rattle.pf_io.specs.Disk.{Name, Files, File, Disk, read_of}
-use Rattle.pf_io.specs.Host.{HostState, Both, OnHonest, contents, files_of, Swapped}
-use Rattle.pf_io.specs.Moments.{Honest, Ends, Where}
+use Rattle.pf_io.specs.Disk.{Name, Files, File, read_of}
+use Rattle.pf_io.specs.Host.{HostState, Both, contents, files_of}
+use Rattle.pf_io.specs.Moments.{Ends, Where}
 use Rattle.pf_io.specs.Names.{side_of}
 use Rattle.pf_io.proofs.Telling.{both_weaker}
 use Rattle.node_layout.specs.Places.{node_count}
-use Rattle.node_layout.specs.declared.damage.Damage.{Damage}
 use Rattle.node_tree.specs.Backing.{Backs}
 use Rattle.node_tree.specs.Next.{KeepsShape, IsSealedAs}
 use Rattle.node_tree.specs.Sheet.{Sheet, Stands, image_of}
@@ -17,13 +16,12 @@ use Rattle.node_tree.specs.State.{TreeState}
 use Rattle.node_tree.proofs.Standing.{within}
 use Rattle.pf_session.specs.State.{SessionState, file_of}
 use Rattle.pf_session.specs.Asking.{NoCall, Asked, Stopped}
-use Rattle.pf_session.specs.Backing.{IsBacked}
 use Rattle.pf_session.specs.Copying.{clean_below}
 use Rattle.pf_session.specs.Reopening.{ReadsAs, HasSheet}
-use Rattle.pf_session.specs.Steps.{seal_steps, clean_nodes, steps_by, flush_steps}
+use Rattle.pf_session.specs.Steps.{seal_steps, clean_nodes, steps_by}
 use Rattle.pf_session.specs.Sealing.{ChangesAlone, HasNext, HasSealed, SealsFile, Replaces, StandsNext}
 use Rattle.pf_session.specs.Making.{ReplaceGoes, ReplacesNexts, StandsNexts, ReplaceUndamaged, done_of}
-use Rattle.pf_session.specs.Flushing.{FlushShort, FlushStopped, FlushDone, IsUndamaged, UndamagedFlush}
+use Rattle.pf_session.specs.Flushing.{UndamagedFlush}
 use Rattle.pf_session.specs.Versions.{VersionGoes, SealsOn, SealsOns}
 use Rattle.pf_session.specs.declared.fault.FlushFault.{FlushFault}
 use Rattle.pf_session.specs.declared.fault.FlushFault.TheVariants as faults
@@ -34,7 +32,7 @@ use Rattle.pf_session.proofs.Standing.{length-image, stands_next}
 
 -- the nodes of a sheet that a tree on it has not changed are in its file
 module _ (key : List ℕ) (sheet : Sheet) (tree : TreeState) (file : List ℕ) (key_length : length key ≡ 16) (backs : Backs sheet tree) (stands : Stands file key sheet) where
-  clean_whole : (k : ℕ) → Contains (clean_below tree.dirty (node_count tree.size)) k → 4096 * k + 4096 ≤ length file
+  pub clean_whole : (k : ℕ) → Contains (clean_below tree.dirty (node_count tree.size)) k → 4096 * k + 4096 ≤ length file
   clean_whole k among =
       let m = clean_member tree.dirty 1 (node_count tree.size - 1) k among in
       let low = m.0 in
@@ -75,21 +73,7 @@ module _ (s : SessionState) (nonce : List ℕ) (keys : List (List ℕ)) (mid : T
     asked = same_asked _ _ NoCall old new (ap (λ (b : Bool). steps_by b s nonce keys goes.blocks mid) (sym beside)) goes.asked;
   }
   named_goes (Err faults.Words) beside shape goes = goes
-  named_goes (Err (faults.Damaged damage)) beside shape goes = (
-    beside,
-    record {
-      done = goes.done;
-      left = goes.left;
-      blocks = goes.blocks;
-      block = goes.block;
-      in_order = goes.in_order;
-      are_blocks = goes.are_blocks;
-      short = goes.short;
-      kind_is = goes.kind_is;
-      asked = goes.asked;
-      alone = goes.alone;
-    },
-  )
+  named_goes (Err (faults.Damaged damage)) beside shape goes = (beside, goes)
   named_goes (Err faults.Host) beside shape goes = record {
     blocks = goes.blocks;
     are_blocks = goes.are_blocks;
@@ -151,7 +135,7 @@ seals_beside s nonce keys mid sheet next old new beside key_length has as_sealed
       record { file = q.0; there = q.1; settled = q.2; stands = stands_in_place s.key s.path nonce sheet s.tree mid keys next f.0.bytes q.0.bytes key_length has as_sealed shape f.2 q.3 }));
 }
 
-for_all : (P : Files → Type 0) (o : Option Files) → ((files : Files) → P files) → IfSome o P
+pub for_all : (P : Files → Type 0) (o : Option Files) → ((files : Files) → P files) → IfSome o P
 for_all P (Some files) each = each files
 for_all P None each = tt
 

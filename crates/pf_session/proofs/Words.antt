@@ -82,7 +82,7 @@ nonce_came drawn (Ok nonce) old new none is = record {
 }
 
 -- a nonce is of as many words as it takes
-words_count : (drawn : Option (List ℕ)) (nonce : List ℕ) (words : List (List ℕ)) → IsNonce drawn nonce words → length words ≡ nonce_words drawn
+pub words_count : (drawn : Option (List ℕ)) (nonce : List ℕ) (words : List (List ℕ)) → IsNonce drawn nonce words → length words ≡ nonce_words drawn
 words_count drawn nonce words (was_drawn is none) = ap (λ (l : List (List ℕ)). length l) none ∙ sym (ap nonce_words is)
 words_count drawn nonce words (of_words first second none is these) = ap (λ (l : List (List ℕ)). length l) these ∙ sym (ap nonce_words none)
 

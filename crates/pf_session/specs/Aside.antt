@@ -5,6 +5,7 @@ use Rattle.pf_io.specs.Host.{HostState, OnDisk}
 use Rattle.pf_io.specs.Moments.{Ran}
 use Rattle.pf_io.specs.Names.{recovery_of, side_of, side_recovery_of}
 use Rattle.pf_io.specs.Steps.{KeepsOthers}
+pub use Rattle.pf_io.specs.SideFile.{OthersLeft as LeavesOthers}
 
 -- another name than the name, its recovery file, its side file and the side file's recovery file
 pub record Apart (name other : Name) : Type 0 where
@@ -22,10 +23,6 @@ KeepsApart name old new = (other : Name) → Apart name other → new other ≡ 
 -- Whatever stands at these names, every other name is as before at every moment and in the end.
 abbrev pub Aside : Name → HostState → HostState → Type 0
 Aside name before after = OnDisk before after (Ran (LeavesApart name) (KeepsApart name))
-
--- every other name is as before in an image
-abbrev pub LeavesOthers : Name → Disk → Image → Type 0
-LeavesOthers name disk image = (other : Name) → other ≢ name → IsImageAt (disk other) (image other)
 
 -- one name alone was changed
 abbrev pub ChangesAlone : Name → HostState → HostState → Type 0
@@ -45,3 +42,18 @@ ChangesTwo name second before after = OnDisk before after (Ran (LeavesAllBut nam
 pub record LeavesNamed (name : Name) (disk : Disk) (image : Image) : Type 0 where
   pub here : IsImageAt (disk name) (image name)
   pub recovery : IsImageAt (disk (recovery_of name)) (image (recovery_of name))
+
+-- another name than those of a move from one name to another
+pub record ApartBoth (from to other : Name) : Type 0 where
+  pub of_old : Apart from other
+  pub of_new : Apart to other
+
+abbrev pub LeavesApartBoth : Name → Name → Disk → Image → Type 0
+LeavesApartBoth from to disk image = (other : Name) → ApartBoth from to other → IsImageAt (disk other) (image other)
+
+abbrev pub KeepsApartBoth : Name → Name → Disk → Disk → Type 0
+KeepsApartBoth from to old new = (other : Name) → ApartBoth from to other → new other ≡ old other
+
+-- Whatever stands at these names, every other name is as before at every moment and in the end.
+abbrev pub AsideBoth : Name → Name → HostState → HostState → Type 0
+AsideBoth from to before after = OnDisk before after (Ran (LeavesApartBoth from to) (KeepsApartBoth from to))

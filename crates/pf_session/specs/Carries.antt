@@ -1,5 +1,6 @@
 -- The sheet on which an opened session stands.
-use Rattle.std.specs.Prelude.{◌≡◌, ◌⊎◌, ℕ, List, ◌∷◌, ◌++◌, Contains, Option, Some, IfSome, Result, Ok, Err}
+use Rattle.std.specs.Prelude.{◌≡◌, ◌≢◌, ◌⊎◌, ℕ, List, ◌∷◌, ◌++◌, Contains, Option, Some, IfSome, Result, Ok, Err}
+use Rattle.node_layout.specs.declared.damage.Kind.TheVariants.{Text}
 use Rattle.pf_io.specs.Host.{Name, Answer, Gave, HostState, WhereTold, OnHonest}
 use Rattle.pf_io.specs.Answered.{Came}
 use Rattle.node_tree.specs.Sheet.{Sheet, IsLinked, Stands}
@@ -40,6 +41,22 @@ pub record OnFirst (sheets : List Sheet) (session : SessionState) (these : List 
 
 abbrev pub OpensOnFirst : SessionState → HostState → HostState → Type 0
 OpensOnFirst session before after = WhereTold before after (λ these. (sheets : List Sheet) → Unforged session.key sheets these → OnFirst sheets session these)
+
+-- Where nothing is forged, node 0 never opens to a text that is no metadata.
+abbrev pub IsNoText : Result SessionState OpenFault → Type 0
+IsNoText (Ok session) = Unit {0}
+IsNoText (Err faults.BadName) = Unit {0}
+IsNoText (Err faults.Memory) = Unit {0}
+IsNoText (Err faults.Host) = Unit {0}
+IsNoText (Err faults.NotFound) = Unit {0}
+IsNoText (Err faults.NotProtected) = Unit {0}
+IsNoText (Err (faults.Damaged damage)) = damage.kind ≢ Text
+IsNoText (Err faults.Unbuilt) = Unit {0}
+IsNoText (Err (faults.BadVersion major minor)) = Unit {0}
+IsNoText (Err (faults.WrongPath stored)) = Unit {0}
+
+abbrev pub OpensNoText : List ℕ → Result SessionState OpenFault → HostState → HostState → Type 0
+OpensNoText key result before after = WhereTold before after (λ these. (sheets : List Sheet) → Unforged key sheets these → IsNoText result)
 
 -- Over an honest host whose file stands for a sheet, with the given path where one is given, the opening is accepted and stands on the sheet, or a call failed, or there was no memory.
 abbrev pub IsOpenedOn : Sheet → Result SessionState OpenFault → Type 0

@@ -69,16 +69,16 @@ stepped of_tree flushed (Ok done) = Ok (record { flushed_before = flushed })
 stepped of_tree flushed (Err fault) = Err (of_tree fault)
 
 -- A change is refused by a rule, or is none, or is a step; where too many nodes would be dirty, the session is flushed before. Flush and step may fail.
-pub data ChangeGoes (E : Type 0) (Refused : E → Type 0) (None : Type 0) (of_flush : FlushFault → E) (of_tree : TreeFault → E) (step : Step) (result : Result Written E) (old new : SessionState) (before after : HostState) (random random' : WordsState) : Type 0 where
-  refused : (fault : E) → Refused fault → new ≡ old → after ≡ before → random' ≡ random → result ≡ Err fault → ChangeGoes E Refused None of_flush of_tree step result old new before after random random'
-  unchanged : ((fault : E) → ¬ (Refused fault)) → None → new ≡ old → after ≡ before → random' ≡ random → result ≡ Ok (record { flushed_before = false })
-      → ChangeGoes E Refused None of_flush of_tree step result old new before after random random'
-  changed : (one : Result (Unit {0}) TreeFault) → ((fault : E) → ¬ (Refused fault)) → ¬ None → IsRoomy step old.tree → StepGoes one step old new before after → random' ≡ random → result ≡ stepped of_tree false one
-      → ChangeGoes E Refused None of_flush of_tree step result old new before after random random'
-  not_flushed : (fault : FlushFault) → ((fault : E) → ¬ (Refused fault)) → ¬ None → IsFlushedFirst step old.tree → FlushGoes (Err fault) old new before after random random' → UndamagedFlush (Err fault) old before
-      → result ≡ Err (of_flush fault) → ChangeGoes E Refused None of_flush of_tree step result old new before after random random'
-  flushed_and_changed : (mid : SessionState) (between : HostState) (one : Result (Unit {0}) TreeFault) → ((fault : E) → ¬ (Refused fault)) → ¬ None → IsFlushedFirst step old.tree → FlushGoes (Ok tt) old mid before between random random'
-      → StepGoes one step mid new between after → result ≡ stepped of_tree true one → ChangeGoes E Refused None of_flush of_tree step result old new before after random random'
+pub data ChangeGoes (E : Type 0) (Refused : E → Type 0) (Nothing : Type 0) (of_flush : FlushFault → E) (of_tree : TreeFault → E) (step : Step) (result : Result Written E) (old new : SessionState) (before after : HostState) (random random' : WordsState) : Type 0 where
+  refused : (fault : E) → Refused fault → new ≡ old → after ≡ before → random' ≡ random → result ≡ Err fault → ChangeGoes E Refused Nothing of_flush of_tree step result old new before after random random'
+  unchanged : ((fault : E) → ¬ (Refused fault)) → Nothing → new ≡ old → after ≡ before → random' ≡ random → result ≡ Ok (record { flushed_before = false })
+      → ChangeGoes E Refused Nothing of_flush of_tree step result old new before after random random'
+  changed : (one : Result (Unit {0}) TreeFault) → ((fault : E) → ¬ (Refused fault)) → ¬ Nothing → IsRoomy step old.tree → StepGoes one step old new before after → random' ≡ random → result ≡ stepped of_tree false one
+      → ChangeGoes E Refused Nothing of_flush of_tree step result old new before after random random'
+  not_flushed : (fault : FlushFault) → ((fault : E) → ¬ (Refused fault)) → ¬ Nothing → IsFlushedFirst step old.tree → FlushGoes (Err fault) old new before after random random' → UndamagedFlush (Err fault) old before
+      → result ≡ Err (of_flush fault) → ChangeGoes E Refused Nothing of_flush of_tree step result old new before after random random'
+  flushed_and_changed : (mid : SessionState) (between : HostState) (one : Result (Unit {0}) TreeFault) → ((fault : E) → ¬ (Refused fault)) → ¬ Nothing → IsFlushedFirst step old.tree → FlushGoes (Ok tt) old mid before between random random'
+      → StepGoes one step mid new between after → result ≡ stepped of_tree true one → ChangeGoes E Refused Nothing of_flush of_tree step result old new before after random random'
 
 -- the first rule that refuses a write of n bytes
 abbrev pub WriteRefused : ℕ → ℕ → ℕ → WriteFault → Type 0

@@ -1,11 +1,10 @@
 -- What a flush of a session comes to.
-use Rattle.std.specs.Prelude.{◌≡◌, ◌≢◌, ℕ, ◌*◌, ◌<◌, Bool, true, false, List, [], ◌∷◌, ◌++◌, length, None, Result, Ok, Err}
+use Rattle.std.specs.Prelude.{◌≡◌, ◌≢◌, ℕ, Bool, true, false, List, length, None, Result, Ok, Err}
 use Rattle.node_layout.specs.declared.damage.Damage.{Damage}
-use Rattle.node_layout.specs.declared.damage.Kind.TheVariants.{Short}
 use Rattle.node_tree.specs.Next.{NextSheet, KeepsShape, IsSettled}
 use Rattle.node_tree.specs.Sheet.{Sheet, IsLinked, Stands}
 use Rattle.node_tree.specs.State.{TreeState}
-use Rattle.pf_io.specs.Host.{Gave, Made, Swapped, HostState, OnHonest, contents}
+use Rattle.pf_io.specs.Host.{Swapped, HostState, OnHonest, contents}
 use Rattle.pf_io.specs.Names.{side_of}
 use Rattle.pf_io.specs.Words.{WordsState}
 use Rattle.pf_session.specs.State.{SessionState, file_of}
@@ -13,13 +12,14 @@ use Rattle.pf_session.specs.Backing.{IsBacked, StandsOn}
 use Rattle.pf_session.specs.Restored.{KeepsBeside}
 use Rattle.pf_session.specs.Asking.{NoCall, Asked, Stopped}
 use Rattle.pf_session.specs.Drawing.{WordsCame, WordsLacked}
-use Rattle.pf_session.specs.Copying.{copied, AreBlocksOf}
+use Rattle.pf_session.specs.Copying.{AreBlocksOf}
 use Rattle.pf_session.specs.Steps.{clean_nodes, flush_steps}
 use Rattle.pf_session.specs.Sealing.{ChangesAlone, Replaces, StandsNext}
+use Rattle.pf_session.specs.Making.{ReplaceShort}
 use Rattle.pf_session.specs.declared.fault.FlushFault.{FlushFault}
 use Rattle.pf_session.specs.declared.fault.FlushFault.TheVariants as faults
 
--- On a sheet that backs the session a flush seals the next one. Where it is done, the session stands on it, and a file that stood for the sheet stands for it, also where something was pending.
+-- On a sheet that backs the session a flush seals the next one. Where it is done, the session stands on it, and a file that stood for the sheet stands for the next one, also where something was pending.
 pub record Seals (done : Bool) (sheet : Sheet) (nonce : List ℕ) (keys : List (List ℕ)) (old new : SessionState) (before after : HostState) : Type 0 where
   pub next : Sheet
   pub is_next : NextSheet sheet old.tree old.path nonce keys next
@@ -32,17 +32,8 @@ abbrev pub SealsEach : Bool → List ℕ → List (List ℕ) → SessionState �
 SealsEach done nonce keys old new before after = (sheet : Sheet) → IsLinked sheet → IsBacked sheet old → Seals done sheet nonce keys old new before after
 
 -- Those before a node were copied, and of it too few bytes were given. Nothing but the side file was changed.
-pub record FlushShort (session : SessionState) (damage : Damage) (before after : HostState) : Type 0 where
-  pub done : List ℕ
-  pub left : List ℕ
-  pub blocks : List (List ℕ)
-  pub block : List ℕ
-  pub in_order : clean_nodes session ≡ done ++ damage.node ∷ left
-  pub are_blocks : AreBlocksOf done blocks
-  pub short : length block < 4096
-  pub kind_is : damage.kind ≡ Short
-  pub asked : Asked (Made (side_of session.name) ∷ copied session.name (side_of session.name) done blocks ++ Gave session.name (4096 * damage.node) 4096 block ∷ []) NoCall before after
-  pub alone : ChangesAlone (side_of session.name) before after
+abbrev pub FlushShort : SessionState → Damage → HostState → HostState → Type 0
+FlushShort session damage before after = ReplaceShort session.name (side_of session.name) (clean_nodes session) damage before after
 
 -- One of the calls failed. Before the last of them, by which the side file takes the name, nothing but the side file was changed.
 pub record FlushStopped (session : SessionState) (nonce : List ℕ) (keys : List (List ℕ)) (tree : TreeState) (before after : HostState) : Type 0 where

@@ -22,3 +22,5 @@ pub mod Placing
 pub mod Creating
 pub mod Faults
 pub mod Changing
+pub mod Relocating
+pub mod Moving

@@ -9,7 +9,7 @@ use Rattle.pf_io.specs.Host.{Answer, Gave, Made, Swapped, HostState, OnDisk, OnH
 use Rattle.pf_io.specs.Moments.{Ends}
 use Rattle.pf_session.specs.Asking.{NoCall, Asked, Stopped}
 use Rattle.pf_session.specs.Copying.{copied, AreBlocksOf}
-use Rattle.pf_session.specs.Steps.{seal_steps, replace_steps}
+use Rattle.pf_session.specs.Steps.{replace_steps}
 use Rattle.pf_session.specs.Sealing.{ChangesAlone, HasNext, SealLeaves, Replaces, StandsNext}
 use Rattle.pf_session.specs.declared.fault.FlushFault.{FlushFault}
 use Rattle.pf_session.specs.declared.fault.FlushFault.TheVariants as faults

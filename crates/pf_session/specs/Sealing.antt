@@ -1,5 +1,5 @@
 -- What a sealing leaves on an honest disk.
-use Rattle.std.specs.Prelude.{◌≡◌, ◌≢◌, ◌⊎◌, ℕ, ◌<◌, ◌≤◌, Bool, true, false, List, length, Contains, slice_get, Some, Result, Ok, Err}
+use Rattle.std.specs.Prelude.{◌≡◌, ◌⊎◌, ℕ, ◌<◌, ◌≤◌, Bool, true, false, List, length, Contains, slice_get, Some, Result, Ok, Err}
 use Rattle.node_layout.specs.Metadata.{meta_block}
 use Rattle.node_tree.specs.Backing.{Backs}
 use Rattle.node_tree.specs.Next.{NextSheet}
@@ -7,7 +7,7 @@ use Rattle.node_tree.specs.Opened.{block_of}
 use Rattle.node_tree.specs.Sealing.{InBlocks}
 use Rattle.node_tree.specs.Sheet.{Node, Sheet, HasNode, IsLinked, sealed, meta_of}
 use Rattle.node_tree.specs.State.{TreeState}
-use Rattle.pf_io.specs.Disk.{Name, File, Disk, Image, IsImageAt, IsSettledFile}
+use Rattle.pf_io.specs.Disk.{Name, File, Disk, IsSettledFile}
 use Rattle.pf_io.specs.Steps.{KeepsOthers}
 use Rattle.pf_io.specs.Host.{HostState, OnDisk}
 use Rattle.pf_io.specs.Moments.{Ran, Ends, Where}

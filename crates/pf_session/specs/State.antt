@@ -1,5 +1,5 @@
 -- What contracts see of a session.
-use Rattle.std.specs.Prelude.{◌≡◌, ℕ, Bool, false, cond, List, [], length, IfSome, Option, None, refl}
+use Rattle.std.specs.Prelude.{◌≡◌, ℕ, Bool, cond, List, [], length, IfSome, Option, refl}
 use Rattle.std.specs.Coded.{Coded, code_by, coded×, coded_bool, coded_option}
 use Rattle.node_layout.specs.Metadata.{IsPath}
 use Rattle.node_layout.specs.Places.{node_count}

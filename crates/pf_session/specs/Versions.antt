@@ -3,7 +3,6 @@ use Rattle.std.specs.Prelude.{◌≡◌, ℕ, Bool, true, false, List, Result, O
 use Rattle.node_tree.specs.Next.{IsSealedAs}
 use Rattle.node_tree.specs.Sheet.{Sheet}
 use Rattle.node_tree.specs.State.{TreeState}
-use Rattle.node_tree.specs.Next.{KeepsShape}
 use Rattle.pf_io.specs.Host.{HostState}
 use Rattle.pf_session.specs.State.{SessionState, file_of}
 use Rattle.pf_session.specs.Sealing.{HasNext, Replaces, StandsNext}

@@ -93,7 +93,8 @@ impl Session {
     /// unchanged but for the words that were taken; or with `Damaged` or `Host`, as `flush` does. The write itself may meet
     /// `Damaged`, a touched node that is short or does not open, `Host`, a call that failed, or `Memory`, want of memory.
     /// After `Damaged`, `Host` and `Memory` the session is broken and can only be closed. The file is then as it was last
-    /// sealed; where the last call of a flush failed, it may have the version that was to be sealed.
+    /// sealed; where the last call of a flush failed, it may have the version that was to be sealed, and a file that is not
+    /// published yet, which a flush seals in place, may be any.
     pub fn write<H: Host, R: Words>(
         &mut self,
         host: &mut H,

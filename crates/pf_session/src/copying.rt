@@ -12,12 +12,7 @@ use node_layout::{Damage, Kind};
 use pf_io::Host;
 
 // Copies a node, all of whose bytes have to be there.
-fn copy_node<H: Host>(
-    host: &mut H,
-    from: &str,
-    to: &str,
-    number: u64,
-) -> Result<(), FlushFault>
+fn copy_node<H: Host>(host: &mut H, from: &str, to: &str, number: u64) -> Result<(), FlushFault>
     requires apart { from.now ≢ to.now }
     requires high { number < 2 ^ 30 }
     ensures goes { CopyGoes result from.now to.now (number ∷ []) (H.state host.old) (H.state host.new) }

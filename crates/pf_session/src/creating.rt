@@ -87,13 +87,6 @@ fn place<H: Host>(
 }
 
 impl Session {
-    // The name at which the file is made.
-    fn side(&self) -> &str
-        ensures { result.now ≡ side_of self.now.name }
-    {
-        self.side.as_str()
-    }
-
     // Takes the nonce of the first sealing, and gives its node 0.
     fn seal_empty(&mut self, nonce: [u8; 32]) -> [u8; 4096]
         requires { self.old.tree ≡ empty_tree }
@@ -129,7 +122,7 @@ impl Session {
         }
         let nonce = draw_nonce(random)?;
         let node = session.seal_empty(nonce);
-        place(host, name, session.side(), recovery.as_str(), &node)?;
+        place(host, name, session.side_name(), recovery.as_str(), &node)?;
         Ok(session)
     }
 
@@ -153,7 +146,7 @@ impl Session {
         let mut session = prepare(alloc, key, name, path, true)?;
         let nonce = draw_nonce(random)?;
         let node = session.seal_empty(nonce);
-        make_side(host, session.side(), &node)?;
+        make_side(host, session.side_name(), &node)?;
         Ok(session)
     }
 }

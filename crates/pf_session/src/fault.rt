@@ -1,9 +1,10 @@
 //! Why a call of a session ends before its work is done.
 ghost use Rattle.std.specs.Prelude.{◌≡◌};
-ghost use Rattle.pf_session.specs.Faults.{write_of_flush, write_of_tree, size_of_flush, size_of_tree};
+ghost use Rattle.pf_session.specs.Faults.{write_of_flush, write_of_tree, size_of_flush, size_of_tree, move_of_flush};
 ghost use Rattle.pf_session.specs.declared.fault.FlushFault.TheVariants.{Words as FlushWords, Host as FlushHost};
 ghost use Rattle.pf_session.specs.declared.fault.CreateFault.TheVariants.{Memory as CreateMemory, Words as CreateWords, Host as CreateHost};
 ghost use Rattle.pf_session.specs.declared.fault.BesideFault.TheVariants.{Memory as BesideMemory, Words as BesideWords, Host as BesideHost};
+ghost use Rattle.pf_session.specs.declared.fault.MoveFault.TheVariants.{Memory as MoveMemory, Host as MoveHost};
 
 use node_layout::Damage;
 use node_tree::TreeFault;
@@ -82,6 +83,23 @@ pub enum BesideFault {
     Words,
     /// A call of the host failed.
     Host,
+}
+
+/// Why a file is not moved.
+#[derive(Clone, Copy, Debug, PartialEq, Eq)]
+pub enum MoveFault {
+    /// The new name is none that a protected file may have.
+    BadName,
+    /// There is no memory.
+    Memory,
+    /// A call of the host failed.
+    Host,
+    /// There is a file of the new name.
+    TargetExists,
+    /// No random word came.
+    Words,
+    /// A node of the file is damaged.
+    Damaged(Damage),
 }
 
 /// A change that was made.
@@ -199,6 +217,34 @@ impl From<TreeFault> for SizeFault {
             TreeFault::Damaged(damage) => SizeFault::Damaged(damage),
             TreeFault::Host => SizeFault::Host,
             TreeFault::Memory => SizeFault::Memory,
+        }
+    }
+}
+
+impl From<Memory> for MoveFault {
+    ghost from_gives = { λ _ fault. fault ≡ MoveMemory };
+
+    fn from(_: Memory) -> Self {
+        MoveFault::Memory
+    }
+}
+
+impl From<HostFault> for MoveFault {
+    ghost from_gives = { λ _ fault. fault ≡ MoveHost };
+
+    fn from(_: HostFault) -> Self {
+        MoveFault::Host
+    }
+}
+
+impl From<FlushFault> for MoveFault {
+    ghost from_gives = { λ fault made. made ≡ move_of_flush fault };
+
+    fn from(fault: FlushFault) -> Self {
+        match fault {
+            FlushFault::Words => MoveFault::Words,
+            FlushFault::Damaged(damage) => MoveFault::Damaged(damage),
+            FlushFault::Host => MoveFault::Host,
         }
     }
 }

@@ -17,8 +17,8 @@ use arrayvec::ArrayVec;
 use node_tree::Tree;
 use pf_io::{Host, Words};
 
-// The numbers of the dirty nodes, in rising order.
-fn dirty_numbers(tree: &Tree) -> ArrayVec<u64, 48>
+/// The numbers of the dirty nodes, in rising order.
+pub(crate) fn dirty_numbers(tree: &Tree) -> ArrayVec<u64, 48>
     ensures same { result.items ≡ tree.now.dirty }
     ensures sound { IsSound tree.now }
 {
@@ -77,8 +77,8 @@ impl Session {
         )
     }
 
-    // Seals the content under a nonce, with a key for each dirty node.
-    fn seal<H: Host>(
+    /// Seals the content under a nonce, with a key for each dirty node.
+    pub(crate) fn seal<H: Host>(
         &mut self,
         host: &mut H,
         nonce: &[u8; 32],
@@ -104,7 +104,8 @@ impl Session {
         Ok(())
     }
 
-    /// Seals the content as a new version, which takes the place of the last one at once.
+    /// Seals the content as a new version, which takes the place of the last one at once. A file that is not published yet is
+    /// sealed in place.
     ///
     /// `Words` comes where a random word was wanting, and then nothing is changed but for the words that were taken.
     /// `Damaged` comes where a node to be copied is short, and `Host` where a call failed; the session is broken then.

@@ -3,30 +3,23 @@
 #![tactic(auto)]
 
 mod changing;
-#[cfg(test)]
-mod changing_tests;
 mod copying;
 mod creating;
-#[cfg(test)]
-mod creating_tests;
 mod drawing;
 mod ending;
 mod fault;
 mod file_name;
 mod flushing;
 mod laws;
+mod moving;
 mod node_zero;
 mod open_fault;
 mod opening;
-#[cfg(test)]
-mod opening_tests;
 mod reading;
 mod sealing;
 mod session;
-#[cfg(test)]
-mod tests;
 
-pub use fault::{BesideFault, CreateFault, FlushFault, SizeFault, WriteFault, Written};
+pub use fault::{BesideFault, CreateFault, FlushFault, MoveFault, SizeFault, WriteFault, Written};
 pub use laws::openings_are_decided;
 pub use open_fault::OpenFault;
 pub use session::Session;

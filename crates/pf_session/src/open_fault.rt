@@ -5,7 +5,8 @@ ghost use Rattle.pf_session.specs.declared.open_fault.OpenFault.TheVariants.{Hos
 use node_layout::{Damage, PathText};
 use pf_io::{HostFault, Memory};
 
-/// Why a file is not opened, in the order in which an opening refuses. `Host` may come at any call of the host.
+/// Why a file is not opened. The order in which an opening refuses is that of `Session::open`; `Host` may come at any call of
+/// the host.
 #[derive(Drop)]
 pub enum OpenFault {
     /// The name is none that a protected file may have, or the path is none that it may be stored under.

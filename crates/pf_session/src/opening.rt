@@ -9,7 +9,7 @@ ghost use Rattle.node_tree.specs.Fetching.{CountsReads};
 ghost use Rattle.node_tree.specs.Reading.{IsOfFile};
 ghost use Rattle.pf_session.specs.Opening.{AreGood, Opens, opening_part};
 ghost use Rattle.pf_session.specs.State.{unread};
-ghost use Rattle.pf_session.specs.Carries.{OpensOnCarried, OpensOnFirst, OpensStanding};
+ghost use Rattle.pf_session.specs.Carries.{OpensOnCarried, OpensOnFirst, OpensNoText, OpensStanding};
 ghost use Rattle.pf_session.specs.Aside.{Aside};
 ghost use Rattle.pf_session.specs.Keeping.{KeepsEither, OpensEither};
 
@@ -86,6 +86,7 @@ impl Session {
         ensures aside { Aside name.now (H.state host.old) (H.state host.new) }
         ensures carried { IfOk result (λ session. OpensOnCarried session (H.state host.old) (H.state host.new)) }
         ensures unforged { IfOk result (λ session. OpensOnFirst session (H.state host.old) (H.state host.new)) }
+        ensures never_text { OpensNoText key.now result (H.state host.old) (H.state host.new) }
         ensures standing { OpensStanding key.now name.now (option_map (λ p. p.now) path.entry) result (H.state host.old) }
         ensures reopens { IfOk result (λ session. OnDisk (H.state host.old) (H.state host.new) (OpensEither session)) }
         ensures of_file { IfOk result (λ session. (file : List ℕ) → IsOfFile file session.tree) }

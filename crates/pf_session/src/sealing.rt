@@ -18,10 +18,15 @@ use node_layout::{PathText, node_count, seal_meta};
 use node_tree::Tree;
 use pf_io::{Host, HostFault};
 
-
 /// Node 0 of the tree's content.
-pub(crate) fn make_node(key: &[u8; 16], path: &PathText, nonce: &[u8; 32], tree: &Tree) -> [u8; 4096]
-    ensures { result ≡ node_of key.now path.now nonce.now tree.now }
+pub(crate) fn make_node(
+    key: &[u8; 16],
+    path: &PathText,
+    nonce: &[u8; 32],
+    tree: &Tree,
+) -> [u8; 4096]
+    ensures same { result ≡ node_of key.now path.now nonce.now tree.now }
+    ensures first { length tree.now.first ≡ 3072 }
 {
     let secret = tree.meta(path);
     let mut node = [0; 4096];

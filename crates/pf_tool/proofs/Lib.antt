@@ -9,13 +9,26 @@ pub mod InputLaws
 pub mod PageReading
 pub mod LayoutReading
 mod Lists
+mod Conversing
+mod LineCounting
+mod ScriptCounting
+mod ScriptStreams
 mod Drawing
 mod HeldTree
 mod SessionWrites
 mod PieceGiving
 mod SessionBegun
 mod EncryptFinding
-mod InputDisk
+mod PieceAnswers
+mod SheetWrites
+mod PiecesStand
+mod InputStands
+mod SealCounts
+mod WriteFails
+mod SealStops
+mod SealDisks
+mod SealSummary
+mod SideBehind
 pub mod Numbered
 pub mod SameBlocks
 pub mod Following
@@ -46,5 +59,10 @@ mod EntryReading
 mod SumsEnding
 mod RunLaws
 mod RunClauses
+mod ScriptCauses
+mod ScriptKey
+mod EncryptRuns
+mod EncryptClauses
+mod RunChoices
 mod RunDisk
 pub mod ContentRuns

@@ -1,5 +1,5 @@
 -- What a session has once it was created beside a name, and once pieces were written.
-use Rattle.std.proofs.Common.{◌≡◌, ℕ, ◌+◌, ◌≤◌, true, false, List, [], ◌++◌, length, refl, sym, ap, subst, ◌∙◌, arith, length-append, None, Result, Ok, Err}
+use Rattle.std.proofs.Common.{◌≡◌, ◌≢◌, ℕ, ◌+◌, ◌≤◌, true, false, List, [], ◌++◌, length, refl, sym, ap, subst, ◌∙◌, arith, length-append, None, Result, Ok, Err}
 use Rattle.pf_io.specs.Disk.{Name}
 use Rattle.pf_io.specs.Host.{HostState}
 use Rattle.pf_io.specs.Words.{WordsState}
@@ -10,7 +10,10 @@ use Rattle.pf_session.specs.Placing.{make_steps}
 use Rattle.pf_session.specs.Restored.{KeepsBeside}
 use Rattle.pf_session.specs.State.{SessionState}
 use Rattle.pf_session.specs.declared.fault.BesideFault.{BesideFault}
-use Rattle.pf_io.specs.Names.{side_of}
+use Rattle.pf_session.specs.declared.fault.BesideFault.TheVariants as besides
+use Rattle.node_layout.specs.Metadata.{IsPath}
+use Rattle.std.specs.Str.{IsUtf8}
+use Rattle.pf_io.specs.Names.{IsTarget, side_of}
 use Rattle.pf_tool.specs.SealingInput.{PieceWritten, PiecesWritten, none_yet, one_more, InputWritten}
 use Rattle.pf_tool.proofs.SessionWrites.{Keeps, keeps_all, keeps_then, write_grows}
 
@@ -46,6 +49,17 @@ module _ (user : List ℕ) (output : Name) (session : SessionState) (before afte
   has_begun (no_words named same lacked is) = absurd (apart session _ is)
   has_begun (begin_stopped nonce named drawn linked stopped keeps is) = absurd (apart session _ is)
   has_begun (begun nonce named drawn asked keeps begins is_fresh is) = let same : session ≡ fresh user output output nonce true = cc in was_fresh nonce drawn asked keeps begins is_fresh same
+
+target_path : (name : Name) → IsTarget name → IsUtf8 name → IsPath name
+target_path name target text = let n = target.is_name in record { not_empty = n.not_empty; not_long = omega (arith, n.not_long); no_zero = n.no_zero; utf8 = text }
+
+-- a text that is a target is also a fit path
+pub is_named : (user : List ℕ) (output : Name) (why : BesideFault) (before after : HostState) (random random' : WordsState) → IsTarget output → IsUtf8 output → BesideGoes user output output before after random random' (Err why) → why ≢ besides.BadName
+is_named user output why before after random random' target text (misnamed unfit same words is) bad = unfit (record { is_target = target; path_is = target_path output target text })
+is_named user output why before after random random' target text (no_memory named same words is) bad = absurd (cc)
+is_named user output why before after random random' target text (no_words named same lacked is) bad = absurd (cc)
+is_named user output why before after random random' target text (begin_stopped nonce named drawn linked stopped keeps is) bad = absurd (cc)
+is_named user output why before after random random' target text (begun nonce named drawn asked keeps begins is_fresh is) bad = absurd (cc)
 
 module _ (input : Name) (old : SessionState) (before : HostState) (random : WordsState) where
   pub pieces_keep : (content : List ℕ) (new : SessionState) (after : HostState) (random' : WordsState) → PiecesWritten input old before random content new after random' → Keeps old new

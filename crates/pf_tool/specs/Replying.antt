@@ -48,6 +48,11 @@ abbrev pub closed_status : Option Reply → ℕ
 closed_status None = 0
 closed_status (Some reply) = reply_status reply
 
+-- a closing that failed was replied to, and this is its status; or the output failed in the reply
+abbrev pub SaysClosing : Result ℕ StreamFault → Option Reply → SinkState → SinkState → Type 0
+SaysClosing (Ok status) reply old new = (status ≡ closed_status reply) × WroteAll (closed_text reply) old new
+SaysClosing (Err fault) reply old new = SinkFailed (closed_text reply) old new
+
 -- what comes last
 abbrev pub end_text : List ℕ
 end_text = ended (codes "end")

@@ -1,8 +1,8 @@
 -- What a run of the program comes to, by what its words ask for.
-use Rattle.std.specs.Prelude.{⊤, ◌≡◌, ◌≢◌, ◌⊎◌, ℕ, ◌<◌, ◌≤◌, List, [], length, Option, Some, None, Result, Err}
+use Rattle.std.specs.Prelude.{⊤, ◌≡◌, ◌≢◌, ◌⊎◌, ℕ, suc, ◌<◌, ◌≤◌, List, [], length, Option, Some, None, Result, Err}
 use Rattle.std.specs.List.{concat}
 use Rattle.node_layout.specs.Metadata.{MOST_SIZE}
-use Rattle.pf_io.specs.Counts.{counted, counted_by}
+use Rattle.pf_io.specs.Counts.{counted, counted_by, counted_times}
 use Rattle.pf_io.specs.Disk.{Name, Files, Disk, Image, IsImageAt}
 use Rattle.pf_io.specs.Host.{Answer, HostState, Both, OnDisk, files_of}
 use Rattle.pf_io.specs.Moments.{Ran}
@@ -105,9 +105,9 @@ pub record CausedOnce (old new : World) (status : ℕ) : Type 0 where
   pub calm : (status ≤ 3) ⊎ (status ≡ 5) → Calm old new
   pub most : status ≤ 7
 
--- a count rose, once or more, or stands at its last value
+-- a count rose, once or more
 abbrev pub Rose : ℕ → ℕ → Type 0
-Rose before now = counted before ≤ now
+Rose before now = (times : ℕ) × (now ≡ counted_times (suc times) before)
 
 -- So in a session, in which a fault of the host or of the random words is replied and the run goes on. A fault of a stream ends it; one of the input comes too where the budget of
 -- reads is spent, each of which took a byte.

@@ -1,5 +1,5 @@
 -- The sealing of a plain file by a session beside the output's name: what its calls came to, in order.
-use Rattle.std.specs.Prelude.{◌≡◌, ℕ, ◌<◌, List, [], ◌∷◌, ◌++◌, length, Result, Ok, Err}
+use Rattle.std.specs.Prelude.{◌≡◌, ◌≢◌, ℕ, ◌<◌, List, [], ◌∷◌, ◌++◌, length, Result, Ok, Err}
 use Rattle.node_tree.specs.Parts.{PIECE}
 use Rattle.pf_io.specs.Disk.{Name}
 use Rattle.pf_io.specs.Host.{HostState, Gave}
@@ -10,6 +10,7 @@ use Rattle.pf_session.specs.Creating.{BesideGoes}
 use Rattle.pf_session.specs.Ending.{PublishGoes}
 use Rattle.pf_session.specs.State.{SessionState}
 use Rattle.pf_session.specs.declared.fault.BesideFault.{BesideFault}
+use Rattle.pf_session.specs.declared.fault.BesideFault.TheVariants as besides
 use Rattle.pf_session.specs.declared.fault.FlushFault.{FlushFault}
 use Rattle.pf_session.specs.declared.fault.WriteFault.{WriteFault}
 use Rattle.pf_session.specs.declared.fault.Written.{Written}
@@ -61,9 +62,9 @@ pub data InputStops (input : Name) (old : SessionState) (fault : Fault) (before 
   not_written : (earlier piece : List ℕ) (mid new : SessionState) (between given : HostState) (words : WordsState) (why : WriteFault) → PiecesWritten input old before random earlier mid between words
       → GavePiece input (length earlier) piece between given → WriteGoes (Err why) (length earlier) piece mid new given after words random' → IsPieceFault why fault → InputStops input old fault before after random random'
 
--- The file is created beside the output's name, with that name as path, gets all of the input, and takes the name.
+-- The file is created beside the output's name, which is also a fit path, gets all of the input, and takes the name.
 pub data SealsInput (user : List ℕ) (input output : Name) (ended : Result (Unit {0}) Fault) (before after : HostState) (random random' : WordsState) : Type 0 where
-  not_begun : (why : BesideFault) → BesideGoes user output output before after random random' (Err why) → ended ≡ Err (beside_fault why) → SealsInput user input output ended before after random random'
+  not_begun : (why : BesideFault) → why ≢ besides.BadName → BesideGoes user output output before after random random' (Err why) → ended ≡ Err (beside_fault why) → SealsInput user input output ended before after random random'
   not_copied : (session : SessionState) (begun : HostState) (words : WordsState) (fault : Fault) → BesideGoes user output output before begun random words (Ok session) → InputStops input session fault begun after words random'
       → ended ≡ Err fault → SealsInput user input output ended before after random random'
   not_published : (session whole : SessionState) (content : List ℕ) (begun copied : HostState) (words more : WordsState) (why : FlushFault) → BesideGoes user output output before begun random words (Ok session)

@@ -1,5 +1,6 @@
 // The command `encrypt`.
 ghost use Rattle.std.specs.Prelude.{◌≡◌, ◌++◌, ◌↔◌, IsTrue, List, ℕ, false, OnOk, IfErr};
+ghost use Rattle.pf_io.specs.Names.{IsTarget};
 ghost use Rattle.pf_tool.specs.World.{World, with_host, with_random};
 ghost use Rattle.pf_tool.specs.SealingInput.{InputWritten, InputStops, SealsInput};
 ghost use Rattle.pf_tool.specs.Encrypting.{IsInput, EncryptGoes};
@@ -69,6 +70,7 @@ fn seal_input<H: Host, R: Words>(
     input: &str,
     output: &str,
 ) -> Result<(), Fault<'static>>
+    requires { IsTarget output.now }
     ensures { SealsInput user.now input.now output.now result (H.state host.old) (H.state host.new) (R.state random.old) (R.state random.new) }
 {
     let mut session = Session::create_beside(alloc, host, random, user, output, output)?;

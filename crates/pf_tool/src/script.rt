@@ -3,6 +3,7 @@ ghost use Rattle.std.specs.Prelude.{◌<◌};
 ghost use Rattle.pf_io.specs.Streams.{SourceState, SinkState};
 ghost use Rattle.pf_script.specs.LineReading.{ReaderState};
 ghost use Rattle.pf_tool.specs.World.{world_of};
+ghost use Rattle.pf_tool.specs.Replying.{SaysClosing};
 ghost use Rattle.pf_tool.specs.Scripting.{at, ClosingGoes, ClosingsEnd, ScriptGoes};
 
 use crate::fault::Fault;
@@ -13,7 +14,17 @@ use pf_io::{Host, Sink, Source, StreamFault, Words};
 use pf_script::{Desk, LineReader, Reply};
 use std::alloc::Global;
 
-// Closes a seat, writes a reply that is none to a closing that went well, and answers its status.
+// Writes a reply to a closing that failed, and answers its status, or 0.
+fn say_closing<K: Sink>(out: &mut K, reply: &Option<Reply>) -> Result<u8, StreamFault>
+    ensures { SaysClosing result reply.now (K.state out.old) (K.state out.new) }
+{
+    match reply {
+        None | Some(Reply::Closed { .. }) => Ok(0),
+        Some(_) => say(out, reply),
+    }
+}
+
+// Closes a seat, and answers the status of its closing.
 fn close_seat<H: Host, K: Sink, R: Words>(
     host: &mut H,
     out: &mut K,
@@ -25,10 +36,8 @@ fn close_seat<H: Host, K: Sink, R: Words>(
     ensures { (reader : ReaderState) (input : SourceState) (log : SinkState) → ClosingGoes seat result (at desk.old reader (world_of (H.state host.old) input (K.state out.old) log (R.state random.old)))
         (at desk.new reader (world_of (H.state host.new) input (K.state out.new) log (R.state random.new))) }
 {
-    match desk.end(host, random, seat) {
-        None | Some(Reply::Closed { .. }) => Ok(0),
-        fault => say(out, &fault),
-    }
+    let reply = desk.end(host, random, seat);
+    say_closing(out, &reply)
 }
 
 // Closes the seats in order. Gives the status of the first closing that failed, or 0.

@@ -1,4 +1,4 @@
-use Rattle.std.proofs.Common.{◌≡◌, ◌≤◌, ℕ, subst, sym, arith, Err}
+use Rattle.std.proofs.Common.{subst, sym, arith, Err}
 use Rattle.std.proofs.lemmas.Result.{err_from_is_err_and}
 use Rattle.pf_io.specs.Host.{Both}
 use Rattle.pf_io.specs.Moments.{Ran}

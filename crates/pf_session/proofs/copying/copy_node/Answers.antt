@@ -1,11 +1,9 @@
-use Rattle.std.proofs.Common.{◌≡◌, ◌*◌, ◌<◌, ◌≤◌, ◌∷◌, [], ℕ, List, length, take, replicate, refl, ap, ◌∙◌, sym, subst, arith, Ok, Err}
+use Rattle.std.proofs.Common.{◌≡◌, ◌*◌, ◌∷◌, [], ℕ, List, length, take, replicate, refl, ap, ◌∙◌, arith}
 use Rattle.std.proofs.lemmas.List.{take_all, length-take, length-replicate}
 use Rattle.std.proofs.lemmas.Result.{err_from_is_err_and}
 use Rattle.pf_io.specs.Disk.{Files}
-use Rattle.pf_io.specs.Host.{Answer, Gave, Both, ReadsFrom, contents}
-use Rattle.pf_session.specs.Asking.{NoCall, Asked}
-use Rattle.pf_session.specs.declared.fault.FlushFault.{FlushFault}
-use Rattle.pf_session.specs.declared.fault.FlushFault.TheVariants as faults
+use Rattle.pf_io.specs.Host.{Answer, Gave, ReadsFrom, contents}
+use Rattle.pf_session.specs.Asking.{NoCall}
 use Rattle.pf_session.proofs.Calls.{asked_read, asked_write, failed_read, failed_write, same_asked}
 use Rattle.pf_session.proofs.Copied.{node_copied, node_unread, node_unwritten, node_short}
 use Rattle.pf_session.proofs.Copies.{copied_one, unwritten_one, unread_one, short_one, host_left}

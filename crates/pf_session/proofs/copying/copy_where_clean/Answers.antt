@@ -1,4 +1,4 @@
-use Rattle.std.proofs.Common.{◌≡◌, ◌∷◌, [], ℕ, List, ◌∙◌, sym, subst, Ok}
+use Rattle.std.proofs.Common.{ℕ, List, ◌∙◌, sym, subst}
 use Rattle.node_tree.proofs.United.{is_in, not_in}
 use Rattle.pf_io.specs.Host.{Both}
 use Rattle.pf_io.specs.Moments.{Ran}

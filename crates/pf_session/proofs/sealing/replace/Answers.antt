@@ -1,23 +1,21 @@
-use Rattle.std.proofs.Common.{◌≡◌, ◌≢◌, ◌∷◌, [], ℕ, List, length, refl, ap, ap₂, ◌∙◌, sym, subst, Result, Ok, Err}
+use Rattle.std.proofs.Common.{◌≡◌, ◌≢◌, ℕ, List, refl, ap, ap₂, ◌∙◌, sym, subst, Result, Ok, Err}
 use Rattle.std.proofs.lemmas.Result.{err_from_is_err_and}
 use Rattle.pf_io.specs.Counts.{HasCause}
-use Rattle.pf_io.specs.Disk.{Name}
 use Rattle.pf_io.specs.Host.{Made, Swapped, Both}
 use Rattle.pf_io.specs.Moments.{Ran}
-use Rattle.pf_io.specs.Steps.{KeepsOthers}
-use Rattle.pf_io.specs.Names.{side_of, recovery_of}
+use Rattle.pf_io.specs.Names.{recovery_of}
 use Rattle.pf_io.specs.declared.faults.HostFault.{HostFault}
 use Rattle.node_layout.specs.Places.{node_count}
-use Rattle.pf_session.specs.Asking.{NoCall, Asked}
-use Rattle.pf_session.specs.Copying.{clean_below, CopyGoes, CopyLeaves, Copied, CopiesInto}
+use Rattle.pf_session.specs.Copying.{clean_below, CopyGoes, Copied, CopiesInto}
 use Rattle.pf_session.specs.Flushing.{host_part}
 use Rattle.pf_session.specs.Making.{ReplaceGoes}
 use Rattle.pf_session.specs.Sealing.{LeavesOthers, ChangesAlone}
 use Rattle.pf_session.specs.declared.fault.FlushFault.{FlushFault}
 use Rattle.pf_session.proofs.Calls.{asked_neither, failed_neither}
 use Rattle.pf_session.proofs.CopyLoop.{copy_keeps}
-use Rattle.pf_session.proofs.Replacing.{side_apart, recovery_not_side, replaced, stands_replaced, not_replaced}
-use Rattle.pf_session.proofs.Replace.{same_shape, make_stops, copying_stops, sealing_stops, swapping_stops, all_replaced, alone_aside, swap_aside, make_ran, make_alone, then_alone, copy_ran, seal_ran, kept_same, kept_host}
+use Rattle.pf_session.proofs.Names.{side_apart, recovery_not_side}
+use Rattle.pf_session.proofs.Replacing.{replaced, stands_replaced, not_replaced}
+use Rattle.pf_session.proofs.Replace.{make_stops, copying_stops, sealing_stops, swapping_stops, all_replaced, alone_aside, swap_aside, make_ran, make_alone, then_alone, copy_ran, seal_ran, kept_same, kept_host}
 use Rattle.pf_session.proofs.sealing.replace.Goals as goal
 
 pub returns-in_err-make-clause-goes : goal.returns-in_err-make-clause-goes
@@ -44,12 +42,6 @@ returns-in_err-make-clause-aside g c =
     let s1 = g.H.Host.state c.make.new.self in
     let name = c.args.name.now in
     let side = c.args.side.now in
-    let key = c.args.key.now in
-    let path = c.args.path.now in
-    let nonce = c.args.nonce.now in
-    let tree = c.args.tree.now in
-    let keys = c.args.keys.now in
-    let clean = clean_below tree.dirty (node_count tree.size) in
     let apart : side ≢ name = λ same. side_apart name (sym c.requires.side ∙ same) in
     let failed_make : Result (Unit {0}) HostFault = Err c.in_err-make.field-0.0 in
     let alone : ChangesAlone side s0 s1 = make_alone name side apart failed_make s0.honest s1.honest c.in_err-make.ensures.disk in
@@ -63,11 +55,6 @@ returns-in_err-make-clause-replaces g c =
     let name = c.args.name.now in
     let side = c.args.side.now in
     let key = c.args.key.now in
-    let path = c.args.path.now in
-    let nonce = c.args.nonce.now in
-    let tree = c.args.tree.now in
-    let keys = c.args.keys.now in
-    let clean = clean_below tree.dirty (node_count tree.size) in
     let apart : side ≢ name = λ same. side_apart name (sym c.requires.side ∙ same) in
     let failed_make : Result (Unit {0}) HostFault = Err c.in_err-make.field-0.0 in
     let alone : ChangesAlone side s0 s1 = make_alone name side apart failed_make s0.honest s1.honest c.in_err-make.ensures.disk in
@@ -101,17 +88,8 @@ returns-in_err-copy_clean-clause-aside g c =
     let s1 = g.H.Host.state c.make.new.self in
     let name = c.args.name.now in
     let side = c.args.side.now in
-    let key = c.args.key.now in
-    let path = c.args.path.now in
-    let nonce = c.args.nonce.now in
-    let tree = c.args.tree.now in
-    let keys = c.args.keys.now in
-    let clean = clean_below tree.dirty (node_count tree.size) in
     let apart : side ≢ name = λ same. side_apart name (sym c.requires.side ∙ same) in
     let s2 = g.H.Host.state c.copy_clean.new.host in
-    let clean_is : clean_below c.args.dirty.now c.node_count.result ≡ clean = ap₂ clean_below c.requires.dirty (c.node_count.ensures ∙ ap node_count c.size.ensures.same) in
-    let made = asked_neither (Made side) s0 s1 refl refl c.in_ok-make.ensures.told c.in_ok-make.ensures.cause.still c.make.ensures.counts in
-    let copies = subst (λ (l : List ℕ). CopyGoes (Err c.in_err-copy_clean.field-0.0) name side l s1 s2) clean_is c.in_err-copy_clean.ensures.goes in
     let made_disk = make_ran name side apart (Unit {0}) HostFault tt s0.honest s1.honest c.in_ok-make.ensures.disk in
     let alone : ChangesAlone side s0 s2 = then_alone name side apart _ _ s0.honest s1.honest s2.honest made_disk c.in_err-copy_clean.ensures.disk (λ d e m. m.others) (copy_keeps c.in_err-copy_clean.field-0.0 name side _) in
     alone_aside name side s0.honest s2.honest c.requires.side alone
@@ -124,16 +102,8 @@ returns-in_err-copy_clean-clause-replaces g c =
     let name = c.args.name.now in
     let side = c.args.side.now in
     let key = c.args.key.now in
-    let path = c.args.path.now in
-    let nonce = c.args.nonce.now in
-    let tree = c.args.tree.now in
-    let keys = c.args.keys.now in
-    let clean = clean_below tree.dirty (node_count tree.size) in
     let apart : side ≢ name = λ same. side_apart name (sym c.requires.side ∙ same) in
     let s2 = g.H.Host.state c.copy_clean.new.host in
-    let clean_is : clean_below c.args.dirty.now c.node_count.result ≡ clean = ap₂ clean_below c.requires.dirty (c.node_count.ensures ∙ ap node_count c.size.ensures.same) in
-    let made = asked_neither (Made side) s0 s1 refl refl c.in_ok-make.ensures.told c.in_ok-make.ensures.cause.still c.make.ensures.counts in
-    let copies = subst (λ (l : List ℕ). CopyGoes (Err c.in_err-copy_clean.field-0.0) name side l s1 s2) clean_is c.in_err-copy_clean.ensures.goes in
     let made_disk = make_ran name side apart (Unit {0}) HostFault tt s0.honest s1.honest c.in_ok-make.ensures.disk in
     let alone : ChangesAlone side s0 s2 = then_alone name side apart _ _ s0.honest s1.honest s2.honest made_disk c.in_err-copy_clean.ensures.disk (λ d e m. m.others) (copy_keeps c.in_err-copy_clean.field-0.0 name side _) in
     rw p.1 (λ sheet next has. not_replaced key name side sheet next apart s0.honest s2.honest alone)
@@ -170,19 +140,12 @@ returns-in_err-seal_nodes-clause-aside g c =
     let s1 = g.H.Host.state c.make.new.self in
     let name = c.args.name.now in
     let side = c.args.side.now in
-    let key = c.args.key.now in
-    let path = c.args.path.now in
-    let nonce = c.args.nonce.now in
     let tree = c.args.tree.now in
-    let keys = c.args.keys.now in
     let clean = clean_below tree.dirty (node_count tree.size) in
     let apart : side ≢ name = λ same. side_apart name (sym c.requires.side ∙ same) in
     let s2 = g.H.Host.state c.copy_clean.new.host in
     let clean_is : clean_below c.args.dirty.now c.node_count.result ≡ clean = ap₂ clean_below c.requires.dirty (c.node_count.ensures ∙ ap node_count c.size.ensures.same) in
-    let made = asked_neither (Made side) s0 s1 refl refl c.in_ok-make.ensures.told c.in_ok-make.ensures.cause.still c.make.ensures.counts in
     let s3 = g.H.Host.state c.seal_nodes.new.host in
-    let mid = c.seal_nodes.new.tree in
-    let copies : Copied name side clean s1 s2 = subst (λ (l : List ℕ). Copied name side l s1 s2) clean_is c.in_ok-copy_clean.ensures.goes in
     let copies_disk : Both s1.honest s2.honest (Ran (LeavesOthers side) (CopiesInto name side clean)) = subst (λ (l : List ℕ). Both s1.honest s2.honest (Ran (LeavesOthers side) (CopiesInto name side l))) clean_is c.in_ok-copy_clean.ensures.disk in
     let made_disk = make_ran name side apart (Unit {0}) HostFault tt s0.honest s1.honest c.in_ok-make.ensures.disk in
     let copied_disk = copy_ran name side apart clean s0.honest s1.honest s2.honest made_disk copies_disk in
@@ -197,18 +160,12 @@ returns-in_err-seal_nodes-clause-replaces g c =
     let name = c.args.name.now in
     let side = c.args.side.now in
     let key = c.args.key.now in
-    let path = c.args.path.now in
-    let nonce = c.args.nonce.now in
     let tree = c.args.tree.now in
-    let keys = c.args.keys.now in
     let clean = clean_below tree.dirty (node_count tree.size) in
     let apart : side ≢ name = λ same. side_apart name (sym c.requires.side ∙ same) in
     let s2 = g.H.Host.state c.copy_clean.new.host in
     let clean_is : clean_below c.args.dirty.now c.node_count.result ≡ clean = ap₂ clean_below c.requires.dirty (c.node_count.ensures ∙ ap node_count c.size.ensures.same) in
-    let made = asked_neither (Made side) s0 s1 refl refl c.in_ok-make.ensures.told c.in_ok-make.ensures.cause.still c.make.ensures.counts in
     let s3 = g.H.Host.state c.seal_nodes.new.host in
-    let mid = c.seal_nodes.new.tree in
-    let copies : Copied name side clean s1 s2 = subst (λ (l : List ℕ). Copied name side l s1 s2) clean_is c.in_ok-copy_clean.ensures.goes in
     let copies_disk : Both s1.honest s2.honest (Ran (LeavesOthers side) (CopiesInto name side clean)) = subst (λ (l : List ℕ). Both s1.honest s2.honest (Ran (LeavesOthers side) (CopiesInto name side l))) clean_is c.in_ok-copy_clean.ensures.disk in
     let made_disk = make_ran name side apart (Unit {0}) HostFault tt s0.honest s1.honest c.in_ok-make.ensures.disk in
     let copied_disk = copy_ran name side apart clean s0.honest s1.honest s2.honest made_disk copies_disk in
@@ -228,17 +185,12 @@ returns-in_err-swap_name-clause-goes g c =
     let tree = c.args.tree.now in
     let keys = c.args.keys.now in
     let clean = clean_below tree.dirty (node_count tree.size) in
-    let apart : side ≢ name = λ same. side_apart name (sym c.requires.side ∙ same) in
     let s2 = g.H.Host.state c.copy_clean.new.host in
     let clean_is : clean_below c.args.dirty.now c.node_count.result ≡ clean = ap₂ clean_below c.requires.dirty (c.node_count.ensures ∙ ap node_count c.size.ensures.same) in
     let made = asked_neither (Made side) s0 s1 refl refl c.in_ok-make.ensures.told c.in_ok-make.ensures.cause.still c.make.ensures.counts in
     let s3 = g.H.Host.state c.seal_nodes.new.host in
     let mid = c.seal_nodes.new.tree in
     let copies : Copied name side clean s1 s2 = subst (λ (l : List ℕ). Copied name side l s1 s2) clean_is c.in_ok-copy_clean.ensures.goes in
-    let copies_disk : Both s1.honest s2.honest (Ran (LeavesOthers side) (CopiesInto name side clean)) = subst (λ (l : List ℕ). Both s1.honest s2.honest (Ran (LeavesOthers side) (CopiesInto name side l))) clean_is c.in_ok-copy_clean.ensures.disk in
-    let made_disk = make_ran name side apart (Unit {0}) HostFault tt s0.honest s1.honest c.in_ok-make.ensures.disk in
-    let copied_disk = copy_ran name side apart clean s0.honest s1.honest s2.honest made_disk copies_disk in
-    let alone : ChangesAlone side s0 s3 = then_alone name side apart _ _ s0.honest s2.honest s3.honest copied_disk c.seal_nodes.ensures.alone (λ d e m. m.others) (λ d e keeps. keeps) in
     let s4 = g.H.Host.state c.swap_name.new.self in
     rw p.1 (swapping_stops key path nonce name side clean tree.dirty keys mid s0 s1 s2 s3 made copies s4 c.in_ok-seal_nodes.ensures.goes p.0 p.2 (failed_neither s3 s4 c.in_err-swap_name.ensures.told c.in_err-swap_name.ensures.cause.once c.swap_name.ensures.counts))
 
@@ -248,19 +200,12 @@ returns-in_err-swap_name-clause-aside g c =
     let s1 = g.H.Host.state c.make.new.self in
     let name = c.args.name.now in
     let side = c.args.side.now in
-    let key = c.args.key.now in
-    let path = c.args.path.now in
-    let nonce = c.args.nonce.now in
     let tree = c.args.tree.now in
-    let keys = c.args.keys.now in
     let clean = clean_below tree.dirty (node_count tree.size) in
     let apart : side ≢ name = λ same. side_apart name (sym c.requires.side ∙ same) in
     let s2 = g.H.Host.state c.copy_clean.new.host in
     let clean_is : clean_below c.args.dirty.now c.node_count.result ≡ clean = ap₂ clean_below c.requires.dirty (c.node_count.ensures ∙ ap node_count c.size.ensures.same) in
-    let made = asked_neither (Made side) s0 s1 refl refl c.in_ok-make.ensures.told c.in_ok-make.ensures.cause.still c.make.ensures.counts in
     let s3 = g.H.Host.state c.seal_nodes.new.host in
-    let mid = c.seal_nodes.new.tree in
-    let copies : Copied name side clean s1 s2 = subst (λ (l : List ℕ). Copied name side l s1 s2) clean_is c.in_ok-copy_clean.ensures.goes in
     let copies_disk : Both s1.honest s2.honest (Ran (LeavesOthers side) (CopiesInto name side clean)) = subst (λ (l : List ℕ). Both s1.honest s2.honest (Ran (LeavesOthers side) (CopiesInto name side l))) clean_is c.in_ok-copy_clean.ensures.disk in
     let made_disk = make_ran name side apart (Unit {0}) HostFault tt s0.honest s1.honest c.in_ok-make.ensures.disk in
     let copied_disk = copy_ran name side apart clean s0.honest s1.honest s2.honest made_disk copies_disk in
@@ -285,14 +230,11 @@ returns-in_err-swap_name-clause-replaces g c =
     let apart : side ≢ name = λ same. side_apart name (sym c.requires.side ∙ same) in
     let s2 = g.H.Host.state c.copy_clean.new.host in
     let clean_is : clean_below c.args.dirty.now c.node_count.result ≡ clean = ap₂ clean_below c.requires.dirty (c.node_count.ensures ∙ ap node_count c.size.ensures.same) in
-    let made = asked_neither (Made side) s0 s1 refl refl c.in_ok-make.ensures.told c.in_ok-make.ensures.cause.still c.make.ensures.counts in
     let s3 = g.H.Host.state c.seal_nodes.new.host in
     let mid = c.seal_nodes.new.tree in
-    let copies : Copied name side clean s1 s2 = subst (λ (l : List ℕ). Copied name side l s1 s2) clean_is c.in_ok-copy_clean.ensures.goes in
     let copies_disk : Both s1.honest s2.honest (Ran (LeavesOthers side) (CopiesInto name side clean)) = subst (λ (l : List ℕ). Both s1.honest s2.honest (Ran (LeavesOthers side) (CopiesInto name side l))) clean_is c.in_ok-copy_clean.ensures.disk in
     let made_disk = make_ran name side apart (Unit {0}) HostFault tt s0.honest s1.honest c.in_ok-make.ensures.disk in
     let copied_disk = copy_ran name side apart clean s0.honest s1.honest s2.honest made_disk copies_disk in
-    let alone : ChangesAlone side s0 s3 = then_alone name side apart _ _ s0.honest s2.honest s3.honest copied_disk c.seal_nodes.ensures.alone (λ d e m. m.others) (λ d e keeps. keeps) in
     let s4 = g.H.Host.state c.swap_name.new.self in
     let not_recovery : recovery_of name ≢ side = λ same. recovery_not_side name (same ∙ c.requires.side) in
     let failed_swap : Result (Unit {0}) HostFault = Err c.in_err-swap_name.field-0.0 in
@@ -312,17 +254,12 @@ returns-clause-goes g c =
     let tree = c.args.tree.now in
     let keys = c.args.keys.now in
     let clean = clean_below tree.dirty (node_count tree.size) in
-    let apart : side ≢ name = λ same. side_apart name (sym c.requires.side ∙ same) in
     let s2 = g.H.Host.state c.copy_clean.new.host in
     let clean_is : clean_below c.args.dirty.now c.node_count.result ≡ clean = ap₂ clean_below c.requires.dirty (c.node_count.ensures ∙ ap node_count c.size.ensures.same) in
     let made = asked_neither (Made side) s0 s1 refl refl c.in_ok-make.ensures.told c.in_ok-make.ensures.cause.still c.make.ensures.counts in
     let s3 = g.H.Host.state c.seal_nodes.new.host in
     let mid = c.seal_nodes.new.tree in
     let copies : Copied name side clean s1 s2 = subst (λ (l : List ℕ). Copied name side l s1 s2) clean_is c.in_ok-copy_clean.ensures.goes in
-    let copies_disk : Both s1.honest s2.honest (Ran (LeavesOthers side) (CopiesInto name side clean)) = subst (λ (l : List ℕ). Both s1.honest s2.honest (Ran (LeavesOthers side) (CopiesInto name side l))) clean_is c.in_ok-copy_clean.ensures.disk in
-    let made_disk = make_ran name side apart (Unit {0}) HostFault tt s0.honest s1.honest c.in_ok-make.ensures.disk in
-    let copied_disk = copy_ran name side apart clean s0.honest s1.honest s2.honest made_disk copies_disk in
-    let alone : ChangesAlone side s0 s3 = then_alone name side apart _ _ s0.honest s2.honest s3.honest copied_disk c.seal_nodes.ensures.alone (λ d e m. m.others) (λ d e keeps. keeps) in
     let s4 = g.H.Host.state c.swap_name.new.self in
     all_replaced key path nonce name side clean tree.dirty keys mid s0 s1 s2 s3 made copies s4 c.in_ok-seal_nodes.ensures.goes (asked_neither (Swapped side name) s3 s4 refl refl c.in_ok-swap_name.ensures.told c.in_ok-swap_name.ensures.cause.still c.swap_name.ensures.counts)
 
@@ -332,19 +269,12 @@ returns-clause-aside g c =
     let s1 = g.H.Host.state c.make.new.self in
     let name = c.args.name.now in
     let side = c.args.side.now in
-    let key = c.args.key.now in
-    let path = c.args.path.now in
-    let nonce = c.args.nonce.now in
     let tree = c.args.tree.now in
-    let keys = c.args.keys.now in
     let clean = clean_below tree.dirty (node_count tree.size) in
     let apart : side ≢ name = λ same. side_apart name (sym c.requires.side ∙ same) in
     let s2 = g.H.Host.state c.copy_clean.new.host in
     let clean_is : clean_below c.args.dirty.now c.node_count.result ≡ clean = ap₂ clean_below c.requires.dirty (c.node_count.ensures ∙ ap node_count c.size.ensures.same) in
-    let made = asked_neither (Made side) s0 s1 refl refl c.in_ok-make.ensures.told c.in_ok-make.ensures.cause.still c.make.ensures.counts in
     let s3 = g.H.Host.state c.seal_nodes.new.host in
-    let mid = c.seal_nodes.new.tree in
-    let copies : Copied name side clean s1 s2 = subst (λ (l : List ℕ). Copied name side l s1 s2) clean_is c.in_ok-copy_clean.ensures.goes in
     let copies_disk : Both s1.honest s2.honest (Ran (LeavesOthers side) (CopiesInto name side clean)) = subst (λ (l : List ℕ). Both s1.honest s2.honest (Ran (LeavesOthers side) (CopiesInto name side l))) clean_is c.in_ok-copy_clean.ensures.disk in
     let made_disk = make_ran name side apart (Unit {0}) HostFault tt s0.honest s1.honest c.in_ok-make.ensures.disk in
     let copied_disk = copy_ran name side apart clean s0.honest s1.honest s2.honest made_disk copies_disk in
@@ -368,14 +298,11 @@ returns-clause-replaces g c =
     let apart : side ≢ name = λ same. side_apart name (sym c.requires.side ∙ same) in
     let s2 = g.H.Host.state c.copy_clean.new.host in
     let clean_is : clean_below c.args.dirty.now c.node_count.result ≡ clean = ap₂ clean_below c.requires.dirty (c.node_count.ensures ∙ ap node_count c.size.ensures.same) in
-    let made = asked_neither (Made side) s0 s1 refl refl c.in_ok-make.ensures.told c.in_ok-make.ensures.cause.still c.make.ensures.counts in
     let s3 = g.H.Host.state c.seal_nodes.new.host in
     let mid = c.seal_nodes.new.tree in
-    let copies : Copied name side clean s1 s2 = subst (λ (l : List ℕ). Copied name side l s1 s2) clean_is c.in_ok-copy_clean.ensures.goes in
     let copies_disk : Both s1.honest s2.honest (Ran (LeavesOthers side) (CopiesInto name side clean)) = subst (λ (l : List ℕ). Both s1.honest s2.honest (Ran (LeavesOthers side) (CopiesInto name side l))) clean_is c.in_ok-copy_clean.ensures.disk in
     let made_disk = make_ran name side apart (Unit {0}) HostFault tt s0.honest s1.honest c.in_ok-make.ensures.disk in
     let copied_disk = copy_ran name side apart clean s0.honest s1.honest s2.honest made_disk copies_disk in
-    let alone : ChangesAlone side s0 s3 = then_alone name side apart _ _ s0.honest s2.honest s3.honest copied_disk c.seal_nodes.ensures.alone (λ d e m. m.others) (λ d e keeps. keeps) in
     let s4 = g.H.Host.state c.swap_name.new.self in
     let not_recovery : recovery_of name ≢ side = λ same. recovery_not_side name (same ∙ c.requires.side) in
     let done_swap : Result (Unit {0}) HostFault = Ok tt in
@@ -398,14 +325,11 @@ returns-clause-stands g c =
     let apart : side ≢ name = λ same. side_apart name (sym c.requires.side ∙ same) in
     let s2 = g.H.Host.state c.copy_clean.new.host in
     let clean_is : clean_below c.args.dirty.now c.node_count.result ≡ clean = ap₂ clean_below c.requires.dirty (c.node_count.ensures ∙ ap node_count c.size.ensures.same) in
-    let made = asked_neither (Made side) s0 s1 refl refl c.in_ok-make.ensures.told c.in_ok-make.ensures.cause.still c.make.ensures.counts in
     let s3 = g.H.Host.state c.seal_nodes.new.host in
     let mid = c.seal_nodes.new.tree in
-    let copies : Copied name side clean s1 s2 = subst (λ (l : List ℕ). Copied name side l s1 s2) clean_is c.in_ok-copy_clean.ensures.goes in
     let copies_disk : Both s1.honest s2.honest (Ran (LeavesOthers side) (CopiesInto name side clean)) = subst (λ (l : List ℕ). Both s1.honest s2.honest (Ran (LeavesOthers side) (CopiesInto name side l))) clean_is c.in_ok-copy_clean.ensures.disk in
     let made_disk = make_ran name side apart (Unit {0}) HostFault tt s0.honest s1.honest c.in_ok-make.ensures.disk in
     let copied_disk = copy_ran name side apart clean s0.honest s1.honest s2.honest made_disk copies_disk in
-    let alone : ChangesAlone side s0 s3 = then_alone name side apart _ _ s0.honest s2.honest s3.honest copied_disk c.seal_nodes.ensures.alone (λ d e m. m.others) (λ d e keeps. keeps) in
     let s4 = g.H.Host.state c.swap_name.new.self in
     let not_recovery : recovery_of name ≢ side = λ same. recovery_not_side name (same ∙ c.requires.side) in
     λ sheet next has.
@@ -424,7 +348,6 @@ pub returns-in_err-swap_name-clause-kept : goal.returns-in_err-swap_name-clause-
 returns-in_err-swap_name-clause-kept g c =
     let p = err_from_is_err_and c.from_residual-in_err-swap_name.result c.from_residual-in_err-swap_name.ensures.1 in
     rw p.1 (kept_host p.0 c.args.tree.now c.seal_nodes.new.tree p.2)
-
 
 pub returns-in_err-copy_clean-clause-cause : goal.returns-in_err-copy_clean-clause-cause
 returns-in_err-copy_clean-clause-cause g c =

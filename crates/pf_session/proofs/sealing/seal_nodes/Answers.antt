@@ -1,8 +1,8 @@
-use Rattle.std.proofs.Common.{◌≡◌, ◌∷◌, [], ◌++◌, ℕ, List, length, replicate, refl, append_assoc, ap, ◌∙◌, sym, subst, arith, rules, Ok, Err}
+use Rattle.std.proofs.Common.{◌≡◌, ◌∷◌, [], ◌++◌, ℕ, List, length, append_assoc, ap, ◌∙◌, arith, rules}
 use Rattle.std.proofs.lemmas.Result.{err_from_is_err_and}
 use Rattle.pf_io.specs.declared.faults.HostFault.{HostFault}
 use Rattle.pf_io.specs.Host.{Answer, Wrote, Synced}
-use Rattle.pf_io.specs.Steps.{KeepsOthers, Changes, Writes, Syncs}
+use Rattle.pf_io.specs.Steps.{KeepsOthers}
 use Rattle.node_tree.specs.Sealing.{writes_of}
 use Rattle.node_tree.specs.State.{held_at}
 use Rattle.pf_session.specs.Asking.{NoCall}
@@ -57,8 +57,8 @@ returns-clause-goes g c =
     let node = node_of c.args.key.now c.args.path.now c.args.nonce.now tree in
     let long : length c.make_node-node.result ≡ 4096 = search rules in
     let first = asked_puts name (held_at tree) c.args.tree.now.dirty c.args.keys.now s0 s1 c.requires.one_each c.in_ok-put_nodes.ensures.told c.in_ok-put_nodes.ensures.cause.still c.put_nodes.ensures.counts c.in_ok-put_nodes.ensures.calls in
-    let second = same_asked _ _ NoCall s1 s2 (ap (λ (b : List ℕ). let a : Answer = Wrote name 0 b in a ∷ []) c.make_node-node.ensures)
-        (asked_write name 0 _ c.make_node-node.result s1 s2 (omega (arith, long)) c.in_ok-write_at.ensures.told c.in_ok-write_at.ensures.cause.still c.write_at.ensures.counts) in
+    let second = same_asked _ _ NoCall s1 s2 (ap (λ (b : List ℕ). let a : Answer = Wrote name 0 b in a ∷ []) c.make_node-node.ensures.same)
+    (asked_write name 0 _ c.make_node-node.result s1 s2 (omega (arith, long)) c.in_ok-write_at.ensures.told c.in_ok-write_at.ensures.cause.still c.write_at.ensures.counts) in
     go_same c.sync.result _ _ s0 s3 (append_assoc puts (Wrote name 0 node ∷ []) (Synced name ∷ []))
     (synced c.sync.result name (puts ++ Wrote name 0 node ∷ []) s0 s2 s3 (asked_then puts (Wrote name 0 node ∷ []) NoCall s0 s1 s2 first second) c.sync.ensures.told c.sync.ensures.cause c.sync.ensures.counts)
 
@@ -81,6 +81,6 @@ returns-clause-seals g c = λ sheet next has.
     let dirty = c.args.tree.now.dirty in
     let long : length c.make_node-node.result ≡ 4096 = search rules in
     let of_tree = seals_next sheet c.args.tree.now c.args.path.now c.args.nonce.now c.args.keys.now next has in
-    let is = c.make_node-node.ensures ∙ node_is key c.args.path.now c.args.nonce.now sheet c.args.tree.now c.args.keys.now next tree has.is_next (c.in_ok-put_nodes.ensures.sealed sheet next of_tree) in
+    let is = c.make_node-node.ensures.same ∙ node_is key c.args.path.now c.args.nonce.now sheet c.args.tree.now c.args.keys.now next tree has.is_next (c.in_ok-put_nodes.ensures.sealed sheet next of_tree) in
     let second = node_put key next dirty name (Unit {0}) HostFault (Unit {0}) HostFault tt tt c.make_node-node.result s0.honest s1.honest s2.honest long is (c.in_ok-put_nodes.ensures.seals sheet next of_tree) c.in_ok-write_at.ensures.disk in
     synced_file key next dirty name c.sync.result s0.honest s2.honest s3.honest second c.sync.ensures.disk

@@ -2,13 +2,18 @@ use Rattle.std.proofs.Common.{◌≡◌, true, false, List, ℕ, refl, ap, ◌�
 use Rattle.std.proofs.lemmas.Result.{err_from_is_err_and}
 use Rattle.pf_session.specs.State.{SessionState}
 use Rattle.pf_tool.specs.SealingInput.{not_begun, not_copied, not_published, sealed}
-use Rattle.pf_tool.proofs.SessionBegun.{has_begun, input_keeps}
+use Rattle.pf_tool.proofs.SessionBegun.{has_begun, is_named, input_keeps}
 use Rattle.pf_tool.proofs.encrypt.seal_input.Goals as goal
 
 pub returns-in_err-session : goal.returns-in_err-session
 returns-in_err-session g c =
     let p = err_from_is_err_and c.from_residual.result c.from_residual.ensures.1 in
-    rw p.1 (rw p.2 (not_begun c.in_err-session.field-0.0 c.in_err-session.ensures.goes refl))
+    let h0 = g.H.Host.state c.args.host.now in
+    let h1 = g.H.Host.state c.create_beside.new.host in
+    let r0 = g.R.Words.state c.args.random.now in
+    let r1 = g.R.Words.state c.create_beside.new.random in
+    let fit = is_named c.args.user.now c.args.output.now c.in_err-session.field-0.0 h0 h1 r0 r1 c.requires c.utf8.output c.in_err-session.ensures.goes in
+    rw p.1 (rw p.2 (not_begun c.in_err-session.field-0.0 fit c.in_err-session.ensures.goes refl))
 
 pub write_input-requires-clause-whole : goal.write_input-requires-clause-whole
 write_input-requires-clause-whole g c =

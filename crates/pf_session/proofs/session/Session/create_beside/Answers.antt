@@ -30,9 +30,9 @@ returns-in_err-make_side-clause-goes g c =
     let drawn = c.in_ok-nonce.ensures.drawn in
     let is = c.in_ok-session.ensures in
     let node = node_is c.in_ok-session.session c.seal_empty-node.new.self key name c.in-Some.path path _ nonce true is c.in-Some.ensures.same c.seal_empty-node.result c.seal_empty-node.ensures.node in
-    let side = side_is c.in_ok-session.session c.seal_empty-node.new.self key name c.in-Some.path path _ nonce true is c.in-Some.ensures.same c.side.result.now c.seal_empty-node.ensures.state c.side.ensures in
+    let side = side_is c.in_ok-session.session c.seal_empty-node.new.self key name c.in-Some.path path _ nonce true is c.in-Some.ensures.same c.side_name.result.now c.seal_empty-node.ensures.state c.side_name.ensures in
     begin_stopped nonce named drawn (empty_linked path nonce named.path_is drawn.long)
-    (subst (λ (n : Name). Stopped (make_steps n (empty_node key path nonce)) s0 s1) side (subst (λ (file : List ℕ). Stopped (make_steps c.side.result.now file) s0 s1) node c.in_err-make_side.ensures.goes))
+    (subst (λ (n : Name). Stopped (make_steps n (empty_node key path nonce)) s0 s1) side (subst (λ (file : List ℕ). Stopped (make_steps c.side_name.result.now file) s0 s1) node c.in_err-make_side.ensures.goes))
     (subst (λ (n : Name). OnDisk s0 s1 (Ran (LeavesOthers n) (KeepsOthers n))) side c.in_err-make_side.ensures.disk)
     (err_is _ p.0 besides.Host p.1 p.2)
 
@@ -40,8 +40,8 @@ pub returns-in_err-make_side-clause-aside : goal.returns-in_err-make_side-clause
 returns-in_err-make_side-clause-aside g c =
     let s0 = g.H.Host.state c.args.host.now in
     let s1 = g.H.Host.state c.make_side.new.host in
-    let side = side_is c.in_ok-session.session c.seal_empty-node.new.self c.args.key.now c.args.name.now c.in-Some.path c.args.path.now _ c.in_ok-nonce.nonce true c.in_ok-session.ensures c.in-Some.ensures.same c.side.result.now
-    c.seal_empty-node.ensures.state c.side.ensures in
+    let side = side_is c.in_ok-session.session c.seal_empty-node.new.self c.args.key.now c.args.name.now c.in-Some.path c.args.path.now _ c.in_ok-nonce.nonce true c.in_ok-session.ensures c.in-Some.ensures.same c.side_name.result.now
+    c.seal_empty-node.ensures.state c.side_name.ensures in
     aside_alone c.args.name.now s0 s1 (subst (λ (n : Name). OnDisk s0 s1 (Ran (LeavesOthers n) (KeepsOthers n))) side c.in_err-make_side.ensures.disk)
 
 pub returns-clause-goes : goal.returns-clause-goes
@@ -57,10 +57,10 @@ returns-clause-goes g c =
     let is = c.in_ok-session.ensures in
     let file = c.seal_empty-node.result in
     let node = node_is c.in_ok-session.session c.seal_empty-node.new.self key name c.in-Some.path path _ nonce true is c.in-Some.ensures.same file c.seal_empty-node.ensures.node in
-    let side = side_is c.in_ok-session.session c.seal_empty-node.new.self key name c.in-Some.path path _ nonce true is c.in-Some.ensures.same c.side.result.now c.seal_empty-node.ensures.state c.side.ensures in
+    let side = side_is c.in_ok-session.session c.seal_empty-node.new.self key name c.in-Some.path path _ nonce true is c.in-Some.ensures.same c.side_name.result.now c.seal_empty-node.ensures.state c.side_name.ensures in
     let made = subst (λ (n : Name). OnDisk s0 s1 (Ran (LeavesOthers n) (Beside n (λ was here. IsWhole file here)))) side c.in_ok-make_side.ensures.disk in
     begun nonce named drawn
-    (subst (λ (n : Name). Asked (make_steps n (empty_node key path nonce)) NoCall s0 s1) side (subst (λ (f : List ℕ). Asked (make_steps c.side.result.now f) NoCall s0 s1) node c.in_ok-make_side.ensures.goes))
+    (subst (λ (n : Name). Asked (make_steps n (empty_node key path nonce)) NoCall s0 s1) side (subst (λ (f : List ℕ). Asked (make_steps c.side_name.result.now f) NoCall s0 s1) node c.in_ok-make_side.ensures.goes))
     (alone_done name file s0 s1 made) (begins_done path nonce named.path_is drawn.long key name file node s0 s1 made) (empty_fresh path nonce named.path_is drawn.long key name true)
     (ap (λ s. Ok s) (session_is c.in_ok-session.session c.seal_empty-node.new.self key name c.in-Some.path path _ nonce true is c.in-Some.ensures.same c.seal_empty-node.ensures.state))
 
@@ -69,6 +69,6 @@ returns-clause-aside g c =
     let s0 = g.H.Host.state c.args.host.now in
     let s1 = g.H.Host.state c.make_side.new.host in
     let file = c.seal_empty-node.result in
-    let side = side_is c.in_ok-session.session c.seal_empty-node.new.self c.args.key.now c.args.name.now c.in-Some.path c.args.path.now _ c.in_ok-nonce.nonce true c.in_ok-session.ensures c.in-Some.ensures.same c.side.result.now
-    c.seal_empty-node.ensures.state c.side.ensures in
+    let side = side_is c.in_ok-session.session c.seal_empty-node.new.self c.args.key.now c.args.name.now c.in-Some.path c.args.path.now _ c.in_ok-nonce.nonce true c.in_ok-session.ensures c.in-Some.ensures.same c.side_name.result.now
+    c.seal_empty-node.ensures.state c.side_name.ensures in
     aside_alone c.args.name.now s0 s1 (alone_done c.args.name.now file s0 s1 (subst (λ (n : Name). OnDisk s0 s1 (Ran (LeavesOthers n) (Beside n (λ was here. IsWhole file here)))) side c.in_ok-make_side.ensures.disk))

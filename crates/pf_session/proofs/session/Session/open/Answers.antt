@@ -11,6 +11,7 @@ use Rattle.pf_session.specs.declared.open_fault.OpenFault.{OpenFault}
 use Rattle.pf_session.proofs.Questions.{none_asked}
 use Rattle.pf_session.proofs.Backed.{on_carried, on_first}
 use Rattle.pf_session.proofs.Keeping.{keeps_either, kept_aside}
+use Rattle.pf_session.proofs.NoText.{no_text}
 use Rattle.pf_session.proofs.Reopened.{opens_either}
 use Rattle.pf_session.proofs.OpenStanding.{failed, node_ends, opens_standing}
 use Rattle.pf_session.proofs.session.Session.open.Goals as goal
@@ -120,3 +121,18 @@ returns-clause-reopens g c =
     let same : c.in_ok-make.field-0 ≡ opened_session c.args.key.now c.args.name.now c.in_ok-node.node c.in_ok-secret.secret = c.in_ok-make.ensures.fields ∙ ap₂ state c.in_ok-text.ensures has.nonce_is in
     subst (λ (s : SessionState). OnDisk before after (OpensEither s)) (sym same)
     (opens_either c.args.key.now c.args.name.now (option_map (λ p. p.now) c.args.path) c.told-key has.size c.in_ok-node.node c.in_ok-secret.secret c.in_ok-secret.ensures.accepted before after (g.met.H.Host.reads_as_image c.args.host.now) has.asked c.read_node_zero.ensures.disk)
+
+pub returns-then-not-are_good-clause-never_text : goal.returns-then-not-are_good-clause-never_text
+returns-then-not-are_good-clause-never_text g c = no_text _ _ _ (g.H.Host.state c.args.host.now) (g.H.Host.state c.args.host.now) _ (returns-then-not-are_good-clause-opens g c)
+
+pub returns-in_err-node-clause-never_text : goal.returns-in_err-node-clause-never_text
+returns-in_err-node-clause-never_text g c = no_text _ _ _ (g.H.Host.state c.args.host.now) (g.H.Host.state c.read_node_zero.new.host) _ (returns-in_err-node-clause-opens g c)
+
+pub returns-in_err-secret-clause-never_text : goal.returns-in_err-secret-clause-never_text
+returns-in_err-secret-clause-never_text g c = no_text _ _ _ (g.H.Host.state c.args.host.now) (g.H.Host.state c.read_node_zero.new.host) _ (returns-in_err-secret-clause-opens g c)
+
+pub returns-in_err-make-clause-never_text : goal.returns-in_err-make-clause-never_text
+returns-in_err-make-clause-never_text g c = no_text _ _ _ (g.H.Host.state c.args.host.now) (g.H.Host.state c.read_node_zero.new.host) _ (returns-in_err-make-clause-opens g c)
+
+pub returns-clause-never_text : goal.returns-clause-never_text
+returns-clause-never_text g c = no_text _ _ _ (g.H.Host.state c.args.host.now) (g.H.Host.state c.read_node_zero.new.host) _ (returns-clause-opens g c)

@@ -1,15 +1,13 @@
-use Rattle.std.proofs.Common.{◌≡◌, ℕ, [], ◌∷◌, ap, refl, subst, ◌∙◌, arith, Result, Ok, Err}
+use Rattle.std.proofs.Common.{ℕ, [], ◌∷◌, ap, refl, subst, ◌∙◌, arith, Result, Ok, Err}
 use Rattle.std.proofs.lemmas.Result.{err_from_is_err_and}
 use Rattle.pf_io.specs.Counts.{counted}
-use Rattle.pf_io.specs.Host.{Name, Answer, Swapped, HostState}
+use Rattle.pf_io.specs.Host.{Name, Swapped}
 use Rattle.pf_io.specs.Names.{side_of}
-use Rattle.pf_io.specs.declared.faults.HostFault.{HostFault}
 use Rattle.pf_session.specs.Asking.{NoCall, Asked}
-use Rattle.pf_session.specs.Flushing.{UndamagedFlush}
-use Rattle.pf_session.specs.Ending.{PublishGoes, not_flushed}
+use Rattle.pf_session.specs.Ending.{not_flushed}
 use Rattle.pf_session.specs.declared.fault.FlushFault.{FlushFault}
 use Rattle.pf_session.specs.declared.fault.FlushFault.TheVariants as faults
-use Rattle.pf_session.proofs.Calls.{asked_neither, failed_neither, same_asked}
+use Rattle.pf_session.proofs.Calls.{asked_neither, failed_neither}
 use Rattle.pf_session.proofs.Published.{kept_by_flush, published_by, not_named_by, aside_by, side_same, name_same, not_damaged}
 use Rattle.pf_session.proofs.session.Session.publish.Goals as goal
 

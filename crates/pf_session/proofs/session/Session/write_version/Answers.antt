@@ -1,7 +1,7 @@
-use Rattle.std.proofs.Common.{◌≡◌, ℕ, List, ap, ◌∙◌, sym, subst, Result, Ok, Err, true}
+use Rattle.std.proofs.Common.{◌≡◌, ◌∙◌, subst, Ok, Err}
 use Rattle.std.proofs.lemmas.Result.{err_from_is_err_and}
 use Rattle.pf_io.specs.Disk.{Name}
-use Rattle.pf_io.specs.Host.{HostState, Both}
+use Rattle.pf_io.specs.Host.{Both}
 use Rattle.pf_io.specs.Moments.{Ends}
 use Rattle.pf_io.specs.Names.{side_of}
 use Rattle.pf_session.specs.State.{SessionState}

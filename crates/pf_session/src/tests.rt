@@ -1,1 +1,0 @@
-//! Sessions over a host in memory.

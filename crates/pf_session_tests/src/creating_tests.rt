@@ -1,0 +1,203 @@
+//! Creations of protected files, and what a crash leaves of them.
+use crate::fixtures::{EACH_TEAR, KEY, words_of};
+use pf_io::{Host, ListWords, MemHost, Tear};
+use pf_session::{BesideFault, CreateFault, OpenFault, Session};
+use std::alloc::Global;
+use std::process::Abort;
+use std::test::Fail;
+
+fn first_nonce() -> [u8; 32] {
+    let mut nonce = [0; 32];
+    nonce[16..].copy_from_slice(&[1; 16]);
+    nonce
+}
+
+// Why `a.pf` was not created, if it wasn't.
+fn created(alloc: Global, host: &mut MemHost, count: u8) -> Result<Option<CreateFault>, Fail> {
+    let mut random = words_of(alloc, count)?;
+    match Session::create(alloc, host, &mut random, &KEY, "a.pf", "a.pf") {
+        Ok(_session) => Ok(None),
+        Err(fault) => Ok(Some(fault)),
+    }
+}
+
+// Why it was not created beside its name, if it wasn't.
+fn begun(alloc: Global, host: &mut MemHost, count: u8) -> Result<Option<BesideFault>, Fail> {
+    let mut random = words_of(alloc, count)?;
+    match Session::create_beside(alloc, host, &mut random, &KEY, "a.pf", "a.pf") {
+        Ok(_session) => Ok(None),
+        Err(fault) => Ok(Some(fault)),
+    }
+}
+
+fn expect_new(rt: &impl Abort, session: &Session) {
+    assert_eq!(rt; session.size(), 0);
+    assert_eq!(rt; session.path().as_str(), "a.pf");
+    assert_eq!(rt; session.nonce(), &first_nonce());
+    assert_eq!(rt; session.dirty(), 0);
+    assert!(rt; !session.changed() && !session.broken());
+}
+
+// The name opens as an empty version.
+fn expect_empty(rt: &impl Abort, alloc: Global, host: &mut MemHost) {
+    match Session::open(alloc, host, &KEY, "a.pf", Some("a.pf")) {
+        Ok(session) => expect_new(rt, &session),
+        Err(_fault) => panic!(rt; "not opened"),
+    }
+}
+
+fn is_absent(alloc: Global, host: &mut MemHost) -> bool {
+    match Session::open(alloc, host, &KEY, "a.pf", None) {
+        Ok(_session) => false,
+        Err(fault) => matches!(fault, OpenFault::NotFound),
+    }
+}
+
+#[test]
+fn what_was_created_opens_as_an_empty_version(rt: HostRuntime) -> Result<(), Fail> {
+    let alloc = rt.alloc();
+    let mut host = MemHost::new(alloc);
+    let mut random = words_of(alloc, 2)?;
+    match Session::create(alloc, &mut host, &mut random, &KEY, "a.pf", "a.pf") {
+        Ok(session) => expect_new(&rt, &session),
+        Err(_fault) => panic!(rt; "not created"),
+    }
+    expect_empty(&rt, alloc, &mut host);
+    assert_eq!(rt; host.bytes("a.pf.new"), None);
+    assert_eq!(rt; host.starved(), 0);
+    Ok(())
+}
+
+#[test]
+fn a_name_that_is_there_is_refused(rt: HostRuntime) -> Result<(), Fail> {
+    let alloc = rt.alloc();
+    let mut host = MemHost::new(alloc);
+    host.put("a.pf", b"before")?;
+    assert_eq!(rt; created(alloc, &mut host, 2)?, Some(CreateFault::Exists));
+    assert_eq!(rt; host.bytes("a.pf"), Some(&b"before"[..]));
+    Ok(())
+}
+
+#[test]
+fn names_and_paths_that_are_none_are_refused(rt: HostRuntime) -> Result<(), Fail> {
+    let alloc = rt.alloc();
+    let rows: [(&str, &str); 3] = [("a.new", "a"), ("", "a"), ("a", "")];
+    for (name, path) in rows {
+        let mut host = MemHost::new(alloc);
+        let mut random = words_of(alloc, 0)?;
+        match Session::create(alloc, &mut host, &mut random, &KEY, name, path) {
+            Ok(_session) => panic!(rt; "created"),
+            Err(fault) => assert_eq!(rt; fault, CreateFault::BadName),
+        }
+        match Session::create_beside(alloc, &mut host, &mut random, &KEY, name, path) {
+            Ok(_session) => panic!(rt; "begun"),
+            Err(fault) => assert_eq!(rt; fault, BesideFault::BadName),
+        }
+    }
+    Ok(())
+}
+
+#[test]
+fn want_of_words_and_failing_calls_leave_the_name_absent(rt: HostRuntime) -> Result<(), Fail> {
+    let alloc = rt.alloc();
+    for count in 0..2 {
+        let mut host = MemHost::new(alloc);
+        assert_eq!(rt; created(alloc, &mut host, count)?, Some(CreateFault::Words));
+        assert_eq!(rt; begun(alloc, &mut host, count)?, Some(BesideFault::Words));
+        assert_eq!(rt; host.bytes("a.pf.new"), None);
+        assert!(rt; is_absent(alloc, &mut host));
+    }
+    for call in 0..6 {
+        let mut host = MemHost::new(alloc);
+        host.fail_at(call)?;
+        assert_eq!(rt; created(alloc, &mut host, 2)?, Some(CreateFault::Host));
+        assert!(rt; is_absent(alloc, &mut host));
+    }
+    for call in 0..3 {
+        let mut host = MemHost::new(alloc);
+        host.fail_at(call)?;
+        assert_eq!(rt; begun(alloc, &mut host, 2)?, Some(BesideFault::Host));
+        assert!(rt; is_absent(alloc, &mut host));
+    }
+    Ok(())
+}
+
+// A creation makes six calls. A crash after any of them leaves the name absent, and after the last one an empty version.
+fn stop_creation(rt: &impl Abort, alloc: Global, calls: u64, tear: Tear) -> Result<(), Fail> {
+    let mut host = MemHost::new(alloc);
+    host.put("b.pf", b"other")?;
+    host.stop_at(calls);
+    let fault = created(alloc, &mut host, 2)?;
+    assert_eq!(rt; fault.is_none(), calls == 6, "{calls} calls");
+    let mut left = host.after_crash(tear)?;
+    assert_eq!(rt; left.bytes("b.pf"), Some(&b"other"[..]));
+    if calls == 6 {
+        expect_empty(rt, alloc, &mut left);
+    } else {
+        assert!(rt; is_absent(alloc, &mut left), "{calls} calls");
+    }
+    Ok(())
+}
+
+#[test]
+fn a_crash_leaves_a_created_name_absent_or_whole(rt: HostRuntime) -> Result<(), Fail> {
+    for calls in 0..7 {
+        for tear in EACH_TEAR {
+            stop_creation(&rt, rt.alloc(), calls, tear)?;
+        }
+    }
+    Ok(())
+}
+
+// A creation beside the name makes three calls, none of which changes the name. After the last one a crash leaves the side
+// file whole.
+fn stop_beginning(rt: &impl Abort, alloc: Global, calls: u64, tear: Tear) -> Result<(), Fail> {
+    let mut host = MemHost::new(alloc);
+    host.put("a.pf", b"before")?;
+    host.stop_at(calls);
+    let fault = begun(alloc, &mut host, 2)?;
+    assert_eq!(rt; fault.is_none(), calls == 3, "{calls} calls");
+    let mut left = host.after_crash(tear)?;
+    assert_eq!(rt; left.bytes("a.pf"), Some(&b"before"[..]));
+    if calls == 3 {
+        take_name(rt, &mut left);
+        expect_empty(rt, alloc, &mut left);
+    }
+    Ok(())
+}
+
+fn take_name(rt: &impl Abort, host: &mut MemHost) {
+    assert_eq!(rt; host.swap_name("a.pf.new", "a.pf"), Ok(()));
+}
+
+#[test]
+fn a_creation_beside_a_name_leaves_the_name(rt: HostRuntime) -> Result<(), Fail> {
+    for calls in 0..4 {
+        for tear in EACH_TEAR {
+            stop_beginning(&rt, rt.alloc(), calls, tear)?;
+        }
+    }
+    Ok(())
+}
+
+#[test]
+fn a_nonce_is_drawn_once(rt: HostRuntime) -> Result<(), Fail> {
+    let alloc = rt.alloc();
+    let mut host = MemHost::new(alloc);
+    let mut random = words_of(alloc, 4)?;
+    match Session::create(alloc, &mut host, &mut random, &KEY, "a.pf", "a.pf") {
+        Ok(mut session) => draw_twice(&rt, &mut session, &mut random),
+        Err(_fault) => panic!(rt; "not created"),
+    }
+    Ok(())
+}
+
+fn draw_twice(rt: &impl Abort, session: &mut Session, random: &mut ListWords) {
+    let mut nonce = [2; 32];
+    nonce[16..].copy_from_slice(&[3; 16]);
+    for _ in 0..2 {
+        assert!(rt; !session.broken());
+        assert_eq!(rt; session.draw(random), Ok(nonce));
+    }
+    assert_eq!(rt; session.nonce(), &first_nonce());
+}

@@ -1,0 +1,65 @@
+//! What the tests of sessions share.
+use pf_io::{ListWords, MemHost, Tear};
+use pf_session::{Session, WriteFault, Written};
+use std::alloc::Global;
+use std::process::Abort;
+use std::test::Fail;
+
+pub(crate) const KEY: [u8; 16] = [7; 16];
+
+pub(crate) const EACH_TEAR: [Tear; 3] = [Tear::Kept, Tear::Lost, Tear::Fill(b'-')];
+
+pub(crate) const AT_ONCE: Written = Written {
+    flushed_before: false,
+};
+
+// So many random words, each another one.
+pub(crate) fn words_of(alloc: Global, count: u8) -> Result<ListWords, Fail> {
+    let mut random = ListWords::new(alloc);
+    for word in 0..count {
+        random.push([word; 16])?;
+    }
+    Ok(random)
+}
+
+pub(crate) fn new_file(
+    rt: &impl Abort,
+    alloc: Global,
+    host: &mut MemHost,
+    random: &mut ListWords,
+) -> Session {
+    match Session::create(alloc, host, random, &KEY, "a.pf", "a.pf") {
+        Ok(session) => session,
+        Err(_fault) => panic!(rt; "not created"),
+    }
+}
+
+pub(crate) fn reopened(rt: &impl Abort, alloc: Global, host: &mut MemHost) -> Session {
+    match Session::open(alloc, host, &KEY, "a.pf", Some("a.pf")) {
+        Ok(session) => session,
+        Err(_fault) => panic!(rt; "not opened"),
+    }
+}
+
+pub(crate) fn write(
+    rt: &impl Abort,
+    session: &mut Session,
+    host: &mut MemHost,
+    random: &mut ListWords,
+    at: u64,
+    from: &[u8],
+) -> Result<Written, WriteFault> {
+    assert!(rt; !session.broken());
+    session.write(host, random, at, from)
+}
+
+pub(crate) fn flush(
+    rt: &impl Abort,
+    session: &mut Session,
+    host: &mut MemHost,
+    random: &mut ListWords,
+) {
+    assert!(rt; !session.broken());
+    assert_eq!(rt; session.flush(host, random), Ok(()));
+    assert!(rt; !session.changed());
+}
