@@ -33,7 +33,8 @@ use Rattle.pf_tool.proofs.ScriptSeen.{given_in, words_seen, host_flags, words_fl
 use Rattle.pf_tool.proofs.ScriptParts.{Behind}
 use Rattle.pf_tool.proofs.ScriptText.{WantsTold, stops_first, stops, stops_closing, stops_end, ends}
 
-same_all : {A : Type 0} (n k : ℕ) (a : A) → get_or (replicate n a) k a ≡ a
+-- an item of a list of one value
+pub same_all : {A : Type 0} (n k : ℕ) (a : A) → get_or (replicate n a) k a ≡ a
 same_all zero k a = refl
 same_all (suc n) zero a = refl
 same_all (suc n) (suc k) a = same_all n k a
