@@ -1,6 +1,7 @@
 // The line `read`.
 ghost use Rattle.std.specs.Prelude.{◌≡◌, ◌-◌, ◌≤◌, ℕ, List, Some, min, false};
 ghost use Rattle.pf_io.specs.Words.{WordsState};
+ghost use Rattle.pf_script.specs.BookTurns.{SeatBooked};
 ghost use Rattle.pf_script.specs.Desk.{IsSeatOf, IsSeated};
 ghost use Rattle.pf_script.specs.DeskSteps.{SeatGoes};
 ghost use Rattle.pf_script.specs.SeatReplies.{read_reply as reply_of_read};
@@ -48,6 +49,7 @@ fn read_content<H: Host>(
     requires whole { session.old.broken ≡ false }
     requires few { count ≤ 32768 }
     ensures goes { (key : List ℕ) (k : ℕ) (words : WordsState) → IsSeated key session.old → SeatGoes key false (lines.Read k at count) result (Some session.old) (Some session.new) (H.state host.old) (H.state host.new) words words }
+    ensures booked { (key : List ℕ) (k : ℕ) (words : WordsState) → IsSeated key session.old → SeatBooked key false (lines.Read k at count) result (Some session.old) (Some session.new) (H.state host.old) (H.state host.new) words words }
 {
     let count = reach(session.size(), at, count);
     let mut bytes = Bytes::zeroed(alloc, count as usize)?;
@@ -64,6 +66,7 @@ pub(crate) fn read_bytes<H: Host>(
     count: u64,
 ) -> Result<Reply, Memory>
     ensures goes { (key : List ℕ) (k : ℕ) (words : WordsState) → IsSeatOf key seat.old → SeatGoes key false (lines.Read k at count) result seat.old seat.new (H.state host.old) (H.state host.new) words words }
+    ensures booked { (key : List ℕ) (k : ℕ) (words : WordsState) → IsSeatOf key seat.old → SeatBooked key false (lines.Read k at count) result seat.old seat.new (H.state host.old) (H.state host.new) words words }
 {
     let Some(session) = seat else {
         return Ok(Reply::Refused { why: Why::SeatEmpty });
