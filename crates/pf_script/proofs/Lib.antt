@@ -43,6 +43,8 @@ pub mod OnEmpty
 pub mod CreateLine
 pub mod OpenLine
 pub mod ReadUnder
+pub mod ChangeLeft
+pub mod AnyStanding
 pub mod CloseLine
 pub mod Desking
 pub mod DeskUnder

@@ -155,11 +155,11 @@ one_concerned taken line old done next name (inl same) = inl same
 one_concerned taken line old done next name (inr none) = absurd none
 
 -- a flush that was done or failed, as one act
-pub flush_did : (book : Book) (seats : List Seal) (done : Bool) (old : SessionState) (base next : Sheet) (a b : Honest) (entry : Entry) → IsTarget old.name → Ran (LeavesApart old.name) (KeepsApart old.name) a b → IsImage b.now (reading b.now)
-    → book old.name ≡ Some entry → Contains seats (seat_of old.key old.name base) → Flushes done base (seat_of old.key old.name next) a b
-    → DidAll book seats (record { deed = Flush (seat_of old.key old.name next); done = done } ∷ []) (seats_after (Flush (seat_of old.key old.name next)) done seats) a b
-flush_did book seats done old base next a b entry target others reads was seated flushes =
-    let deed = Flush (seat_of old.key old.name next) in
+pub flush_did : (book : Book) (seats : List Seal) (done : Bool) (key : List ℕ) (name : Name) (base next : Sheet) (a b : Honest) (entry : Entry) → IsTarget name → Ran (LeavesApart name) (KeepsApart name) a b → IsImage b.now (reading b.now)
+    → book name ≡ Some entry → Contains seats (seat_of key name base) → Flushes done base (seat_of key name next) a b
+    → DidAll book seats (record { deed = Flush (seat_of key name next); done = done } ∷ []) (seats_after (Flush (seat_of key name next)) done seats) a b
+flush_did book seats done key name base next a b entry target others reads was seated flushes =
+    let deed = Flush (seat_of key name next) in
     one_act book seats deed done a b (record { targets = target; others = others; reads = reads }) (subst (λ (o : Option Entry). Owes seats deed done o a b) (sym was) (base, seated, flushes))
 
 -- the seat that a deed leaves, of a session of its key and name
