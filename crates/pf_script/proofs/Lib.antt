@@ -44,7 +44,7 @@ pub mod CreateLine
 pub mod OpenLine
 pub mod ReadUnder
 pub mod ChangeLeft
-pub mod AnyStanding
+pub mod ChangeUnder
 pub mod CloseLine
 pub mod Desking
 pub mod DeskUnder
