@@ -60,3 +60,4 @@ pub mod SizeTold
 pub mod SizeSeen
 pub mod SizeLine
 pub mod ReadLine
+pub mod DeskLine

@@ -1,5 +1,6 @@
 // The lines `write`, `fill` and `size`.
 ghost use Rattle.std.specs.Prelude.{◌≡◌, ◌^◌, ◌≤◌, ℕ, List, IfOk, replicate, false};
+ghost use Rattle.pf_script.specs.BookTurns.{SeatBooked};
 ghost use Rattle.pf_script.specs.Desk.{IsSeatOf};
 ghost use Rattle.pf_script.specs.DeskSteps.{SeatGoes};
 ghost use Rattle.pf_script.specs.SeatReplies.{write_reply as reply_of_write, size_reply, IsNoLimit, SizesGo};
@@ -46,6 +47,7 @@ pub(crate) fn write_bytes<H: Host, R: Words>(
     bytes: &[u8],
 ) -> Result<Reply, Memory>
     ensures goes { (key : List ℕ) (k : ℕ) → IsSeatOf key seat.old → SeatGoes key false (lines.Write k at bytes.now) result seat.old seat.new (H.state host.old) (H.state host.new) (R.state random.old) (R.state random.new) }
+    ensures booked { (key : List ℕ) (k : ℕ) → IsSeatOf key seat.old → SeatBooked key false (lines.Write k at bytes.now) result seat.old seat.new (H.state host.old) (H.state host.new) (R.state random.old) (R.state random.new) }
 {
     let Some(session) = seat else {
         return Ok(Reply::Refused { why: Why::SeatEmpty });
@@ -77,6 +79,7 @@ pub(crate) fn fill_bytes<H: Host, R: Words>(
     byte: u8,
 ) -> Result<Reply, Memory>
     ensures goes { (key : List ℕ) (k : ℕ) → IsSeatOf key seat.old → SeatGoes key false (lines.Fill k at count byte) result seat.old seat.new (H.state host.old) (H.state host.new) (R.state random.old) (R.state random.new) }
+    ensures booked { (key : List ℕ) (k : ℕ) → IsSeatOf key seat.old → SeatBooked key false (lines.Fill k at count byte) result seat.old seat.new (H.state host.old) (H.state host.new) (R.state random.old) (R.state random.new) }
 {
     let Some(session) = seat else {
         return Ok(Reply::Refused { why: Why::SeatEmpty });
@@ -133,6 +136,7 @@ pub(crate) fn set_size<H: Host, R: Words>(
     size: u64,
 ) -> Result<Reply, Memory>
     ensures goes { (key : List ℕ) (k : ℕ) → IsSeatOf key seat.old → SeatGoes key false (lines.Size k size) result seat.old seat.new (H.state host.old) (H.state host.new) (R.state random.old) (R.state random.new) }
+    ensures booked { (key : List ℕ) (k : ℕ) → IsSeatOf key seat.old → SeatBooked key false (lines.Size k size) result seat.old seat.new (H.state host.old) (H.state host.new) (R.state random.old) (R.state random.new) }
 {
     let Some(session) = seat else {
         return Ok(Reply::Refused { why: Why::SeatEmpty });

@@ -1,6 +1,7 @@
 // The desk of a script: its seats, and a step of it.
 ghost use Rattle.std.specs.Prelude.{◌≡◌, ◌<◌, ◌↔◌, IsTrue, IfSome, Ok, None, replicate};
 ghost use Rattle.pf_io.specs.Words.{WordsState};
+ghost use Rattle.pf_script.specs.BookTurns.{DeskBooked, EndBooked};
 ghost use Rattle.pf_script.specs.Desk.{session_at};
 ghost use Rattle.pf_script.specs.DeskSteps.{HasPath, OtherHas, DeskGoes, EndGoes};
 ghost use Rattle.pf_script.specs.Script.{seat_of_line};
@@ -83,6 +84,7 @@ impl Desk {
     ) -> Result<Reply, Memory>
         requires { seat < SEAT_COUNT }
         ensures goes { DeskGoes (lines.Create seat name.now) result self.old self.new (H.state host.old) (H.state host.new) (R.state random.old) (R.state random.new) }
+        ensures booked { DeskBooked (lines.Create seat name.now) result self.old self.new (H.state host.old) (H.state host.new) (R.state random.old) (R.state random.new) }
     {
         let seat = seat as usize;
         let taken = self.is_taken(seat, name);
@@ -93,6 +95,7 @@ impl Desk {
     fn open<H: Host>(&mut self, host: &mut H, seat: u8, name: &str) -> Result<Reply, Memory>
         requires { seat < SEAT_COUNT }
         ensures goes { (words : WordsState) → DeskGoes (lines.Open seat name.now) result self.old self.new (H.state host.old) (H.state host.new) words words }
+        ensures booked { (words : WordsState) → DeskBooked (lines.Open seat name.now) result self.old self.new (H.state host.old) (H.state host.new) words words }
     {
         let seat = seat as usize;
         let taken = self.is_taken(seat, name);
@@ -109,6 +112,7 @@ impl Desk {
     ) -> Result<Reply, Memory>
         requires { seat < SEAT_COUNT }
         ensures goes { DeskGoes (lines.Move seat name.now) result self.old self.new (H.state host.old) (H.state host.new) (R.state random.old) (R.state random.new) }
+        ensures booked { DeskBooked (lines.Move seat name.now) result self.old self.new (H.state host.old) (H.state host.new) (R.state random.old) (R.state random.new) }
     {
         let seat = seat as usize;
         let taken = self.is_taken(seat, name);
@@ -118,6 +122,7 @@ impl Desk {
     fn close<H: Host, R: Words>(&mut self, host: &mut H, random: &mut R, seat: u8) -> Reply
         requires { seat < SEAT_COUNT }
         ensures goes { DeskGoes (lines.Close seat) (Ok result) self.old self.new (H.state host.old) (H.state host.new) (R.state random.old) (R.state random.new) }
+        ensures booked { DeskBooked (lines.Close seat) (Ok result) self.old self.new (H.state host.old) (H.state host.new) (R.state random.old) (R.state random.new) }
         ensures empty { session_at self.new seat ≡ None }
     {
         close_seat(host, random, &mut self.seats[seat as usize])
@@ -136,6 +141,7 @@ impl Desk {
     ) -> Result<Reply, Memory>
         requires { IfSome (seat_of_line line.now) (λ seat. seat < SEAT_COUNT) }
         ensures goes { DeskGoes line.now result self.old self.new (H.state host.old) (H.state host.new) (R.state random.old) (R.state random.new) }
+        ensures booked { DeskBooked line.now result self.old self.new (H.state host.old) (H.state host.new) (R.state random.old) (R.state random.new) }
     {
         match line {
             ScriptLine::Blank => Ok(Reply::None),
@@ -194,6 +200,7 @@ impl Desk {
         ensures none { (result ≡ None) ↔ (session_at self.old seat ≡ None) }
         ensures empty { session_at self.new seat ≡ None }
         ensures goes { EndGoes seat result self.old self.new (H.state host.old) (H.state host.new) (R.state random.old) (R.state random.new) }
+        ensures booked { EndBooked seat result self.old self.new (H.state host.old) (H.state host.new) (R.state random.old) (R.state random.new) }
     {
         if self.seats[seat as usize].is_none() {
             return None;

@@ -15,14 +15,14 @@ use Rattle.pf_script.proofs.Showing.{shows_none, shows_some}
 use Rattle.pf_script.proofs.WriteLine.{copies, write_goes}
 use Rattle.pf_script.proofs.changing.fill_bytes.Goals as goal
 
-pub returns-in_default : goal.returns-in_default
-returns-in_default g c key k seated =
+pub returns-in_default-clause-goes : goal.returns-in_default-clause-goes
+returns-in_default-clause-goes g c key k seated =
     let line = lines.Fill k c.args.at c.args.count c.args.byte in
     refused_goes key false line whys.SeatEmpty c.args.seat.now (g.H.Host.state c.args.host.now) (g.R.Words.state c.args.random.now)
     (λ sealed seat shows. first_empty (writing_rules seat c.args.at c.args.count) seat (shows_none sealed seat (subst (λ (o : Option SessionState). Shows sealed seat o) c.in_default.is shows))) seated
 
-pub returns-then-broken : goal.returns-then-broken
-returns-then-broken g c key k =
+pub returns-then-broken-clause-goes : goal.returns-then-broken-clause-goes
+returns-then-broken-clause-goes g c key k =
     let line = lines.Fill k c.args.at c.args.count c.args.byte in
     let s = c.in-Some.session in
     let before = g.H.Host.state c.args.host.now in
@@ -33,8 +33,8 @@ returns-then-broken g c key k =
         let shown = shows_some sealed seat s shows in
         first_broken (writing_rules seat c.args.at c.args.count) seat shown.shown shown.seat_is (shown.broken_is ∙ sym c.broken.ensures ∙ c.if-broken.true)) seated)
 
-pub returns-then-count-gt-LONGEST : goal.returns-then-count-gt-LONGEST
-returns-then-count-gt-LONGEST g c key k =
+pub returns-then-count-gt-LONGEST-clause-goes : goal.returns-then-count-gt-LONGEST-clause-goes
+returns-then-count-gt-LONGEST-clause-goes g c key k =
     let line = lines.Fill k c.args.at c.args.count c.args.byte in
     let s = c.in-Some.session in
     let before = g.H.Host.state c.args.host.now in
@@ -45,8 +45,8 @@ returns-then-count-gt-LONGEST g c key k =
         let shown = shows_some sealed seat s shows in
         first_then (writing_rules seat c.args.at c.args.count) whys.TooLong seat shown.shown shown.seat_is (shown.broken_is ∙ sym c.broken.ensures ∙ c.if-broken.false) (inl (refl, c.if-count-gt-LONGEST.true))) seated)
 
-pub returns-in_err-bytes : goal.returns-in_err-bytes
-returns-in_err-bytes g c key k =
+pub returns-in_err-bytes-clause-goes : goal.returns-in_err-bytes-clause-goes
+returns-in_err-bytes-clause-goes g c key k =
     let p = err_from_is_err_and c.from_residual.result c.from_residual.ensures.1 in
     let line = lines.Fill k c.args.at c.args.count c.args.byte in
     let s = c.in-Some.session in
@@ -55,8 +55,8 @@ returns-in_err-bytes g c key k =
     at_some key false line c.from_residual.result c.args.seat.now s (Some s) before before random random c.in-Some.is
     (λ seated. subst (λ (r : Result Reply Memory). SeatGoes key false line r (Some s) (Some s) before before random random) (sym p.1) (nothing_wanting key false line p.0 (Some s) before random (λ none. none) seated))
 
-pub returns : goal.returns
-returns g c key k =
+pub returns-clause-goes : goal.returns-clause-goes
+returns-clause-goes g c key k =
     let line = lines.Fill k c.args.at c.args.count c.args.byte in
     let s = c.in-Some.session in
     let before = g.H.Host.state c.args.host.now in

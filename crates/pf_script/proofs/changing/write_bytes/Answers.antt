@@ -13,15 +13,15 @@ use Rattle.pf_script.proofs.Showing.{shows_none, shows_some}
 use Rattle.pf_script.proofs.WriteLine.{plain, write_goes}
 use Rattle.pf_script.proofs.changing.write_bytes.Goals as goal
 
-pub returns-in_default : goal.returns-in_default
-returns-in_default g c key k seated =
+pub returns-in_default-clause-goes : goal.returns-in_default-clause-goes
+returns-in_default-clause-goes g c key k seated =
     let line = lines.Write k c.args.at c.args.bytes.now in
     refused_goes key false line whys.SeatEmpty c.args.seat.now (g.H.Host.state c.args.host.now) (g.R.Words.state c.args.random.now)
     (λ sealed seat shows.
     first_empty (writing_rules seat c.args.at (length c.args.bytes.now)) seat (shows_none sealed seat (subst (λ (o : Option SessionState). Shows sealed seat o) c.in_default.is shows))) seated
 
-pub returns-then-broken : goal.returns-then-broken
-returns-then-broken g c key k =
+pub returns-then-broken-clause-goes : goal.returns-then-broken-clause-goes
+returns-then-broken-clause-goes g c key k =
     let line = lines.Write k c.args.at c.args.bytes.now in
     let s = c.in-Some.session in
     let before = g.H.Host.state c.args.host.now in
@@ -32,8 +32,8 @@ returns-then-broken g c key k =
         let shown = shows_some sealed seat s shows in
         first_broken (writing_rules seat c.args.at (length c.args.bytes.now)) seat shown.shown shown.seat_is (shown.broken_is ∙ sym c.broken.ensures ∙ c.if-broken.true)) seated)
 
-pub returns : goal.returns
-returns g c key k =
+pub returns-clause-goes : goal.returns-clause-goes
+returns-clause-goes g c key k =
     let line = lines.Write k c.args.at c.args.bytes.now in
     let s = c.in-Some.session in
     let before = g.H.Host.state c.args.host.now in
