@@ -41,7 +41,6 @@ returns-clause-goes g c key k words =
     let s = c.in-Some.session in
     at_some key false (lines.Read k c.args.at c.args.count) c.read_content.result c.args.seat.now s (Some c.read_content.new.session) (g.H.Host.state c.args.host.now) (g.H.Host.state c.read_content.new.host) words words c.in-Some.is
     (λ seated. c.read_content.ensures.goes key k words seated)
-<<<<<<< HEAD
 
 pub returns-in_default-clause-booked : goal.returns-in_default-clause-booked
 returns-in_default-clause-booked g c key k words seated =
@@ -70,5 +69,3 @@ returns-clause-booked g c key k words seated =
     let s = c.in-Some.session in
     some_booked key false (lines.Read k c.args.at c.args.count) c.read_content.result c.args.seat.now s (Some c.read_content.new.session) (g.H.Host.state c.args.host.now) (g.H.Host.state c.read_content.new.host) words words c.in-Some.is
     (c.read_content.ensures.booked key k words (subst (λ (o : Option SessionState). IsSeatOf key o) c.in-Some.is seated))
-=======
->>>>>>> e76ffd1f573b6c2b37b45a8ea75599b1ad20dc58
