@@ -93,12 +93,19 @@ module _ (key : List ℕ) (own : OwnSeat) (line : ScriptLine) (book : Book) (sea
   module _ (m b : Honest) (old new : SessionState) (made : List Step) (words more : List (List ℕ)) (sheets : List Sheet) (base : Sheet) (step : Step) (steps : List Step) (asks : AsksFor line (length own.content) (made ++ step ∷ steps))
       (mine : IsOfScript old) (progress : Progress m old made words sheets base) (before after : HostState) (is_m : before.honest ≡ Some m) (is_b : after.honest ≡ Some b)
       (others : Ran (LeavesApart old.name) (KeepsApart old.name) m b) (well : IsImage b.now (reading b.now)) where
+    -- the line goes on
+    pub record WentOn (flushed : Bool) : Type 0 where
+      pub sheets_now : List Sheet
+      pub base_now : Sheet
+      pub grew : Grew flushed sheets sheets_now
+      pub progress_now : Progress b new (made ++ step ∷ []) (words ++ more) sheets_now base_now
+
     -- how the change ends
-    pub data ChangeKnown : Outcome → Type 0 where
-      it_went : (flushed : Bool) (sheets' : List Sheet) (base' : Sheet) → Grew flushed sheets sheets' → Progress b new (made ++ step ∷ []) (words ++ more) sheets' base' → ChangeKnown (Went flushed)
-      it_broke : (blame : Blame) → Fell m b new (words ++ more) (host_blamed blame) false (flush_reply (fault_of blame)) → ChangeKnown (Broke blame)
-      it_lacked : Fell m b new (words ++ more) false true replies.WordsFault → ChangeKnown Lacked
-      it_wants : ChangeKnown Wanted
+    abbrev pub ChangeKnown : Outcome → Type 0
+    ChangeKnown (Went flushed) = WentOn flushed
+    ChangeKnown (Broke blame) = Fell m b new (words ++ more) (host_blamed blame) false (flush_reply (fault_of blame))
+    ChangeKnown Lacked = Fell m b new (words ++ more) false true replies.WordsFault
+    ChangeKnown Wanted = Unit {0}
 
     was : Made (first ∷ []) own old made words sheets base
     was = progress.was
@@ -165,8 +172,7 @@ module _ (key : List ℕ) (own : OwnSeat) (line : ScriptLine) (book : Book) (sea
 
       once : (one : Result (Unit {0}) TreeFault) → StepGoes one step old new before after → StandingStep one step base old.tree new.tree → Unchanged m b → ChangeKnown (outcome_of false one)
       once (Ok ok) goes stands only =
-          it_went false sheets base refl
-          (record {
+          record { sheets_now = sheets; base_now = base; grew = refl; progress_now = record {
             was = subst (λ (w : List (List ℕ)). Made (first ∷ []) own new (made ++ step ∷ []) w sheets base) (sym words_are)
                 (made_more key (first ∷ []) own line [] old made words sheets base was step new (ap (λ (s : SessionState). s.changed) goes.state) (ap (λ (s : SessionState). s.key) goes.state) (ap (λ (s : SessionState). s.name) goes.state)
                     (ap (λ (s : SessionState). s.broken) goes.state ∙ was.whole) (fits_at base old step roomy)
@@ -180,11 +186,10 @@ module _ (key : List ℕ) (own : OwnSeat) (line : ScriptLine) (book : Book) (sea
             in_book = progress.in_book;
             seated = progress.seated;
             stood = stood_reads only;
-          })
+          } }
       once (Err (trees.Damaged damage)) goes stands only = absurd stands
       once (Err trees.Host) goes stands only =
-          it_broke ByHost
-          (record {
+          record {
             acts = flushes own sheets;
             left = progress.left;
             after = Own (broken_seat (seat_on base old));
@@ -195,8 +200,8 @@ module _ (key : List ℕ) (own : OwnSeat) (line : ScriptLine) (book : Book) (sea
             turn = λ given.
                 subst (λ (w : List (List ℕ)). SeatTurn standing key false (Own own) line (seen_by given w true false) replies.HostFault (flushes own sheets) (Own (broken_seat (seat_on base old)))) (sym words_are)
                 (host_failed (record { host = refl; random = refl }) (not_fetched own (seat_on base old) line step sheets ByHost some (fits_at base old step roomy) tt) refl);
-          })
-      once (Err trees.Memory) goes stands only = it_wants
+          }
+      once (Err trees.Memory) goes stands only = tt
 
     pub change_once : (one : Result (Unit {0}) TreeFault) → IsRoomy step old.tree → more ≡ [] → StepGoes one step old new before after → ChangeKnown (outcome_of false one)
     change_once one roomy none goes =
@@ -208,8 +213,7 @@ module _ (key : List ℕ) (own : OwnSeat) (line : ScriptLine) (book : Book) (sea
     -- no word came for the flush before
     pub change_lacked : IsFlushedFirst step old.tree → new ≡ old → after ≡ before → ChangeKnown Lacked
     change_lacked is_first same stays =
-        it_lacked
-        (record {
+        record {
           acts = flushes own sheets;
           left = progress.left;
           after = Own (seat_on base old);
@@ -220,7 +224,7 @@ module _ (key : List ℕ) (own : OwnSeat) (line : ScriptLine) (book : Book) (sea
               (of_book base old was.whole
                   (subst (λ (k : List ℕ). Contains progress.left (seat_of k old.name base)) (sym was.key_is) (subst (λ (n : Name). Contains progress.left (seat_of own.key n base)) (sym was.name_is) progress.seated)) was.kept refl refl);
           turn = λ given. words_failed (record { host = refl; random = refl }) (no_flush_before own (seat_on base old) line step words more sheets some (flushes_first base old step is_first) refl) refl;
-        })
+        }
 
     -- the flush before failed; it met no damage
     undamaged_now : (fault : FlushFault) → UndamagedFlush (Err fault) old before → IsUndamaged (Err fault)
@@ -233,8 +237,7 @@ module _ (key : List ℕ) (own : OwnSeat) (line : ScriptLine) (book : Book) (sea
     change_unflushed (ByDamage damage) is_first undamaged seals key_is name_is broken = absurd (undamaged_now (fault_of (ByDamage damage)) undamaged)
     change_unflushed ByHost is_first undamaged seals key_is name_is broken =
         let next = seals base was.linked was.kept.backed in
-        it_broke ByHost
-        (record {
+        record {
           acts = flushes own sheets ++ act next.0 false ∷ [];
           left = left_now next.0 false;
           after = Own (broken_seat (seat_on base old));
@@ -245,7 +248,7 @@ module _ (key : List ℕ) (own : OwnSeat) (line : ScriptLine) (book : Book) (sea
           only = only_flush false next.0;
           shows = broken_under (flushes own sheets ++ act next.0 false ∷ []) (left_now next.0 false) (seat_on base old) (sym key_is) (sym name_is) broken;
           turn = λ given. host_failed (record { host = refl; random = refl }) (not_flushed_before own (seat_on base old) line step words more sheets next.0 ByHost some (flushes_first base old step is_first) next.1 refl tt) refl;
-        })
+        }
 
     -- a step after the flush
     module _ (mid : SessionState) (between : HostState) (of_mid : IsOfScript mid) (is_first : IsFlushedFirst step old.tree) (seals : SealsWith old more (λ base next. StandsOn next mid × Replaces true old.key old.name base next before between))
@@ -289,8 +292,7 @@ module _ (key : List ℕ) (own : OwnSeat) (line : ScriptLine) (book : Book) (sea
 
       after_step : (one : Result (Unit {0}) TreeFault) → StepGoes one step mid new between after → StandingStep one step next mid.tree new.tree → ChangeKnown (outcome_of true one)
       after_step (Ok ok) goes stands =
-          it_went true (sheets ++ next ∷ []) next (next, refl)
-          (record {
+          record { sheets_now = sheets ++ next ∷ []; base_now = next; grew = (next, refl); progress_now = record {
             was = made_after key (first ∷ []) own line [] old made words sheets base was step mid new more next (flushes_first base old step is_first) own_seals (seals base was.linked was.kept.backed).2.0 same dirty
                 (ap (λ (s : SessionState). s.changed) goes.state) (ap (λ (s : SessionState). s.key) goes.state) (ap (λ (s : SessionState). s.name) goes.state)
                 (ap (λ (s : SessionState). s.broken) goes.state ∙ ap (λ (s : SessionState). s.broken) same ∙ was.whole)
@@ -308,11 +310,10 @@ module _ (key : List ℕ) (own : OwnSeat) (line : ScriptLine) (book : Book) (sea
             in_book = in_book_now;
             seated = seat_is_left (Flush (seat_of own.key own.name next)) progress.left;
             stood = stood_next;
-          })
+          } }
       after_step (Err (trees.Damaged damage)) goes stands = absurd stands
       after_step (Err trees.Host) goes stands =
-          it_broke ByHost
-          (record {
+          record {
             acts = flushes own (sheets ++ next ∷ []);
             left = left_now next true;
             after = Own (broken_seat (resealed (seat_on base old) next));
@@ -323,8 +324,8 @@ module _ (key : List ℕ) (own : OwnSeat) (line : ScriptLine) (book : Book) (sea
                 (sym (ap (λ (s : SessionState). s.key) goes.state ∙ ap (λ (s : SessionState). s.key) same)) (sym (ap (λ (s : SessionState). s.name) goes.state ∙ ap (λ (s : SessionState). s.name) same)) (ap (λ (s : SessionState). s.broken) goes.state);
             turn = λ given.
                 host_failed (record { host = refl; random = refl }) (not_fetched_after own (seat_on base old) line step words more sheets next ByHost some (flushes_first base old step is_first) own_seals refl tt) refl;
-          })
-      after_step (Err trees.Memory) goes stands = it_wants
+          }
+      after_step (Err trees.Memory) goes stands = tt
 
       standing_step : (one : Result (Unit {0}) TreeFault) → StepGoes one step mid new between after → StandingStep one step next mid.tree new.tree
       standing_step one goes =

@@ -45,6 +45,7 @@ pub mod OpenLine
 pub mod ReadUnder
 pub mod ChangeLeft
 pub mod ChangeUnder
+pub mod LineUnder
 pub mod CloseLine
 pub mod Desking
 pub mod DeskUnder

@@ -90,6 +90,7 @@ module _ (key : List ℕ) (taken : Bool) (line : ScriptLine) (seen : Seen) (repl
       pub seated : Contains seats (seat_of old.key old.name base)
       pub kept : IsKeptOn base old
       pub stood : Stood old.key old.name base a.now
+      pub image : IsImage a.now (reading a.now)
 
     abbrev pub KnownUnder : Type 0
     KnownUnder = (book : Book) (seats : List Seal) → Agrees book seats a.now → (base : Sheet) → OnBase book seats base → LineUnder key taken line seen reply (Some old) new book seats (Own (seat_on base old)) a b
@@ -117,7 +118,7 @@ module _ (key : List ℕ) (taken : Bool) (line : ScriptLine) (seen : Seen) (repl
         by_entry sheet seated kept is None was = unknown was
         by_entry sheet seated kept is (Some entry) was =
             subst (λ (x : Seat). LineUnder key taken line seen reply (Some old) new book seats x a b) (sym is)
-            (known book seats agrees sheet (record { entry = entry; was = was; seated = seated; kept = kept; stood = (agrees.stand (seat_of old.key old.name sheet) entry seated was).stood }))
+            (known book seats agrees sheet (record { entry = entry; was = was; seated = seated; kept = kept; stood = (agrees.stand (seat_of old.key old.name sheet) entry seated was).stood; image = reads }))
 
         by_shows : ShowsUnder book seats seat (Some old) → LineUnder key taken line seen reply (Some old) new book seats seat a b
         by_shows (no_file is none) = absurd (cc)
