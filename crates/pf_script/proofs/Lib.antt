@@ -46,6 +46,7 @@ pub mod ReadUnder
 pub mod ChangeLeft
 pub mod ChangeUnder
 pub mod LineUnder
+pub mod WriteUnder
 pub mod CloseLine
 pub mod Desking
 pub mod DeskUnder
