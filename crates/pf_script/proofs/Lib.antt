@@ -43,6 +43,10 @@ pub mod OnEmpty
 pub mod CreateLine
 pub mod OpenLine
 pub mod ReadUnder
+pub mod ChangeLeft
+pub mod ChangeUnder
+pub mod LineUnder
+pub mod WriteUnder
 pub mod CloseLine
 pub mod Desking
 pub mod DeskUnder

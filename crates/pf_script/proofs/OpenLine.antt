@@ -176,7 +176,7 @@ module _ (key : List ℕ) (k : ℕ) (name : Name) (utf8 : IsUtf8 name) (before a
   }
 
   block_case : (size : ℕ) (block : List ℕ) (fault : OpenFault) → IsTarget name → BothAre before.given after.given (IsMore (node_answers name size block)) → after.faults ≡ before.faults → BlockRefused block fault → Halves (open_reply name fault) None
-  block_case size block fault target told calm (not_protected other said) =
+  block_case size block fault target told calm (not_protected few other said) =
       subst (λ (f : OpenFault). Halves (open_reply name f) None) (sym said) (refuses_to_open (node_answers name size block) whys.NotProtected told calm (not_protected_first key name target size block other))
   block_case size block fault target told calm (node_short is short said) =
       subst (λ (f : OpenFault). Halves (open_reply name f) None) (sym said) (is_damaged (node_answers name size block) (record { node = 0; kind = kinds.Short }) told calm (short_zero block (last_there name size block) short refl))
