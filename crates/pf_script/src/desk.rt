@@ -166,8 +166,7 @@ impl Desk {
         size: u64,
     ) -> Result<Reply, Memory>
         requires { seat < SEAT_COUNT }
-        ensures goes { DeskGoes (lines.Size seat size) result self.old self.new (H.state host.old) (H.state host.new) (R.state random.old) (R.state random.new) }
-        ensures booked { DeskBooked (lines.Size seat size) result self.old self.new (H.state host.old) (H.state host.new) (R.state random.old) (R.state random.new) }
+        ensures { DeskGoes (lines.Size seat size) result self.old self.new (H.state host.old) (H.state host.new) (R.state random.old) (R.state random.new) }
     {
         set_size(host, random, &mut self.seats[seat as usize], size)
     }
@@ -196,8 +195,7 @@ impl Desk {
         name: &str,
     ) -> Result<Reply, Memory>
         requires { seat < SEAT_COUNT }
-        ensures goes { DeskGoes (lines.Move seat name.now) result self.old self.new (H.state host.old) (H.state host.new) (R.state random.old) (R.state random.new) }
-        ensures booked { DeskBooked (lines.Move seat name.now) result self.old self.new (H.state host.old) (H.state host.new) (R.state random.old) (R.state random.new) }
+        ensures { DeskGoes (lines.Move seat name.now) result self.old self.new (H.state host.old) (H.state host.new) (R.state random.old) (R.state random.new) }
     {
         let seat = seat as usize;
         let taken = self.is_taken(seat, name);
@@ -225,8 +223,7 @@ impl Desk {
         line: &ScriptLine,
     ) -> Result<Reply, Memory>
         requires { IfSome (seat_of_line line.now) (λ seat. seat < SEAT_COUNT) }
-        ensures goes { DeskGoes line.now result self.old self.new (H.state host.old) (H.state host.new) (R.state random.old) (R.state random.new) }
-        ensures booked { DeskBooked line.now result self.old self.new (H.state host.old) (H.state host.new) (R.state random.old) (R.state random.new) }
+        ensures { DeskGoes line.now result self.old self.new (H.state host.old) (H.state host.new) (R.state random.old) (R.state random.new) }
     {
         match line {
             ScriptLine::Blank => Ok(Reply::None),
