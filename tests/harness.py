@@ -7,7 +7,7 @@ import tempfile
 
 TOP = os.path.dirname(os.path.dirname(os.path.abspath(__file__)))
 PROGRAM = os.path.join(TOP, "crates/pf_tool/out/pf_tool")
-PF_IO_TESTS = os.path.join(TOP, "crates/pf_io/out/pf_io_tests")
+CALLS = os.path.join(TOP, "crates/disk_calls/out/disk_calls")
 KEY = bytes(range(16))
 
 
@@ -91,3 +91,8 @@ def traced(words, *options, **how):
     with tempfile.NamedTemporaryFile(prefix="pf_tool-trace-") as trace:
         ran = run(["strace", "-qq", "-o", trace.name, *options, *words], **how)
         return ran, trace.read().decode(errors="replace").splitlines()
+
+
+def of_program(lines, call):
+    """How often the program made the call, from its own start on."""
+    return sum(line.startswith(f"{call}(") for line in lines)

@@ -41,6 +41,13 @@ def sealed(key, text):
     return both[:-16], both[-16:]
 
 
+def first_node(user, path, nonce, size, content, root):
+    """The metadata node of a content that has this size and begins so."""
+    secret = path.ljust(768, b"\0") + struct.pack("<Q", size) + root + content[:FIRST].ljust(FIRST, b"\0")
+    text, tag = sealed(metadata_key(user, nonce), secret)
+    return b"GRPFTOOL\1\0" + nonce + tag + b"\0" + text + bytes(157)
+
+
 def protected(user, path, nonce, content):
     """The nodes of a protected file. A node's key is its number."""
     data, trees = counts(len(content))
@@ -63,7 +70,5 @@ def protected(user, path, nonce, content):
         else:
             place = ENTRY * (DATA_CHILDREN + (m - 1) % TREE_CHILDREN)
             texts[(m - 1) // TREE_CHILDREN][place : place + ENTRY] = entry
-    secret = path.ljust(768, b"\0") + struct.pack("<Q", len(content)) + root + content[:FIRST].ljust(FIRST, b"\0")
-    text, tag = sealed(metadata_key(user, nonce), secret)
-    first = b"GRPFTOOL\1\0" + nonce + tag + b"\0" + text + bytes(157)
+    first = first_node(user, path, nonce, len(content), content, root)
     return [first] + [nodes[number] for number in range(1, 1 + data + trees)]

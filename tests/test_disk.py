@@ -7,7 +7,7 @@ import socket
 import subprocess
 import time
 
-from harness import PF_IO_TESTS, PROGRAM, Skip, can_trace, decrypt, encrypt, got, holds, mode_of, put, run, same, start, tool, traced
+from harness import PROGRAM, Skip, can_trace, decrypt, encrypt, got, holds, mode_of, of_program, put, same, start, traced
 
 ENCRYPT = [PROGRAM, "encrypt", "-w", "key", "-i", "in", "-o", "out.pf"]
 PAIRS = int(os.environ.get("PAIRS", "60"))
@@ -98,11 +98,6 @@ def test_a_killed_run_stops_no_later_one():
 CALLS = "openat statx read pread64 pwrite64 fsync ftruncate flock link rename unlink fchmod close getrandom".split()
 
 
-def of_program(lines, call):
-    """How often the program made the call, from its own start on."""
-    return sum(line.startswith(f"{call}(") for line in lines)
-
-
 def test_after_any_error_status_0_means_that_it_is_made():
     _, lines = traced(ENCRYPT)
     for call in CALLS:
@@ -144,20 +139,6 @@ def test_a_file_gets_no_closed_streams_number():
     calls = [line for line in lines if line.startswith(("flock(", "pwrite64("))]
     low = [line for line in calls if int(line.split("(")[1].split(",")[0]) < 3]
     same((len(calls) >= 4, low), (True, []), "calls on files")
-
-
-def test_after_a_failed_sync_a_file_is_not_changed():
-    if not os.access(PF_IO_TESTS, os.X_OK):
-        raise Skip(f"{PF_IO_TESTS} is not built")
-    words = [PF_IO_TESTS, "disk_tests::a_file_that_was_not_synced_is_lost"]
-    ran, lines = traced(words)
-    same(ran.status, 0, str(ran))
-    synced = of_program(lines, "fsync")
-    if synced < 3:
-        raise AssertionError(f"the test syncs {synced} times: {ran}")
-    for at in range(1, synced + 1):
-        ran, _ = traced(words, "-e", f"inject=fsync:error=EIO:when={at}")
-        same(ran.status, 0, f"sync {at}: {ran}")
 
 
 def test_a_file_system_without_locks_or_hard_links_serves():

@@ -72,8 +72,10 @@ def test_random_layouts_are_measured():
 def test_layouts_are_refused_by_their_first_bad_line():
     cases = {
         "": "1",
+        "# none\n": "2",
         "page 0x0 r-- reg bare zero": "1",
         "enclave 0x1800 1": "1 size",
+        "#\nenclave 0x3000 1": "2 size",
         "enclave 0x1000 1\npage 0x0 -w- reg bare zero": "2",
         "enclave 0x1000 1\n\npage 0x1000 r-- reg bare zero": "3 out of range",
         "enclave 0x1000 1\npage 0x0 r-- reg bare zero\npage 0x0 r-- reg bare zero": "3 repeated",
@@ -86,8 +88,12 @@ def test_layouts_are_refused_by_their_first_bad_line():
 
 
 def test_a_layout_has_a_limit_and_files():
+    put("layout", b"#" * 4_194_304)
+    same(tool("measure", "layout").log, "refused layout line 2\n", "the longest layout")
     put("layout", b"#" * 4_194_305)
     same(tool("measure", "layout").log, "refused too large\n", "a long layout")
     put("layout", b"enclave 0x1000 1\npage 0x0 r-- reg measured file absent 0")
     same(tool("measure", "layout").log, "refused not found absent\n", "an absent file")
+    put("layout", b"enclave 0x1000 1\npage 0x0 r-- reg bare file absent 0")
+    same(tool("measure", "layout").status, 0, "an absent file of a page that is not measured")
     same(tool("measure", "absent").log, "refused not found absent\n", "an absent layout")

@@ -11,6 +11,10 @@ def ends(ran, status, line=""):
     same((ran.status, ran.log, ran.out), (status, line + "\n" if line else "", b""), str(ran))
 
 
+def changed(node, place, byte):
+    return node[:place] + bytes([byte]) + node[place + 1 :]
+
+
 def test_status_0_the_example_is_decrypted():
     example = os.path.join(TOP, "examples/hello")
     ran = tool("decrypt", "-w", f"{example}.key", "-i", f"{example}.pf")
@@ -42,24 +46,57 @@ def test_status_1_damage():
     node = got("out.pf")
     put("out.pf", node[:4095])
     ends(decrypt(), 1, "damaged node 0 short")
-    put("out.pf", node[:100] + bytes([node[100] ^ 1]) + node[101:])
+    put("out.pf", node[:8])
+    ends(decrypt(), 1, "damaged node 0 short")
+    put("out.pf", changed(node, 100, node[100] ^ 1))
+    ends(decrypt(), 1, "damaged node 0 tag")
+    put("out.pf", node)
+    put("key", bytes(16))
     ends(decrypt(), 1, "damaged node 0 tag")
 
 
 def test_status_2_words_that_are_no_command():
-    for words in ([], ["decode"], ["decrypt", "-w", "key"], [b"\xff"]):
+    put("t", b"")
+    lines = ["", "decode", "decrypt -w key", "encrypt -w key -i in"]
+    lines += ["manifest", "manifest -D", "manifest -D t", "manifest -D =a t", "manifest -D1=a t", "manifest -x t", "manifest t -Da=b"]
+    lines += ["manifest t m more", "manifest -D a=b", "measure", "measure -l", "measure t t"]
+    lines += ["sums", "sums -m", "sums t t", "sums -o t", "sums t -o t", "sums -o t -t"]
+    for words in [*map(str.split, lines), [b"\xff"]]:
         ends(tool(*words), 2, "usage: unbuilt words")
+    same(sorted(os.listdir(".")), ["in", "key", "t"], "files")
 
 
 def test_status_3_refusals():
     ends(decrypt("none"), 3, "refused not found none")
-    ends(encrypt(out="a.new"), 3, "refused bad name")
-    ends(encrypt(source="out.pf.new"), 3, "refused bad name")
-    put("in", bytes(4096))
+    ends(decrypt(key="none"), 3, "refused not found none")
+    ends(encrypt(source="none"), 3, "refused not found none")
+    ends(tool("measure", "-"), 3, "refused not found -")
+    encrypt()
+    node = got("out.pf")
+    # A version to come, and an update that is pending.
+    for place, byte in ((8, 2), (58, 1)):
+        put("out.pf", changed(node, place, byte))
+        ends(decrypt(), 3, "refused unbuilt")
+    for size in (3073, 4096):
+        put("in", bytes(size))
+        ends(decrypt("in"), 3, "refused not protected")
+        ends(encrypt(), 3, "refused unbuilt")
+    put("in", node[:7])
     ends(decrypt("in"), 3, "refused not protected")
-    ends(encrypt(), 3, "refused unbuilt")
-    put("key", bytes(15))
-    ends(decrypt(), 3, "refused key file 15")
+    for size in (0, 15, 17):
+        put("key", bytes(size))
+        ends(decrypt(), 3, f"refused key file {size}")
+
+
+def test_status_3_bad_names_are_refused_first():
+    put("x.new", b"plain")
+    rows = [["decrypt", "-w", "", "-i", "none"], ["decrypt", "-w", "key", "-i", "none.new"], ["encrypt", "-w", "", "-i", "none", "-o", "out.pf"]]
+    rows += [["encrypt", "-w", "key", "-i", "none", "-o", name] for name in ("", "folder/", ".", "..", "a.new", "a.recovery")]
+    rows += [["encrypt", "-w", "key", "-i", name, "-o", "x"] for name in ("x.new", "x.new.recovery")]
+    rows += [["manifest", ""], ["manifest", "none", "m.new"], ["measure", ""], ["sums", ""], ["sums", "-o", "m.new", "none"]]
+    for words in rows:
+        ends(tool(*words), 3, "refused bad name")
+    same((got("x.new"), sorted(os.listdir("."))), (b"plain", ["in", "key", "x.new"]), "files")
 
 
 def test_status_4_a_folder_is_a_host_fault():

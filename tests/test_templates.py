@@ -79,6 +79,22 @@ def refused(text, said, *words):
     same(os.path.exists("m") or os.path.exists("m.new"), False, "a file of a refused text")
 
 
+def test_templates_are_refused_at_their_place():
+    cases = {
+        "a {{ x }}": "unknown x at 2",
+        "{% for i in x %}": "statement at 0",
+        "{{ a": "unclosed at 0",
+        "{{ a + b }}": "name at 0",
+        b"\xff": "not utf-8",
+    }
+    for text, said in cases.items():
+        refused(text if isinstance(text, bytes) else text.encode(), f"template {said}")
+    same(tool("manifest", "none", "m").log, "refused not found none\n", "an absent template")
+    put("-", b"{{c}}")
+    ran = tool("manifest", "-D", "a=b", "-Dc=", "-")
+    same((ran.status, ran.out, ran.log), (0, b"", ""), "a template by the name -, and a value of no text")
+
+
 def test_texts_without_a_manifest_are_refused():
     sums = ", ".join('{ uri = "file:%s", sha256 = "%s" }' % (name, digit * 64) for name, digit in (("x", "0"), ("./x", "1")))
     cases = {
@@ -89,6 +105,11 @@ def test_texts_without_a_manifest_are_refused():
         "fs.root.uri = 1": "field fs.root.uri",
         "b = 1.5\na = [ 1, { z = 1.5, y = 1.5 } ]": "field a[1].y",
         "a = 1\na = 2": "not toml",
+        "a = 1.5": "field a",
+        'sgx.file_check_policy = "all"': "policy all",
+        'sgx.trusted_files = [ "http:x" ]': "uri http:x",
+        'sgx.trusted_files = [ { uri = "file:x", sha256 = "0" } ]': "sum file:x",
+        'fs.insecure__keys.k = "0"': "key k",
         "a = " + "[" * 33 + "]" * 33: "field a" + "[0]" * 32,
         "a = " + "[" * 100_000 + "]" * 100_000: "not toml",
     }

@@ -1,12 +1,14 @@
 """Protected files of an independent writer, of one to three levels of hash-tree nodes."""
-from harness import KEY, Skip, decrypt, put, same
+import os
+
+from harness import KEY, PROGRAM, Skip, decrypt, of_program, put, same, traced
 
 try:
     import cryptography
 except ImportError:
     cryptography = None
 else:
-    from protected import DATA_CHILDREN, FIRST, NODE, TREE_CHILDREN, counts, data_place, protected, tree_place
+    from protected import DATA_CHILDREN, FIRST, NODE, TREE_CHILDREN, counts, data_place, first_node, protected, tree_place
 
 PIECE = 32_768
 NONCE = bytes(range(32))
@@ -78,3 +80,35 @@ def test_nodes_that_change_places_are_damage():
     put("out.pf", b"".join(nodes))
     ran = decrypt()
     same((ran.status, ran.log, ran.out), (1, "damaged node 2 tag\n", b""), "nodes 2 and 3 exchanged")
+
+
+def test_metadata_of_too_large_a_content_are_damage():
+    if cryptography is None:
+        raise Skip("Python's package cryptography is not installed")
+    for size, said in ((1 << 32, "damaged node 1 short"), ((1 << 32) + 1, "damaged node 0 text")):
+        put("out.pf", first_node(KEY, b"out.pf", NONCE, size, b"", bytes(32)))
+        ran = decrypt()
+        same((ran.status, ran.log, ran.out), (1, said + "\n", b""), f"{size} bytes")
+
+
+def test_calls_that_fail_in_mid_stream_leave_the_pieces_before():
+    content = content_of(FIRST + NODE * DATA_CHILDREN + 1)
+    put("out.pf", b"".join(nodes_of(content)))
+    words = [PROGRAM, "decrypt", "-w", "key", "-i", "out.pf"]
+    ran, lines = traced(words)
+    same((ran.status, ran.out == content), (0, True), "with no error")
+    writes = of_program(lines, "write")
+    same(writes, -(-len(content) // PIECE), "writes")
+    of_file = ["-P", os.path.abspath("out.pf")]
+    _, lines = traced(words, *of_file)
+    reads = of_program(lines, "pread64")
+    before = 0
+    for at in [*range(1, 20), reads - 1, reads]:
+        ran, _ = traced(words, *of_file, "-e", f"inject=pread64:error=EIO:when={at}")
+        same((ran.status, ran.log), (4, "host fault\n"), f"read {at}: {ran}")
+        same((content.startswith(ran.out), len(ran.out) % PIECE, len(ran.out) >= before), (True, 0, True), f"pieces before read {at}")
+        before = len(ran.out)
+    same(before, len(content) // PIECE * PIECE, "the pieces before the last node")
+    for at in range(1, writes + 1):
+        ran, _ = traced(words, "-e", f"inject=write:error=EIO:when={at}")
+        same((ran.status, ran.log, ran.out == content[: PIECE * (at - 1)]), (7, "stream fault\n", True), f"write {at}")

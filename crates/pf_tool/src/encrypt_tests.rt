@@ -1,7 +1,5 @@
-ghost use Rattle.std.specs.Prelude.{None};
-
 use crate::tests::{Outcome, USER, expect, ran, ran_with};
-use pf_io::{Host, ListWords, MemHost, MemSink, Tear, Words, WordsFault};
+use pf_io::{ListWords, MemHost, MemSink, Tear};
 use std::alloc::Global;
 use std::process::Abort;
 use std::test::Fail;
@@ -34,99 +32,20 @@ fn expect_file(rt: &impl Abort, host: &MemHost, name: &str, bytes: Option<&[u8]>
 #[test]
 fn what_was_encrypted_decrypts(rt: HostRuntime) -> Result<(), Fail> {
     let alloc = rt.alloc();
-    let content = [b'x'; 3072];
-    for size in [0, 1, 3071, 3072] {
-        let mut host = host_with(alloc, &content[..size])?;
-        let made = ran_drawing(alloc, &mut host, ENCRYPT, 4)?;
-        expect(&rt, &made, 0, b"", b"", "encrypt");
-        assert_eq!(rt; host.len("a.pf"), Ok(Some(4096)));
-        expect_file(&rt, &host, "a.pf.new", None);
-        let read = ran(alloc, &mut host, "decrypt -w k -i a.pf")?;
-        expect(&rt, &read, 0, &content[..size], b"", "decrypt");
-        assert_eq!(rt; host.starved(), 0);
-    }
-    Ok(())
-}
-
-#[test]
-fn a_plain_file_can_become_its_protected_file(rt: HostRuntime) -> Result<(), Fail> {
-    let alloc = rt.alloc();
-    let mut host = host_with(alloc, b"in place")?;
-    let made = ran_drawing(alloc, &mut host, "encrypt -w k -i a -o a", 4)?;
-    expect(&rt, &made, 0, b"", b"", "encrypt");
-    let read = ran(alloc, &mut host, "decrypt -w k -i a")?;
-    expect(&rt, &read, 0, b"in place", b"", "decrypt");
-    Ok(())
-}
-
-#[test]
-fn refusals_leave_the_output(rt: HostRuntime) -> Result<(), Fail> {
-    let alloc = rt.alloc();
-    let rows: [(&str, &str); 8] = [
-        ("encrypt -w  -i a -o a.pf", "refused bad name\n"),
-        ("encrypt -w none -i a -o a.pf", "refused not found none\n"),
-        ("encrypt -w a -i a -o a.pf", "refused key file 3073\n"),
-        ("encrypt -w k -i a -o a.pf.new", "refused bad name\n"),
-        ("encrypt -w k -i a.pf.new -o a.pf", "refused bad name\n"),
-        (
-            "encrypt -w k -i a.pf.new.recovery -o a.pf",
-            "refused bad name\n",
-        ),
-        ("encrypt -w k -i none -o a.pf", "refused not found none\n"),
-        (ENCRYPT, "refused unbuilt\n"),
-    ];
-    for (line, log) in rows {
-        let mut host = host_with(alloc, &[b'x'; 3073])?;
-        let refused = ran_drawing(alloc, &mut host, line, 4)?;
-        expect(&rt, &refused, 3, b"", log.as_bytes(), line);
-        expect_file(&rt, &host, "a.pf", None);
-        assert_eq!(rt; host.starved(), 0);
-    }
-    Ok(())
-}
-
-// A bad KEY is refused before any call of the host, and bad names of the others after the two calls that read the key.
-#[test]
-fn bad_names_are_refused_before_a_call(rt: HostRuntime) -> Result<(), Fail> {
-    let alloc = rt.alloc();
-    let rows: [(&str, u64); 4] = [
-        ("decrypt -w  -i a.pf", 0),
-        ("encrypt -w  -i a -o a.pf", 0),
-        ("decrypt -w k -i a.new", 2),
-        ("encrypt -w k -i a -o a.pf.new", 2),
-    ];
-    for (line, calls) in rows {
-        let mut host = host_with(alloc, b"")?;
-        host.stop_at(calls);
-        let refused = ran_drawing(alloc, &mut host, line, 0)?;
-        expect(&rt, &refused, 3, b"", b"refused bad name\n", line);
-    }
-    Ok(())
-}
-
-#[test]
-fn the_nonce_is_the_second_pair_of_words(rt: HostRuntime) -> Result<(), Fail> {
-    let alloc = rt.alloc();
     let mut host = host_with(alloc, b"hello")?;
-    ran_drawing(alloc, &mut host, ENCRYPT, 4)?;
+    let made = ran_drawing(alloc, &mut host, ENCRYPT, 4)?;
+    expect(&rt, &made, 0, b"", b"", "encrypt");
+    expect_file(&rt, &host, "a.pf.new", None);
+    // The third and the fourth random word are the nonce.
     let mut nonce = [2; 32];
     nonce[16..].copy_from_slice(&[3; 16]);
     let Some(node) = host.bytes("a.pf") else {
         return Err(Fail::from("no file"));
     };
     assert_eq!(rt; node.get(10..42), Some(&nonce[..]));
-    Ok(())
-}
-
-#[test]
-fn an_input_that_the_side_file_would_take_stays(rt: HostRuntime) -> Result<(), Fail> {
-    let alloc = rt.alloc();
-    let mut host = host_with(alloc, b"")?;
-    host.put("x.new", b"plain")?;
-    let refused = ran_drawing(alloc, &mut host, "encrypt -w k -i x.new -o x", 4)?;
-    expect(&rt, &refused, 3, b"", b"refused bad name\n", "x.new");
-    expect_file(&rt, &host, "x.new", Some(b"plain"));
-    expect_file(&rt, &host, "x", None);
+    let read = ran(alloc, &mut host, "decrypt -w k -i a.pf")?;
+    expect(&rt, &read, 0, b"hello", b"", "decrypt");
+    assert_eq!(rt; host.starved(), 0);
     Ok(())
 }
 
@@ -148,47 +67,6 @@ fn want_of_random_words_and_failing_calls_are_faults(rt: HostRuntime) -> Result<
         let failed = ran_drawing(alloc, &mut host, ENCRYPT, 4)?;
         expect(&rt, &failed, 4, b"", b"host fault\n", "call");
         expect_file(&rt, &host, "a.pf", None);
-    }
-    Ok(())
-}
-
-// Random words of which one does not come, and those behind it would.
-#[derive(Drop)]
-struct FailsOnce {
-    at: u64,
-    calls: u64,
-    faults: u64,
-}
-
-impl Words for FailsOnce {
-    ghost state = { λ words. record { faults = words.faults; left = None } };
-
-    fn next16(&mut self) -> Result<[u8; 16], WordsFault> {
-        let call = self.calls;
-        self.calls = call.saturating_add(1);
-        if call == self.at {
-            self.faults = self.faults.saturating_add(1);
-            return Err(WordsFault);
-        }
-        Ok([7; 16])
-    }
-}
-
-#[test]
-fn nothing_is_asked_after_a_word_that_failed(rt: HostRuntime) -> Result<(), Fail> {
-    let alloc = rt.alloc();
-    // The key takes two calls, and IN's length one. Behind the second word the side file takes three, and IN one.
-    for (at, calls) in [(0, 3), (1, 3), (2, 7), (3, 7)] {
-        let mut host = host_with(alloc, b"after")?;
-        host.stop_at(calls);
-        let mut random = FailsOnce {
-            at,
-            calls: 0,
-            faults: 0,
-        };
-        let failed = ran_with(alloc, &mut host, ENCRYPT, MemSink::new(alloc), &mut random)?;
-        expect(&rt, &failed, 6, b"", b"random fault\n", "word");
-        assert_eq!(rt; random.calls, at + 1);
     }
     Ok(())
 }
