@@ -28,7 +28,7 @@ use Rattle.pf_tool.specs.declared.fault.Fault.TheVariants as faults
 use Rattle.pf_tool.proofs.Asking.{asked_then, passed_asked}
 use Rattle.pf_tool.proofs.Composing.{host_none, passed_none, failed_host}
 use Rattle.pf_tool.proofs.Following.{all_split}
-use Rattle.pf_session.proofs.Published.{side_apart}
+use Rattle.pf_tool.proofs.SideBehind.{not_side}
 use Rattle.pf_tool.proofs.Stopping.{host_fails, starves}
 
 -- A call that changes the disk: it is neither a question for a length nor a read. A swap gives the side file the output's name.
@@ -188,7 +188,7 @@ module _ (output : Name) (bytes : List ℕ) where
   replaced_left tried d image made swapped was = record { here = ⊎_elim (λ before. inl before) (λ is. inr (swapped, is)) was.here; side = λ never. absurd (never made); others = was.others }
 
   beside_left : (tried : List Event) (d : Disk) (image : Image) → IsMade tried output → OthersLeft Side d image → SideLeaves tried output (IsExactly bytes d tried) d image
-  beside_left tried d image made was = record { here = inl (was output (side_apart output)); side = λ never. absurd (never made); others = λ other ne apart. was other apart }
+  beside_left tried d image made was = record { here = inl (was output (not_side output)); side = λ never. absurd (never made); others = λ other ne apart. was other apart }
 
   -- the file was written
   whole_left : (old new : HostState) → WroteFile output Side bytes old new → LeavesWhole output bytes (written_events output bytes) (AtEnd Done) old new
@@ -214,7 +214,7 @@ module _ (output : Name) (bytes : List ℕ) where
         old.honest new.honest disk (λ d image was. beside_left Tried d image made was)
         (λ d e kept. record {
           done = λ is. absurd (cc);
-          here = inl (kept output (side_apart output));
+          here = inl (kept output (not_side output));
           side = λ never. absurd (never made);
           others = λ other ne apart. kept other apart;
         })

@@ -14,11 +14,11 @@ use Rattle.pf_session.specs.Reopening.{HasSheet}
 use Rattle.pf_session.specs.Restored.{KeepsBeside}
 use Rattle.pf_session.specs.State.{SessionState}
 use Rattle.pf_session.proofs.Disks.{leaves_others}
-use Rattle.pf_session.proofs.Published.{side_apart}
 use Rattle.pf_tool.specs.Encrypting.{StandsFor}
 use Rattle.pf_tool.specs.Runs.{OutputLeft, OutputEnds}
 use Rattle.pf_tool.specs.SideFiles.{IsNewFile}
 use Rattle.pf_tool.proofs.PlainWriting.{ran_weaker}
+use Rattle.pf_tool.proofs.SideBehind.{not_side}
 
 -- the file stands for a sheet of this content, with the output's name as path
 abbrev pub HasVersion : List ℕ → Name → List ℕ → Option (List ℕ) → Type 0
@@ -36,13 +36,13 @@ ran_both P P2 Q Q2 a b one two = record {
 }
 
 as_before : (output : Name) (IsNew : Disk → Option (List ℕ) → Type 0) (may : Type 0) (d : Disk) (image : Image) → LeavesOthers (side_of output) d image → OutputLeft output IsNew may d image
-as_before output IsNew may d image others = record { here = inl (others output (side_apart output)); others = λ other ne apart. others other apart }
+as_before output IsNew may d image others = record { here = inl (others output (not_side output)); others = λ other ne apart. others other apart }
 
 -- where the side file alone was changed, the output is as before
 pub alone_left : (output : Name) (IsNew : Disk → Option (List ℕ) → Type 0) (may whole : Type 0) (before after : HostState) → (whole → ⊥) → KeepsBeside output before after → OnDisk before after (Ran (OutputLeft output IsNew may) (OutputEnds output IsNew may whole))
 alone_left output IsNew may whole before after never alone =
     ran_weaker (LeavesOthers (side_of output)) (OutputLeft output IsNew may) (KeepsOthers (side_of output)) (OutputEnds output IsNew may whole) before.honest after.honest alone (as_before output IsNew may)
-    (λ d e kept. record { done = λ is. absurd (never is); here = inl (kept output (side_apart output)); others = λ other ne apart. kept other apart })
+    (λ d e kept. record { done = λ is. absurd (never is); here = inl (kept output (not_side output)); others = λ other ne apart. kept other apart })
 
 -- a publishing that had its words
 module _ (user : List ℕ) (output : Name) (content : List ℕ) (session : SessionState) (next : Sheet) (key_is : session.key ≡ user) (name_is : session.name ≡ output) (path_is : next.path ≡ output) (content_is : next.content ≡ content) where
@@ -61,7 +61,7 @@ module _ (user : List ℕ) (output : Name) (content : List ℕ) (session : Sessi
   -- an image during the publishing, by the disk before all
   image_left : (may : Type 0) → may → (d e : Disk) → KeepsOthers (side_of output) d e → (image : Image) → KeptOr session next e image × LeavesAllBut (side_of session.name) session.name e image → OutputLeft output New may d image
   image_left may has d e kept image (inl named, others) = record {
-    here = inl (subst (λ (o : Option File). IsImageAt o (image output)) (kept output (side_apart output)) (subst (λ (n : Name). IsImageAt (e n) (image n)) name_is named.here));
+    here = inl (subst (λ (o : Option File). IsImageAt o (image output)) (kept output (not_side output)) (subst (λ (n : Name). IsImageAt (e n) (image n)) name_is named.here));
     others = λ other ne apart. subst (λ (o : Option File). IsImageAt o (image other)) (kept other apart) (subst (λ (n : Name). LeavesAllBut (side_of n) n e image) name_is others other apart ne);
   }
   image_left may has d e kept image (inr left, others) = record {
@@ -78,7 +78,7 @@ module _ (user : List ℕ) (output : Name) (content : List ℕ) (session : Sessi
   ends_tried : (may whole : Type 0) → may → (whole → ⊥) → (d e f : Disk) → KeepsOthers (side_of output) d e → PublishedIf false session next e f × KeepsAllBut (side_of session.name) session.name e f → OutputEnds output New may whole d f
   ends_tried may whole has never d e f kept (inl same, others) = record {
     done = λ is. absurd (never is);
-    here = inl (subst (λ (n : Name). f n ≡ e n) name_is same ∙ kept output (side_apart output));
+    here = inl (subst (λ (n : Name). f n ≡ e n) name_is same ∙ kept output (not_side output));
     others = other_ends d e f kept others;
   }
   ends_tried may whole has never d e f kept (inr sheet, others) = record { done = λ is. absurd (never is); here = inr (has, new_file f sheet); others = other_ends d e f kept others }

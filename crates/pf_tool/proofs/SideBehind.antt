@@ -1,5 +1,5 @@
 -- A file that is made by its side file, behind events that changed nothing.
-use Rattle.std.proofs.Common.{◌≡◌, ap, refl, inl, inr, ⊎_elim, List, ◌++◌, ℕ, ◌∙◌, subst, Option, Some, None, IfSome}
+use Rattle.std.proofs.Common.{◌≡◌, ◌≢◌, sym, ap, refl, inl, inr, ⊎_elim, List, ◌++◌, ℕ, ◌∙◌, subst, Option, Some, None, IfSome}
 use Rattle.std.specs.Prelude.{option_map}
 use Rattle.std.proofs.lemmas.List.Elements.{Contains-append_right}
 use Rattle.pf_io.specs.Disk.{Name, Files, File, Disk, Image, IsImage, reading}
@@ -9,9 +9,14 @@ use Rattle.pf_io.specs.Names.{side_of}
 use Rattle.pf_io.specs.Steps.{Stays}
 use Rattle.pf_io.specs.Unchanged.{KeepsDisk}
 use Rattle.pf_io.proofs.Runs.{started, goes_on_ran}
+use Rattle.pf_session.proofs.Names.{side_apart}
 use Rattle.pf_tool.specs.Events.{Event, Answers}
 use Rattle.pf_tool.specs.Endings.{Done, Stop, AtEnd}
 use Rattle.pf_tool.specs.SideFiles.{IsMade, IsSwapped, SideLeaves, SideEnds, IsNewFile, LeavesBySide}
+
+-- the side file has another name
+pub not_side : (output : Name) → output ≢ side_of output
+not_side output same = side_apart output (sym same)
 
 -- a run that changed nothing, and is not done
 pub kept_leaves : (output : Name) (IsNew : Disk → List Event → Option (List ℕ) → Type 0) (tried : List Event) (stop : Stop) (old new : HostState) → (stop ≡ AtEnd Done → ⊥) → KeepsDisk old new → LeavesBySide output IsNew tried stop old new

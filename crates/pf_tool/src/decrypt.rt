@@ -1,13 +1,11 @@
 // The command `decrypt`.
-ghost use Rattle.std.specs.Prelude.{◌≡◌, ◌≤◌, ◌↔◌, IsTrue, IfOk, IfErr, OnOk, List, ℕ, take};
-ghost use Rattle.node_layout.specs.Metadata.{magic};
-ghost use Rattle.node_layout.specs.Opening.{OpensTo};
+ghost use Rattle.std.specs.Prelude.{IfOk, IfErr};
 ghost use Rattle.pf_io.specs.Host.{KeepsFiles};
 ghost use Rattle.pf_io.specs.Unchanged.{KeepsDisk};
 ghost use Rattle.pf_tool.specs.World.{World, with_host, with_out};
 ghost use Rattle.pf_tool.specs.Outcomes.{Falls, ComesOut};
-ghost use Rattle.pf_tool.specs.Decrypting.{IsOpenable, NodeRefused, Unseals, DecryptLeads};
-ghost use Rattle.pf_tool.specs.Unsealing.{Refuses, ReadsNode};
+ghost use Rattle.pf_tool.specs.Decrypting.{Unseals, DecryptLeads};
+ghost use Rattle.pf_tool.specs.Unsealing.{InputOpened};
 
 use crate::fault::Fault;
 use crate::key::read_key;
@@ -25,6 +23,10 @@ fn open<'a, H: Host>(
     user: &[u8; 16],
     name: &'a str,
 ) -> Result<Session, Fault<'a>>
+    ensures files { KeepsFiles (H.state host.old) (H.state host.new) }
+    ensures disk { KeepsDisk (H.state host.old) (H.state host.new) }
+    ensures opened { IfOk result (λ session. InputOpened user.now name.now session (H.state host.old) (H.state host.new)) }
+    ensures refused { IfErr result (λ fault. (world : World) → Falls (Unseals user.now name.now) (λ _ _. KeepsDisk) fault (with_host world (H.state host.old)) (with_host world (H.state host.new))) }
 {
     match Session::open(alloc, host, user, name, None) {
         Ok(session) => Ok(session),

@@ -1,6 +1,6 @@
 // Why a call of a session ends a command.
 ghost use Rattle.std.specs.Prelude.{◌≡◌};
-ghost use Rattle.pf_tool.specs.Faults.{beside_fault, flush_fault, MayMeetPiece, IsPieceFault};
+ghost use Rattle.pf_tool.specs.Faults.{beside_fault, flush_fault, MayMeetPiece, IsPieceFault, MayMeetOpening, SaysOpening};
 
 use crate::fault::Fault;
 use crate::why::Why;
@@ -47,7 +47,10 @@ pub(crate) fn piece_fault(fault: WriteFault) -> Fault<'static>
 }
 
 /// The fault of an opening of the name under any path.
-pub(crate) fn opening_fault<'a>(fault: OpenFault, name: &'a str) -> Fault<'a> {
+pub(crate) fn opening_fault<'a>(fault: OpenFault, name: &'a str) -> Fault<'a>
+    requires { MayMeetOpening fault }
+    ensures { SaysOpening name.now fault result }
+{
     match fault {
         OpenFault::BadName => Fault::Refused(Why::BadName),
         OpenFault::Memory => Fault::Memory,
