@@ -79,13 +79,13 @@ pub record ChangeSeen (step : Step) (old new : SessionState) (outcome : Outcome)
   pub on_words : CountsFault (words_in outcome) random.faults random'.faults
   pub told : WhereTold before after (λ given. ChangeTold step old new given words outcome)
 
-host_same : (flushed : Bool) (one : Result (Unit {0}) TreeFault) → host_of one ≡ host_in (outcome_of flushed one)
+pub host_same : (flushed : Bool) (one : Result (Unit {0}) TreeFault) → host_of one ≡ host_in (outcome_of flushed one)
 host_same flushed (Ok ok) = refl
 host_same flushed (Err (trees.Damaged damage)) = refl
 host_same flushed (Err trees.Host) = refl
 host_same flushed (Err trees.Memory) = refl
 
-calm_words : (flushed : Bool) (one : Result (Unit {0}) TreeFault) → words_in (outcome_of flushed one) ≡ false
+pub calm_words : (flushed : Bool) (one : Result (Unit {0}) TreeFault) → words_in (outcome_of flushed one) ≡ false
 calm_words flushed (Ok ok) = refl
 calm_words flushed (Err (trees.Damaged damage)) = refl
 calm_words flushed (Err trees.Host) = refl
@@ -97,11 +97,11 @@ flush_outcome faults.Words = Lacked
 flush_outcome (faults.Damaged damage) = Broke (ByDamage damage)
 flush_outcome faults.Host = Broke ByHost
 
-outcome_is : (blame : Blame) → flush_outcome (fault_of blame) ≡ Broke blame
+pub outcome_is : (blame : Blame) → flush_outcome (fault_of blame) ≡ Broke blame
 outcome_is ByHost = refl
 outcome_is (ByDamage damage) = refl
 
-same_fault : (fault other : FlushFault) → ◌≡◌ {A = Result (Unit {0}) FlushFault} (Err fault) (Err other) → other ≡ fault
+pub same_fault : (fault other : FlushFault) → ◌≡◌ {A = Result (Unit {0}) FlushFault} (Err fault) (Err other) → other ≡ fault
 same_fault fault other same = cc
 
 module _ (old : SessionState) (mine : IsOfScript old) (step : Step) (before after : HostState) (random random' : WordsState) where

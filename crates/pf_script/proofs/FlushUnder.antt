@@ -87,7 +87,7 @@ module _ (key : List ℕ) (k : ℕ) (old : SessionState) (seated : IsSeated key 
               acts = flush_act old next.0 false ∷ [];
               left = seats_after (Flush (seat_of old.key old.name next.0)) false seats;
               after = Own (broken_seat (seat_on base old));
-              did = flush_did book seats false old base next.0 a b on.entry seated.of_script.is_target ran (read_image after.honest b is2 reads) on.was on.seated
+              did = flush_did book seats false old.key old.name base next.0 a b on.entry seated.of_script.is_target ran (read_image after.honest b is2 reads) on.was on.seated
                   (record { path_is = next.1.next.path_is; sealed = at_both (Where (Stood old.key old.name base) (Ran (AsEither old.key old.name base next.0) (StoodIf false old.key old.name next.0))) before.honest after.honest a b is is2 next.2 });
               shows = other_file (broken_seat (seat_on base old)) new (inl broken) (sym key_is) (sym name_is) (sym broken) refl refl;
               spares = one_spares seats (Flush (seat_of old.key old.name next.0)) false;
@@ -107,7 +107,7 @@ module _ (key : List ℕ) (k : ℕ) (old : SessionState) (seated : IsSeated key 
               acts = flush_act old next.0 true ∷ [];
               left = seats_after (Flush (seat_of old.key old.name next.0)) true seats;
               after = Own (resealed own next.0);
-              did = flush_did book seats true old base next.0 a b on.entry seated.of_script.is_target ran (read_image after.honest b is2 reads) on.was on.seated
+              did = flush_did book seats true old.key old.name base next.0 a b on.entry seated.of_script.is_target ran (read_image after.honest b is2 reads) on.was on.seated
                   (record { path_is = next.1.next.path_is; sealed = at_both (Where (Stood old.key old.name base) (Ran (AsEither old.key old.name base next.0) (StoodIf true old.key old.name next.0))) before.honest after.honest a b is is2 next.2.1 });
               shows = of_book next.0 new (ap (λ (s : SessionState). s.broken) same ∙ whole)
                   (left_seat (Flush (seat_of old.key old.name next.0)) seats new (ap (λ (s : SessionState). s.key) same) (ap (λ (s : SessionState). s.name) same))

@@ -44,6 +44,10 @@ pub mod OnEmpty
 pub mod CreateLine
 pub mod OpenLine
 pub mod ReadUnder
+pub mod ChangeLeft
+pub mod ChangeUnder
+pub mod LineUnder
+pub mod WriteUnder
 pub mod CloseLine
 pub mod Desking
 pub mod DeskUnder
@@ -59,3 +63,4 @@ pub mod SizeTold
 pub mod SizeSeen
 pub mod SizeLine
 pub mod ReadLine
+pub mod DeskLine

@@ -101,7 +101,7 @@ module _ (old : SessionState) (mine : IsOfScript old) (new : SessionState) (one 
       (subst (λ n. Contains new.tree.dirty k ↔ ((Contains old.tree.dirty k ⊎ Touches step mid.size k) × (k < node_count n))) stepped.size
       (subst (λ (d : List ℕ). Contains new.tree.dirty k ↔ ((Contains d k ⊎ Touches step mid.size k) × (k < node_count new.tree.size))) (ap (λ (t : TreeState). t.dirty) kept) (stepped.dirty k)))
 
-  stepped_is : (base : Sheet) (mid : TreeState) → KeepsFields old.tree mid → Stepped step mid new.tree → now base new.tree ≡ applied step (now base old.tree) → new ≡ record old { tree = new.tree; changed = true }
+  pub stepped_is : (base : Sheet) (mid : TreeState) → KeepsFields old.tree mid → Stepped step mid new.tree → now base new.tree ≡ applied step (now base old.tree) → new ≡ record old { tree = new.tree; changed = true }
       → IsStepped step (seat_on base old) (seat_on base new)
   stepped_is base mid kept stepped content state = record {
     dirty = record { rising = stepped.rising; exactly = dirty_after base mid kept stepped };

@@ -90,6 +90,7 @@ module _ (key : List ℕ) (taken : Bool) (line : ScriptLine) (seen : Seen) (repl
       pub seated : Contains seats (seat_of old.key old.name base)
       pub kept : IsKeptOn base old
       pub stood : Stood old.key old.name base a.now
+      pub image : IsImage a.now (reading a.now)
 
     abbrev pub KnownUnder : Type 0
     KnownUnder = (book : Book) (seats : List Seal) → Agrees book seats a.now → (base : Sheet) → OnBase book seats base → LineUnder key taken line seen reply (Some old) new book seats (Own (seat_on base old)) a b
@@ -117,7 +118,7 @@ module _ (key : List ℕ) (taken : Bool) (line : ScriptLine) (seen : Seen) (repl
         by_entry sheet seated kept is None was = unknown was
         by_entry sheet seated kept is (Some entry) was =
             subst (λ (x : Seat). LineUnder key taken line seen reply (Some old) new book seats x a b) (sym is)
-            (known book seats agrees sheet (record { entry = entry; was = was; seated = seated; kept = kept; stood = (agrees.stand (seat_of old.key old.name sheet) entry seated was).stood }))
+            (known book seats agrees sheet (record { entry = entry; was = was; seated = seated; kept = kept; stood = (agrees.stand (seat_of old.key old.name sheet) entry seated was).stood; image = reads }))
 
         by_shows : ShowsUnder book seats seat (Some old) → LineUnder key taken line seen reply (Some old) new book seats seat a b
         by_shows (no_file is none) = absurd (cc)
@@ -155,11 +156,11 @@ one_concerned taken line old done next name (inl same) = inl same
 one_concerned taken line old done next name (inr none) = absurd none
 
 -- a flush that was done or failed, as one act
-pub flush_did : (book : Book) (seats : List Seal) (done : Bool) (old : SessionState) (base next : Sheet) (a b : Honest) (entry : Entry) → IsTarget old.name → Ran (LeavesApart old.name) (KeepsApart old.name) a b → IsImage b.now (reading b.now)
-    → book old.name ≡ Some entry → Contains seats (seat_of old.key old.name base) → Flushes done base (seat_of old.key old.name next) a b
-    → DidAll book seats (record { deed = Flush (seat_of old.key old.name next); done = done } ∷ []) (seats_after (Flush (seat_of old.key old.name next)) done seats) a b
-flush_did book seats done old base next a b entry target others reads was seated flushes =
-    let deed = Flush (seat_of old.key old.name next) in
+pub flush_did : (book : Book) (seats : List Seal) (done : Bool) (key : List ℕ) (name : Name) (base next : Sheet) (a b : Honest) (entry : Entry) → IsTarget name → Ran (LeavesApart name) (KeepsApart name) a b → IsImage b.now (reading b.now)
+    → book name ≡ Some entry → Contains seats (seat_of key name base) → Flushes done base (seat_of key name next) a b
+    → DidAll book seats (record { deed = Flush (seat_of key name next); done = done } ∷ []) (seats_after (Flush (seat_of key name next)) done seats) a b
+flush_did book seats done key name base next a b entry target others reads was seated flushes =
+    let deed = Flush (seat_of key name next) in
     one_act book seats deed done a b (record { targets = target; others = others; reads = reads }) (subst (λ (o : Option Entry). Owes seats deed done o a b) (sym was) (base, seated, flushes))
 
 -- the seat that a deed leaves, of a session of its key and name

@@ -84,13 +84,13 @@ module _ (at : ℕ) (bytes : List ℕ) where
 abbrev pub written : ℕ → Bool → Reply
 written count flushed = replies.Written count flushed
 
-stepped_reply : (count : ℕ) (flushed : Bool) (one : Result (Unit {0}) TreeFault) → outcome_reply (written count) (outcome_of flushed one) ≡ write_reply count (stepped write_of_tree flushed one)
+pub stepped_reply : (count : ℕ) (flushed : Bool) (one : Result (Unit {0}) TreeFault) → outcome_reply (written count) (outcome_of flushed one) ≡ write_reply count (stepped write_of_tree flushed one)
 stepped_reply count flushed (Ok done) = refl
 stepped_reply count flushed (Err (trees.Damaged damage)) = refl
 stepped_reply count flushed (Err trees.Host) = refl
 stepped_reply count flushed (Err trees.Memory) = refl
 
-unflushed_reply : (count : ℕ) (fault : FlushFault) → outcome_reply (written count) (flush_outcome fault) ≡ write_reply count (Err (write_of_flush fault))
+pub unflushed_reply : (count : ℕ) (fault : FlushFault) → outcome_reply (written count) (flush_outcome fault) ≡ write_reply count (Err (write_of_flush fault))
 unflushed_reply count faults.Words = refl
 unflushed_reply count (faults.Damaged damage) = refl
 unflushed_reply count faults.Host = refl
@@ -126,25 +126,40 @@ module _ (key : List ℕ) (at : ℕ) (bytes : List ℕ) (line : ScriptLine) (cou
       (write_first at bytes line count is_line key (Own (seat_on on.sheet old)) [] why
           (first_then (writing_rules (Own (seat_on on.sheet old)) at count) why (Own (seat_on on.sheet old)) (seat_on on.sheet old) refl whole (first on.sheet)))) seated
 
+  -- which rule it is that refuses
+  pub record RefusedBy (fault : WriteFault) : Type 0 where
+    pub why : Why
+    pub reply_is : write_reply count (Err fault) ≡ Ok (replies.Refused why)
+    pub first : (base : Sheet) → IsFirst (writing_rules (Own (seat_on base old)) at count) why
+
+  pub why_refused : (fault : WriteFault) → WriteRefused at (length bytes) old.tree.size fault → RefusedBy fault
+  why_refused writes.TooLong why = record { why = whys.TooLong; reply_is = refl; first = λ base. inl (refl, subst (λ n. 32768 < n) (sym count_is) why) }
+  why_refused writes.TooLarge why = record {
+    why = whys.TooLarge;
+    reply_is = refl;
+    first = λ base. inr ((λ other refuses. omega (arith, refuses.1, why.0, count_is)), inl (refl, omega (arith, why.1, count_is)));
+  }
+  why_refused (writes.PastEnd said) why = record {
+    why = whys.PastEnd said;
+    reply_is = refl;
+    first = λ base.
+        inr ((λ other refuses. omega (arith, refuses.1, why.0, count_is)),
+            inr ((λ other refuses. omega (arith, refuses.1, why.1, count_is)),
+                inl (said, why.3 ∙ sym (length_now base old.tree), subst (λ n. n < at) (sym why.3) why.2, refl)));
+  }
+  why_refused writes.Words why = absurd why
+  why_refused (writes.Damaged damage) why = absurd why
+  why_refused writes.Host why = absurd why
+  why_refused writes.Memory why = absurd why
+
   refused_by : (fault : WriteFault) (host : HostState) (words : WordsState) → WriteRefused at (length bytes) old.tree.size fault → SeatGoes key false line (write_reply count (Err fault)) (Some old) (Some old) host host words words
-  refused_by writes.TooLong host words why = rule_goes whys.TooLong host words (λ base. inl (refl, subst (λ n. 32768 < n) (sym count_is) why))
-  refused_by writes.TooLarge host words why =
-      rule_goes whys.TooLarge host words
-      (λ base. inr ((λ other refuses. omega (arith, refuses.1, why.0, count_is)), inl (refl, omega (arith, why.1, count_is))))
-  refused_by (writes.PastEnd said) host words why =
-      rule_goes (whys.PastEnd said) host words
-      (λ base.
-      inr ((λ other refuses. omega (arith, refuses.1, why.0, count_is)),
-          inr ((λ other refuses. omega (arith, refuses.1, why.1, count_is)),
-              inl (said, why.3 ∙ sym (length_now base old.tree), subst (λ n. n < at) (sym why.3) why.2, refl))))
-  refused_by writes.Words host words why = absurd why
-  refused_by (writes.Damaged damage) host words why = absurd why
-  refused_by writes.Host host words why = absurd why
-  refused_by writes.Memory host words why = absurd why
+  refused_by fault host words why =
+      let by = why_refused fault why in
+      subst (λ (r : Result Reply Memory). SeatGoes key false line r (Some old) (Some old) host host words words) (sym by.reply_is) (rule_goes by.why host words by.first)
 
   -- no rule refuses
   module _ (free : (fault : WriteFault) → ¬ (WriteRefused at (length bytes) old.tree.size fault)) where
-    passes : (base : Sheet) (given : List Answer) → NoneRefuses (rules key false (Own (seat_on base old)) line given)
+    pub passes : (base : Sheet) (given : List Answer) → NoneRefuses (rules key false (Own (seat_on base old)) line given)
     passes base given =
         write_passes at bytes line count is_line key (Own (seat_on base old)) given
         (none_then (writing_rules (Own (seat_on base old)) at count) (Own (seat_on base old)) (seat_on base old) refl whole

@@ -1,5 +1,5 @@
 -- What a session put out: the text of a run of its script, over the answers of the host and the random words.
-use Rattle.std.specs.Prelude.{⊤, ◌≡◌, ◌≢◌, ◌⊎◌, ℕ, zero, suc, ◌+◌, Bool, true, cond, List, [], ◌∷◌, ◌++◌, length, take, map, replicate, Option, Some, IfSome}
+use Rattle.std.specs.Prelude.{⊤, ◌≡◌, ◌≢◌, ◌⊎◌, ℕ, zero, suc, Bool, true, cond, List, [], ◌∷◌, ◌++◌, length, take, map, replicate, Option, Some, IfSome}
 use Rattle.std.specs.List.{flat_map, fold}
 use Rattle.node_tree.specs.Sheet.{Sheet}
 use Rattle.pf_io.specs.Answered.{WereTold}
@@ -9,7 +9,7 @@ use Rattle.pf_io.specs.Host.{Answer, LengthWas, Gave, Both, IsMore}
 use Rattle.pf_io.specs.Lines.{lines_of}
 use Rattle.pf_io.specs.Streams.{TakesFront}
 use Rattle.pf_script.specs.Replies.{reply_text}
-use Rattle.pf_script.specs.Script.{ScriptState, Seat, Empty, Own, seat_at}
+use Rattle.pf_script.specs.Script.{ScriptState, Seat, Empty, seat_at}
 use Rattle.pf_script.specs.ScriptLines.{IsScriptLine}
 use Rattle.pf_script.specs.ScriptRuns.{Exchange, Follows}
 use Rattle.pf_script.specs.Words.{SEATS}
@@ -56,20 +56,19 @@ status_of statuses = fold first_of 0 statuses
 abbrev pub statuses_of : Transcript → List ℕ
 statuses_of transcript = map item_status transcript.items ++ map (λ exchange. reply_status exchange.reply) transcript.closed
 
--- the closings of the seats that are not empty, in order
-abbrev pub closing_of : ℕ → Seat → List ScriptLine
-closing_of k Empty = []
-closing_of k (Own own) = lines.Close k ∷ []
+-- From the k-th on so many seats are closed in order, each that is not empty; as long as nothing is forged, each closing is a turn from the state that the one before left. In the end the
+-- state has E.
+abbrev pub ClosesSeats : ℕ → ℕ → ScriptState → List Exchange → (ScriptState → Type 0) → Type 0
+ClosesSeats zero k state closed E = (closed ≡ []) × E state
+ClosesSeats (suc more) k state closed E =
+    ((seat_at state k ≡ Empty) × ClosesSeats more (suc k) state closed E)
+    ⊎ ((exchange : Exchange) × (rest : List Exchange) × (closed ≡ exchange ∷ rest) × (seat_at state k ≢ Empty) × (exchange.line ≡ lines.Close k) × Follows state (exchange ∷ []) (λ left. ClosesSeats more (suc k) left rest E))
 
-abbrev pub closings : ScriptState → ℕ → ℕ → List ScriptLine
-closings state k zero = []
-closings state k (suc count) = closing_of k (seat_at state k) ++ closings state (k + 1) count
-
--- the closings are the first of those that the state asks for, and all of them where `end` followed
+-- the first seats are closed, and all of them where `end` followed
 pub record ClosesFirst (transcript : Transcript) (state : ScriptState) : Type 0 where
-  pub rest : List ScriptLine
-  pub in_order : closings state 0 SEATS ≡ map (λ exchange. exchange.line) transcript.closed ++ rest
-  pub all_closed : transcript.ended ≡ true → rest ≡ []
+  pub count : ℕ
+  pub all : transcript.ended ≡ true → count ≡ SEATS
+  pub closes : ClosesSeats count 0 state transcript.closed (λ last. ⊤)
 
 -- eight empty seats under a key, and the sheets that were sealed before the run
 abbrev pub empty_seats : List ℕ → List Sheet → ScriptState
@@ -77,7 +76,7 @@ empty_seats user sealed = record { key = user; seats = replicate SEATS Empty; se
 
 -- The lines are a run of the script from empty seats, and the closings one from the state that they leave.
 abbrev pub FollowsScript : ScriptState → Transcript → Type 0
-FollowsScript state transcript = Follows state (flat_map exchange_of transcript.items) (λ mid. ClosesFirst transcript mid × Follows mid transcript.closed (λ last. ⊤))
+FollowsScript state transcript = Follows state (flat_map exchange_of transcript.items) (ClosesFirst transcript)
 
 -- these items answer these lines, one by one
 abbrev pub AnswersBytes : List ℕ → Item → Type 0
