@@ -66,3 +66,11 @@ mod EncryptClauses
 mod RunChoices
 mod RunDisk
 pub mod ContentRuns
+mod ScriptTurns
+mod ScriptSeen
+mod ScriptReading
+mod ScriptClosing
+mod ScriptParts
+mod ScriptText
+mod ScriptContent
+mod ScriptBooks
