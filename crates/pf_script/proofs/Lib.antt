@@ -64,3 +64,4 @@ pub mod SizeLine
 pub mod ReadLine
 pub mod DeskLine
 pub mod BlankLine
+pub mod MoveLine
