@@ -80,7 +80,7 @@ module _ (key : List ℕ) (own : OwnSeat) (line : ScriptLine) (book : Book) (sea
     pub stood : Stood own.key own.name base m.now
 
   -- how the line ends with a fault
-  pub record Fell (m b : Honest) (new : SessionState) (words : List (List ℕ)) (of_host of_words : Bool) (reply : Reply) : Type 0 where
+  pub record Fell (b : Honest) (new : SessionState) (words : List (List ℕ)) (of_host of_words : Bool) (reply : Reply) : Type 0 where
     pub acts : List Act
     pub left : List Seal
     pub after : Seat
@@ -103,8 +103,8 @@ module _ (key : List ℕ) (own : OwnSeat) (line : ScriptLine) (book : Book) (sea
     -- how the change ends
     abbrev pub ChangeKnown : Outcome → Type 0
     ChangeKnown (Went flushed) = WentOn flushed
-    ChangeKnown (Broke blame) = Fell m b new (words ++ more) (host_blamed blame) false (flush_reply (fault_of blame))
-    ChangeKnown Lacked = Fell m b new (words ++ more) false true replies.WordsFault
+    ChangeKnown (Broke blame) = Fell b new (words ++ more) (host_blamed blame) false (flush_reply (fault_of blame))
+    ChangeKnown Lacked = Fell b new (words ++ more) false true replies.WordsFault
     ChangeKnown Wanted = Unit {0}
 
     was : Made (first ∷ []) own old made words sheets base

@@ -47,6 +47,7 @@ pub mod ChangeLeft
 pub mod ChangeUnder
 pub mod LineUnder
 pub mod WriteUnder
+pub mod SizeLeft
 pub mod CloseLine
 pub mod Desking
 pub mod DeskUnder

@@ -56,9 +56,9 @@ module _ (key : List ℕ) (line : ScriptLine) (old new : SessionState) (seated :
     (keeps : OnDisk before after (KeepsUnder (Covers old) (Covers new) (λ name. name ≡ old.name))) (aside : Aside old.name before after) (reads : ReadsAsImage after) where
   -- a line that ended with a fault
   pub fell_under : (seen : Seen) (reply : Reply) (these : List Answer) (words : List (List ℕ)) (of_host of_words : Bool) → seen ≡ seen_by these words of_host of_words → (a b : Honest) (book : Book) (seats : List Seal) (agrees : Agrees book seats a.now) (base : Sheet)
-      (image : IsImage a.now (reading a.now)) (m : Honest) → Fell key (seat_on base old) line book seats a agrees image base seated.of_script.is_target (stands_on key (reading a.now)) m b new words of_host of_words reply
+      (image : IsImage a.now (reading a.now)) → Fell key (seat_on base old) line book seats a agrees image base seated.of_script.is_target (stands_on key (reading a.now)) b new words of_host of_words reply
       → LineUnder key false line seen reply (Some old) (Some new) book seats (Own (seat_on base old)) a b
-  fell_under seen reply these words of_host of_words is a b book seats agrees base image m fell = record {
+  fell_under seen reply these words of_host of_words is a b book seats agrees base image fell = record {
     acts = fell.acts;
     left = fell.left;
     after = fell.after;
@@ -101,7 +101,7 @@ module _ (key : List ℕ) (line : ScriptLine) (old new : SessionState) (seated :
       under = on_disk key false line (seen_by is.these is.words (host_blamed blame) false) (flush_reply (fault_of blame)) old whole (Some new) before after keeps aside
           (λ a b is_a is_b ran book seats agrees base on.
           let standing = stands_on key (reading a.now) in
-          fell_under (seen_by is.these is.words (host_blamed blame) false) (flush_reply (fault_of blame)) is.these is.words (host_blamed blame) false refl a b book seats agrees base on.image a
+          fell_under (seen_by is.these is.words (host_blamed blame) false) (flush_reply (fault_of blame)) is.these is.words (host_blamed blame) false refl a b book seats agrees base on.image
           (change_known key (seat_on base old) line book seats a agrees on.image base seated.of_script.is_target standing a b old new [] [] is.words [] base step [] (asks (length (now base old.tree))) seated.of_script
               (begins key line (seen_by is.these is.words (host_blamed blame) false) (flush_reply (fault_of blame)) old whole (Some new) a b book seats agrees base on seated standing) before after is_a is_b ran (read_image after.honest b is_b reads)
               (Broke blame) is.left));
@@ -112,7 +112,7 @@ module _ (key : List ℕ) (line : ScriptLine) (old new : SessionState) (seated :
       under = on_disk key false line (seen_by is.these is.words false true) replies.WordsFault old whole (Some new) before after keeps aside
           (λ a b is_a is_b ran book seats agrees base on.
           let standing = stands_on key (reading a.now) in
-          fell_under (seen_by is.these is.words false true) replies.WordsFault is.these is.words false true refl a b book seats agrees base on.image a
+          fell_under (seen_by is.these is.words false true) replies.WordsFault is.these is.words false true refl a b book seats agrees base on.image
           (change_known key (seat_on base old) line book seats a agrees on.image base seated.of_script.is_target standing a b old new [] [] is.words [] base step [] (asks (length (now base old.tree))) seated.of_script
               (begins key line (seen_by is.these is.words false true) replies.WordsFault old whole (Some new) a b book seats agrees base on seated standing) before after is_a is_b ran (read_image after.honest b is_b reads) Lacked is.left));
     }
