@@ -48,6 +48,7 @@ pub mod ChangeUnder
 pub mod LineUnder
 pub mod WriteUnder
 pub mod SizeLeft
+pub mod SizeUnder
 pub mod CloseLine
 pub mod Desking
 pub mod DeskUnder

@@ -52,8 +52,7 @@ begins key line seen reply old whole new a b book seats agrees base on mine stan
   stood = on.stood;
 }
 
-module _ (key : List ℕ) (line : ScriptLine) (old new : SessionState) (seated : IsSeated key old) (whole : old.broken ≡ false) (before after : HostState) (random random' : WordsState)
-    (keeps : OnDisk before after (KeepsUnder (Covers old) (Covers new) (λ name. name ≡ old.name))) (aside : Aside old.name before after) (reads : ReadsAsImage after) where
+module _ (key : List ℕ) (line : ScriptLine) (old new : SessionState) (seated : IsSeated key old) where
   -- a line that ended with a fault
   pub fell_under : (seen : Seen) (reply : Reply) (these : List Answer) (words : List (List ℕ)) (of_host of_words : Bool) → seen ≡ seen_by these words of_host of_words → (a b : Honest) (book : Book) (seats : List Seal) (agrees : Agrees book seats a.now) (base : Sheet)
       (image : IsImage a.now (reading a.now)) → Fell key (seat_on base old) line book seats a agrees image base seated.of_script.is_target (stands_on key (reading a.now)) b new words of_host of_words reply
@@ -69,6 +68,8 @@ module _ (key : List ℕ) (line : ScriptLine) (old new : SessionState) (seated :
     turn = λ _. subst (λ (s : Seen). SeatTurn (stands_on key (reading a.now)) key false (Own (seat_on base old)) line s reply fell.acts fell.after) (sym is) (fell.turn these);
   }
 
+module _ (key : List ℕ) (line : ScriptLine) (old new : SessionState) (seated : IsSeated key old) (whole : old.broken ≡ false) (before after : HostState) (random random' : WordsState)
+    (keeps : OnDisk before after (KeepsUnder (Covers old) (Covers new) (λ name. name ≡ old.name))) (aside : Aside old.name before after) (reads : ReadsAsImage after) where
   module _ (step : Step) (replied : Bool → Reply) (asks : (size : ℕ) → AsksFor line size (step ∷ []))
       (replies_to : (flushed : Bool) (sheets : List Sheet) → Grew flushed [] sheets → IsChangeReply sheets line (replied flushed)) (passes : (base : Sheet) (given : List Answer) → NoneRefuses (rules key false (Own (seat_on base old)) line given)) where
     pub line_under : (outcome : Outcome) → ChangeIn step old new outcome before after random random' → SeatBooked key false line (outcome_reply replied outcome) (Some old) (Some new) before after random random'
@@ -101,7 +102,7 @@ module _ (key : List ℕ) (line : ScriptLine) (old new : SessionState) (seated :
       under = on_disk key false line (seen_by is.these is.words (host_blamed blame) false) (flush_reply (fault_of blame)) old whole (Some new) before after keeps aside
           (λ a b is_a is_b ran book seats agrees base on.
           let standing = stands_on key (reading a.now) in
-          fell_under (seen_by is.these is.words (host_blamed blame) false) (flush_reply (fault_of blame)) is.these is.words (host_blamed blame) false refl a b book seats agrees base on.image
+          fell_under key line old new seated (seen_by is.these is.words (host_blamed blame) false) (flush_reply (fault_of blame)) is.these is.words (host_blamed blame) false refl a b book seats agrees base on.image
           (change_known key (seat_on base old) line book seats a agrees on.image base seated.of_script.is_target standing a b old new [] [] is.words [] base step [] (asks (length (now base old.tree))) seated.of_script
               (begins key line (seen_by is.these is.words (host_blamed blame) false) (flush_reply (fault_of blame)) old whole (Some new) a b book seats agrees base on seated standing) before after is_a is_b ran (read_image after.honest b is_b reads)
               (Broke blame) is.left));
@@ -112,7 +113,7 @@ module _ (key : List ℕ) (line : ScriptLine) (old new : SessionState) (seated :
       under = on_disk key false line (seen_by is.these is.words false true) replies.WordsFault old whole (Some new) before after keeps aside
           (λ a b is_a is_b ran book seats agrees base on.
           let standing = stands_on key (reading a.now) in
-          fell_under (seen_by is.these is.words false true) replies.WordsFault is.these is.words false true refl a b book seats agrees base on.image
+          fell_under key line old new seated (seen_by is.these is.words false true) replies.WordsFault is.these is.words false true refl a b book seats agrees base on.image
           (change_known key (seat_on base old) line book seats a agrees on.image base seated.of_script.is_target standing a b old new [] [] is.words [] base step [] (asks (length (now base old.tree))) seated.of_script
               (begins key line (seen_by is.these is.words false true) replies.WordsFault old whole (Some new) a b book seats agrees base on seated standing) before after is_a is_b ran (read_image after.honest b is_b reads) Lacked is.left));
     }
