@@ -1,5 +1,6 @@
 // The desk of a script: its seats, and a step of it.
-ghost use Rattle.std.specs.Prelude.{◌≡◌, ◌<◌, ◌↔◌, IsTrue, IfSome, Ok, None, replicate};
+ghost use Rattle.std.specs.Prelude.{◌≡◌, ◌<◌, ◌↔◌, ℕ, List, IsTrue, IfSome, Ok, None, replicate};
+ghost use Rattle.pf_io.specs.Host.{HostState};
 ghost use Rattle.pf_io.specs.Words.{WordsState};
 ghost use Rattle.pf_script.specs.BookTurns.{DeskBooked, EndBooked};
 ghost use Rattle.pf_script.specs.Desk.{session_at};
@@ -103,6 +104,89 @@ impl Desk {
         open_file(self.alloc, host, &key, &mut self.seats[seat], name, taken)
     }
 
+    fn view(&self, seat: u8) -> Reply
+        requires { seat < SEAT_COUNT }
+        ensures goes { (path : List ℕ) (host : HostState) (words : WordsState) → DeskGoes (lines.View seat path) (Ok result) self.now self.now host host words words }
+        ensures booked { (path : List ℕ) (host : HostState) (words : WordsState) → DeskBooked (lines.View seat path) (Ok result) self.now self.now host host words words }
+    {
+        view_file(&self.seats[seat as usize])
+    }
+
+    fn read<H: Host>(
+        &mut self,
+        host: &mut H,
+        seat: u8,
+        at: u64,
+        count: u64,
+    ) -> Result<Reply, Memory>
+        requires { seat < SEAT_COUNT }
+        ensures goes { (words : WordsState) → DeskGoes (lines.Read seat at count) result self.old self.new (H.state host.old) (H.state host.new) words words }
+        ensures booked { (words : WordsState) → DeskBooked (lines.Read seat at count) result self.old self.new (H.state host.old) (H.state host.new) words words }
+    {
+        read_bytes(self.alloc, host, &mut self.seats[seat as usize], at, count)
+    }
+
+    fn write<H: Host, R: Words>(
+        &mut self,
+        host: &mut H,
+        random: &mut R,
+        seat: u8,
+        at: u64,
+        bytes: &[u8],
+    ) -> Result<Reply, Memory>
+        requires { seat < SEAT_COUNT }
+        ensures goes { DeskGoes (lines.Write seat at bytes.now) result self.old self.new (H.state host.old) (H.state host.new) (R.state random.old) (R.state random.new) }
+        ensures booked { DeskBooked (lines.Write seat at bytes.now) result self.old self.new (H.state host.old) (H.state host.new) (R.state random.old) (R.state random.new) }
+    {
+        write_bytes(host, random, &mut self.seats[seat as usize], at, bytes)
+    }
+
+    fn fill<H: Host, R: Words>(
+        &mut self,
+        host: &mut H,
+        random: &mut R,
+        seat: u8,
+        at: u64,
+        count: u64,
+        byte: u8,
+    ) -> Result<Reply, Memory>
+        requires { seat < SEAT_COUNT }
+        ensures goes { DeskGoes (lines.Fill seat at count byte) result self.old self.new (H.state host.old) (H.state host.new) (R.state random.old) (R.state random.new) }
+        ensures booked { DeskBooked (lines.Fill seat at count byte) result self.old self.new (H.state host.old) (H.state host.new) (R.state random.old) (R.state random.new) }
+    {
+        let alloc = self.alloc;
+        fill_bytes(alloc, host, random, &mut self.seats[seat as usize], at, count, byte)
+    }
+
+    fn resize<H: Host, R: Words>(
+        &mut self,
+        host: &mut H,
+        random: &mut R,
+        seat: u8,
+        size: u64,
+    ) -> Result<Reply, Memory>
+        requires { seat < SEAT_COUNT }
+        ensures { DeskGoes (lines.Size seat size) result self.old self.new (H.state host.old) (H.state host.new) (R.state random.old) (R.state random.new) }
+    {
+        set_size(host, random, &mut self.seats[seat as usize], size)
+    }
+
+    fn flush<H: Host, R: Words>(&mut self, host: &mut H, random: &mut R, seat: u8) -> Reply
+        requires { seat < SEAT_COUNT }
+        ensures goes { DeskGoes (lines.Flush seat) (Ok result) self.old self.new (H.state host.old) (H.state host.new) (R.state random.old) (R.state random.new) }
+        ensures booked { DeskBooked (lines.Flush seat) (Ok result) self.old self.new (H.state host.old) (H.state host.new) (R.state random.old) (R.state random.new) }
+    {
+        flush_seat(host, random, &mut self.seats[seat as usize])
+    }
+
+    fn draw<R: Words>(&mut self, random: &mut R, seat: u8) -> Reply
+        requires { seat < SEAT_COUNT }
+        ensures goes { (host : HostState) → DeskGoes (lines.Draw seat) (Ok result) self.old self.new host host (R.state random.old) (R.state random.new) }
+        ensures booked { (host : HostState) → DeskBooked (lines.Draw seat) (Ok result) self.old self.new host host (R.state random.old) (R.state random.new) }
+    {
+        draw_nonce(random, &mut self.seats[seat as usize])
+    }
+
     fn rename<H: Host, R: Words>(
         &mut self,
         host: &mut H,
@@ -111,8 +195,7 @@ impl Desk {
         name: &str,
     ) -> Result<Reply, Memory>
         requires { seat < SEAT_COUNT }
-        ensures goes { DeskGoes (lines.Move seat name.now) result self.old self.new (H.state host.old) (H.state host.new) (R.state random.old) (R.state random.new) }
-        ensures booked { DeskBooked (lines.Move seat name.now) result self.old self.new (H.state host.old) (H.state host.new) (R.state random.old) (R.state random.new) }
+        ensures { DeskGoes (lines.Move seat name.now) result self.old self.new (H.state host.old) (H.state host.new) (R.state random.old) (R.state random.new) }
     {
         let seat = seat as usize;
         let taken = self.is_taken(seat, name);
@@ -140,50 +223,27 @@ impl Desk {
         line: &ScriptLine,
     ) -> Result<Reply, Memory>
         requires { IfSome (seat_of_line line.now) (λ seat. seat < SEAT_COUNT) }
-        ensures goes { DeskGoes line.now result self.old self.new (H.state host.old) (H.state host.new) (R.state random.old) (R.state random.new) }
-        ensures booked { DeskBooked line.now result self.old self.new (H.state host.old) (H.state host.new) (R.state random.old) (R.state random.new) }
+        ensures { DeskGoes line.now result self.old self.new (H.state host.old) (H.state host.new) (R.state random.old) (R.state random.new) }
     {
         match line {
             ScriptLine::Blank => Ok(Reply::None),
             ScriptLine::Create { seat, name } => self.create(host, random, *seat, name.as_str()),
             ScriptLine::Open { seat, name } => self.open(host, *seat, name.as_str()),
-            ScriptLine::View { seat, .. } => Ok(view_file(&self.seats[*seat as usize])),
-            ScriptLine::Read { seat, at, count } => read_bytes(
-                self.alloc,
-                host,
-                &mut self.seats[*seat as usize],
-                *at,
-                *count,
-            ),
-            ScriptLine::Write { seat, at, bytes } => write_bytes(
-                host,
-                random,
-                &mut self.seats[*seat as usize],
-                *at,
-                bytes.as_slice(),
-            ),
+            ScriptLine::View { seat, .. } => Ok(self.view(*seat)),
+            ScriptLine::Read { seat, at, count } => self.read(host, *seat, *at, *count),
+            ScriptLine::Write { seat, at, bytes } => {
+                self.write(host, random, *seat, *at, bytes.as_slice())
+            }
             ScriptLine::Fill {
                 seat,
                 at,
                 count,
                 byte,
-            } => fill_bytes(
-                self.alloc,
-                host,
-                random,
-                &mut self.seats[*seat as usize],
-                *at,
-                *count,
-                *byte,
-            ),
-            ScriptLine::Size { seat, size } => {
-                set_size(host, random, &mut self.seats[*seat as usize], *size)
-            }
-            ScriptLine::Flush { seat } => {
-                Ok(flush_seat(host, random, &mut self.seats[*seat as usize]))
-            }
+            } => self.fill(host, random, *seat, *at, *count, *byte),
+            ScriptLine::Size { seat, size } => self.resize(host, random, *seat, *size),
+            ScriptLine::Flush { seat } => Ok(self.flush(host, random, *seat)),
             ScriptLine::Move { seat, name } => self.rename(host, random, *seat, name.as_str()),
-            ScriptLine::Draw { seat } => Ok(draw_nonce(random, &mut self.seats[*seat as usize])),
+            ScriptLine::Draw { seat } => Ok(self.draw(random, *seat)),
             ScriptLine::Close { seat } => Ok(self.close(host, random, *seat)),
         }
     }

@@ -14,13 +14,13 @@ use Rattle.pf_script.proofs.Showing.{shows_none, shows_some}
 use Rattle.pf_script.proofs.SizeLine.{size_goes, no_limit}
 use Rattle.pf_script.proofs.changing.set_size.Goals as goal
 
-pub returns-in_default-clause-goes : goal.returns-in_default-clause-goes
-returns-in_default-clause-goes g c key k seated =
+pub returns-in_default : goal.returns-in_default
+returns-in_default g c key k seated =
     refused_goes key false (lines.Size k c.args.size) whys.SeatEmpty c.args.seat.now (g.H.Host.state c.args.host.now) (g.R.Words.state c.args.random.now)
     (λ sealed seat shows. first_empty (refuses whys.TooLarge (LARGEST < c.args.size) ∷ []) seat (shows_none sealed seat (subst (λ (o : Option SessionState). Shows sealed seat o) c.in_default.is shows))) seated
 
-pub returns-then-broken-clause-goes : goal.returns-then-broken-clause-goes
-returns-then-broken-clause-goes g c key k =
+pub returns-then-broken : goal.returns-then-broken
+returns-then-broken g c key k =
     let s = c.in-Some.session in
     let before = g.H.Host.state c.args.host.now in
     let random = g.R.Words.state c.args.random.now in
@@ -30,8 +30,8 @@ returns-then-broken-clause-goes g c key k =
         let shown = shows_some sealed seat s shows in
         first_broken (refuses whys.TooLarge (LARGEST < c.args.size) ∷ []) seat shown.shown shown.seat_is (shown.broken_is ∙ sym c.broken.ensures ∙ c.if-broken.true)) seated)
 
-pub returns-then-size-gt-LARGEST-clause-goes : goal.returns-then-size-gt-LARGEST-clause-goes
-returns-then-size-gt-LARGEST-clause-goes g c key k =
+pub returns-then-size-gt-LARGEST : goal.returns-then-size-gt-LARGEST
+returns-then-size-gt-LARGEST g c key k =
     let s = c.in-Some.session in
     let before = g.H.Host.state c.args.host.now in
     let random = g.R.Words.state c.args.random.now in
@@ -41,8 +41,8 @@ returns-then-size-gt-LARGEST-clause-goes g c key k =
         let shown = shows_some sealed seat s shows in
         first_then (refuses whys.TooLarge (LARGEST < c.args.size) ∷ []) whys.TooLarge seat shown.shown shown.seat_is (shown.broken_is ∙ sym c.broken.ensures ∙ c.if-broken.false) (inl (refl, c.if-size-gt-LARGEST.true))) seated)
 
-pub returns-in-Ok-clause-goes : goal.returns-in-Ok-clause-goes
-returns-in-Ok-clause-goes g c key k =
+pub returns-in-Ok : goal.returns-in-Ok
+returns-in-Ok g c key k =
     let s = c.in-Some.session in
     let before = g.H.Host.state c.args.host.now in
     let random = g.R.Words.state c.args.random.now in
@@ -56,8 +56,8 @@ size_fault-requires g c =
     no_limit c.args.size c.in-Err.fault (Err c.in-Err.fault) c.in-Some.session c.resize.new.session (g.H.Host.state c.args.host.now) (g.H.Host.state c.resize.new.host) (g.R.Words.state c.args.random.now) (g.R.Words.state c.resize.new.random)
     c.if-size-gt-LARGEST.false refl c.in-Err.ensures
 
-pub returns-in-Err-clause-goes : goal.returns-in-Err-clause-goes
-returns-in-Err-clause-goes g c key k =
+pub returns-in-Err : goal.returns-in-Err
+returns-in-Err g c key k =
     let s = c.in-Some.session in
     let before = g.H.Host.state c.args.host.now in
     let random = g.R.Words.state c.args.random.now in
