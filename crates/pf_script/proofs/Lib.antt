@@ -65,3 +65,4 @@ pub mod SizeSeen
 pub mod SizeLine
 pub mod ReadLine
 pub mod DeskLine
+pub mod BlankLine
