@@ -1,5 +1,5 @@
 -- A line that is one change, under a book.
-use Rattle.std.proofs.Common.{◌≡◌, inl, Bool, true, false, List, [], ◌∷◌, ◌++◌, ℕ, refl, sym, ◌∙◌, ap, subst, Option, Some, None, Result, Ok, Err, length}
+use Rattle.std.proofs.Common.{◌≡◌, inl, Bool, true, false, List, [], ◌∷◌, ℕ, refl, sym, subst, Option, Some, length}
 use Rattle.std.proofs.lemmas.List.Elements.{Contains-push}
 use Rattle.std.specs.Prelude.{Contains}
 use Rattle.node_tree.specs.Applying.{Step}
@@ -7,16 +7,14 @@ use Rattle.node_tree.specs.Backing.{now}
 use Rattle.node_tree.specs.Sheet.{Sheet}
 use Rattle.pf_io.specs.Disk.{Name, IsImage, reading}
 use Rattle.pf_io.specs.Host.{Answer, HostState, OnDisk, ReadsAsImage}
-use Rattle.pf_io.specs.Moments.{Honest, Ran}
+use Rattle.pf_io.specs.Moments.{Honest}
 use Rattle.pf_io.specs.Words.{WordsState}
-use Rattle.pf_io.specs.declared.faults.Memory.{Memory}
-use Rattle.pf_session.specs.Aside.{Aside, LeavesApart, KeepsApart}
+use Rattle.pf_session.specs.Aside.{Aside}
 use Rattle.pf_session.specs.State.{SessionState}
 use Rattle.pf_script.specs.Book.{Book, Seal, Agrees}
-use Rattle.pf_script.specs.BookActs.{Among}
 use Rattle.pf_script.specs.BookDebts.{seat_of}
 use Rattle.pf_script.specs.BookSeats.{Covers, KeepsUnder}
-use Rattle.pf_script.specs.BookTurns.{stands_on, of_book, LineUnder, SeatUnder, SeatAgrees, SeatBooked}
+use Rattle.pf_script.specs.BookTurns.{stands_on, of_book, LineUnder, SeatBooked}
 use Rattle.pf_script.specs.Desk.{IsSeated, seat_on}
 use Rattle.pf_script.specs.Rules.{NoneRefuses, rules}
 use Rattle.pf_script.specs.Script.{Own}
@@ -34,7 +32,7 @@ use Rattle.pf_script.proofs.ChangeTold.{Outcome, Went, Broke, Lacked, Wanted, Gr
 use Rattle.pf_script.proofs.ChangeUnder.{Progress, Fell, change_known}
 use Rattle.pf_script.proofs.Flushed.{host_blamed, fault_of}
 use Rattle.pf_script.proofs.SeatCalls.{seen_by}
-use Rattle.pf_script.proofs.Under.{OnBase, KnownUnder, on_disk}
+use Rattle.pf_script.proofs.Under.{OnBase, on_disk}
 
 -- the seat of a session that was opened before the line, on the sheet that its file stands for
 pub begins : (key : List ℕ) (line : ScriptLine) (seen : Seen) (reply : Reply) (old : SessionState) (whole : old.broken ≡ false) (new : Option SessionState) (a b : Honest) (book : Book) (seats : List Seal) (agrees : Agrees book seats a.now) (base : Sheet)

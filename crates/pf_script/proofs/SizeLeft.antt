@@ -1,5 +1,5 @@
 -- How a change of size ended, with what it left on the disk.
-use Rattle.std.proofs.Common.{◌≡◌, ◌≢◌, ◌+◌, ◌<◌, ◌≤◌, Bool, true, false, List, [], ◌∷◌, ◌++◌, ℕ, ◌^◌, refl, sym, ◌∙◌, ap, subst, Option, Some, None, Result, Ok, Err, arith, append_assoc}
+use Rattle.std.proofs.Common.{◌≡◌, ◌≢◌, ◌+◌, ◌<◌, ◌≤◌, Bool, true, false, List, [], ◌++◌, ℕ, ◌^◌, refl, sym, ◌∙◌, ap, subst, Result, Ok, Err, arith, append_assoc}
 use Rattle.node_tree.specs.Applying.{Size}
 use Rattle.node_tree.specs.declared.fault.TreeFault.{TreeFault}
 use Rattle.pf_io.specs.Host.{Answer, HostState, Both, IsMore, ReadsAsImage}
@@ -10,7 +10,6 @@ use Rattle.pf_session.specs.Asking.{IsTaken as AreTaken}
 use Rattle.pf_session.specs.Changing.{refused, unchanged, changed, not_flushed, flushed_and_changed, SizeGoes, stepped}
 use Rattle.pf_session.specs.Faults.{size_of_flush, size_of_tree}
 use Rattle.pf_session.specs.State.{SessionState}
-use Rattle.pf_session.specs.declared.fault.FlushFault.{FlushFault}
 use Rattle.pf_session.specs.declared.fault.SizeFault.{SizeFault}
 use Rattle.pf_session.specs.declared.fault.Written.{Written}
 use Rattle.pf_script.specs.BookSeats.{IsOfScript}

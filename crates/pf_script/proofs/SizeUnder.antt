@@ -1,38 +1,35 @@
 -- The line `size` under a book, from the pieces that were set.
-use Rattle.std.proofs.Common.{◌≡◌, ◌≢◌, ◌+◌, ◌<◌, ◌≤◌, ◌^◌, inl, Bool, true, false, List, [], ◌∷◌, ◌++◌, ℕ, refl, sym, ◌∙◌, ap, subst, Option, Some, None, Result, Ok, Err, arith, length, append_assoc}
+use Rattle.std.proofs.Common.{◌≡◌, ◌≢◌, ◌+◌, ◌≤◌, ◌^◌, inl, Bool, true, false, List, [], ◌∷◌, ◌++◌, ℕ, refl, sym, ◌∙◌, ap, subst, Some, Result, arith, length, append_assoc}
 use Rattle.std.proofs.lemmas.List.{append-nil}
 use Rattle.std.specs.Prelude.{Contains}
 use Rattle.node_tree.specs.Applying.{Step, Size}
-use Rattle.node_tree.specs.Backing.{now}
 use Rattle.node_tree.specs.Sheet.{Sheet}
 use Rattle.pf_io.specs.Disk.{Name, IsImage, reading}
-use Rattle.pf_io.specs.Host.{Answer, HostState, Both, IsMore, OnDisk, ReadsAsImage}
+use Rattle.pf_io.specs.Host.{Answer, HostState, Both, IsMore, OnDisk}
 use Rattle.pf_io.specs.Moments.{Honest, Ran}
 use Rattle.pf_io.specs.Names.{IsTarget}
 use Rattle.pf_io.specs.Words.{WordsState}
 use Rattle.pf_io.specs.declared.faults.Memory.{Memory}
 use Rattle.pf_io.proofs.Telling.{both_weaker}
 use Rattle.pf_session.specs.Asking.{IsTaken as AreTaken}
-use Rattle.pf_session.specs.Aside.{Aside, LeavesApart, KeepsApart}
+use Rattle.pf_session.specs.Aside.{LeavesApart, KeepsApart}
 use Rattle.pf_session.specs.State.{SessionState}
 use Rattle.pf_session.specs.declared.fault.SizeFault.{SizeFault}
 use Rattle.pf_script.specs.Book.{Book, Seal, Agrees}
-use Rattle.pf_script.specs.BookActs.{Act}
 use Rattle.pf_script.specs.BookDebts.{seat_of}
 use Rattle.pf_script.specs.BookSeats.{IsOfScript, Covers, KeepsUnder}
-use Rattle.pf_script.specs.BookTurns.{stands_on, of_book, LineUnder, SeatUnder, SeatAgrees, SeatBooked}
+use Rattle.pf_script.specs.BookTurns.{stands_on, of_book, SeatBooked}
 use Rattle.pf_script.specs.Desk.{IsSeated, seat_on}
 use Rattle.pf_script.specs.DeskSteps.{CountsFault}
-use Rattle.pf_script.specs.Rules.{NoneRefuses, rules, refuses}
+use Rattle.pf_script.specs.Rules.{NoneRefuses, rules}
 use Rattle.pf_script.specs.Script.{OwnSeat, Own}
 use Rattle.pf_script.specs.SeatReplies.{flush_reply, IsNextSize, SizesGo}
-use Rattle.pf_script.specs.SeatSteps.{LARGEST, IsResize, same, last, piece}
+use Rattle.pf_script.specs.SeatSteps.{IsResize, same, piece}
 use Rattle.pf_script.specs.Turns.{Seen, Standing, accepted, changed, to_size, flushes}
 use Rattle.pf_script.specs.declared.line.ScriptLine.{ScriptLine}
 use Rattle.pf_script.specs.declared.line.ScriptLine.TheVariants as lines
 use Rattle.pf_script.specs.declared.reply.Reply.{Reply}
 use Rattle.pf_script.specs.declared.reply.Reply.TheVariants as replies
-use Rattle.pf_script.specs.declared.reply.Why.TheVariants as whys
 use Rattle.pf_script.proofs.CallKeeping.{at_both, on_to, read_image}
 use Rattle.pf_script.proofs.ChangeLine.{outcome_reply}
 use Rattle.pf_script.proofs.ChangeLeft.{ChangeLeft}
@@ -42,10 +39,10 @@ use Rattle.pf_script.proofs.Flushed.{host_blamed, fault_of}
 use Rattle.pf_script.proofs.LineUnder.{begins, fell_under}
 use Rattle.pf_script.proofs.SeatCalls.{seen_by}
 use Rattle.pf_script.proofs.SizeKeeping.{size_keeps}
-use Rattle.pf_script.proofs.SizeLeft.{SizeLeft, kept_size, one_change, one_piece, SizeIn, size_in}
+use Rattle.pf_script.proofs.SizeLeft.{SizeLeft, kept_size, one_change, one_piece, size_in}
 use Rattle.pf_script.proofs.SizeLine.{line_passes, goes_on_now}
 use Rattle.pf_script.proofs.SizeSeen.{sized, size_result}
-use Rattle.pf_script.proofs.SizeTold.{resize_steps, GoesOn, next_steps, last_step}
+use Rattle.pf_script.proofs.SizeTold.{resize_steps, next_steps, last_step}
 use Rattle.pf_script.proofs.Under.{OnBase, on_disk_by}
 
 module _ (key : List ℕ) (k size : ℕ) (own : OwnSeat) (book : Book) (seats : List Seal) (a : Honest) (agrees : Agrees book seats a.now) (image : IsImage a.now (reading a.now)) (first : Sheet) (target : IsTarget own.name) (standing : Standing)
