@@ -49,6 +49,7 @@ pub mod LineUnder
 pub mod WriteUnder
 pub mod SizeLeft
 pub mod SizeUnder
+pub mod MoveUnder
 pub mod CloseLine
 pub mod Desking
 pub mod DeskUnder
