@@ -47,6 +47,9 @@ pub mod ChangeLeft
 pub mod ChangeUnder
 pub mod LineUnder
 pub mod WriteUnder
+pub mod SizeLeft
+pub mod SizeUnder
+pub mod MoveUnder
 pub mod CloseLine
 pub mod Desking
 pub mod DeskUnder
