@@ -1,7 +1,6 @@
 -- How a change of a session's content ended, with what it left on the disk.
-use Rattle.std.proofs.Common.{◌≡◌, Bool, true, false, List, [], ◌∷◌, ◌++◌, ℕ, refl, sym, ◌∙◌, ap, subst, Option, Some, None, Result, Ok, Err}
+use Rattle.std.proofs.Common.{◌≡◌, true, false, List, [], ◌++◌, ℕ, refl, sym, ap, subst, None, Result, Ok, Err}
 use Rattle.node_tree.specs.Applying.{Step}
-use Rattle.node_tree.specs.Sheet.{Sheet}
 use Rattle.node_tree.specs.State.{TreeState}
 use Rattle.node_tree.specs.declared.fault.TreeFault.{TreeFault}
 use Rattle.pf_io.specs.Host.{Answer, HostState, Both, IsMore}
@@ -18,8 +17,8 @@ use Rattle.pf_session.specs.declared.fault.FlushFault.TheVariants as faults
 use Rattle.pf_script.specs.BookSeats.{IsOfScript}
 use Rattle.pf_script.specs.DeskSteps.{CountsFault}
 use Rattle.pf_script.specs.Turns.{Blame}
-use Rattle.pf_script.proofs.ChangeTold.{Outcome, Went, Broke, Lacked, Wanted, outcome_of, host_in, words_in, host_same, calm_words, flush_outcome, outcome_is, same_fault}
-use Rattle.pf_script.proofs.Flushed.{SealsWith, FlushEnds, not_begun, not_ended, was_ended, host_blamed, fault_of}
+use Rattle.pf_script.proofs.ChangeTold.{Outcome, Broke, Lacked, outcome_of, host_in, words_in, host_same, calm_words, flush_outcome, outcome_is, same_fault}
+use Rattle.pf_script.proofs.Flushed.{SealsWith, FlushEnds, not_begun, not_ended, was_ended, fault_of}
 use Rattle.pf_script.proofs.Refusing.{none_taken}
 use Rattle.pf_script.proofs.StepFacts.{host_of, counts_of}
 

@@ -3,28 +3,25 @@ use Rattle.std.proofs.Common.{◌≡◌, ◌⊎◌, inl, inr, Bool, true, false,
 use Rattle.std.proofs.lemmas.List.{append-nil}
 use Rattle.std.specs.Prelude.{Contains, IfSome, option_map}
 use Rattle.node_tree.specs.Applying.{Step}
-use Rattle.node_tree.specs.Backing.{now}
-use Rattle.node_tree.specs.Opened.{Given}
 use Rattle.node_tree.specs.Sheet.{Sheet, Stands}
 use Rattle.node_tree.specs.State.{TreeState}
-use Rattle.node_tree.specs.Stepping.{StandingStep, StepEnds}
+use Rattle.node_tree.specs.Stepping.{StandingStep}
 use Rattle.node_tree.specs.declared.fault.TreeFault.{TreeFault}
 use Rattle.node_tree.specs.declared.fault.TreeFault.TheVariants as trees
 use Rattle.pf_io.specs.Disk.{Name, Disk, IsImage, reading}
-use Rattle.pf_io.specs.Host.{Answer, HostState, ReadsAsImage, contents}
+use Rattle.pf_io.specs.Host.{Answer, HostState, contents}
 use Rattle.pf_io.specs.Moments.{Honest, Ran, Where}
 use Rattle.pf_io.specs.Names.{IsTarget}
-use Rattle.pf_io.specs.Replay.{set_at}
 use Rattle.pf_io.specs.Steps.{Stays}
 use Rattle.pf_session.specs.Aside.{LeavesApart, KeepsApart}
 use Rattle.pf_session.specs.Backing.{IsBacked, StandsOn}
-use Rattle.pf_session.specs.Changing.{IsFlushedFirst, IsRoomy, StepGoes, StepState}
+use Rattle.pf_session.specs.Changing.{IsFlushedFirst, IsRoomy, StepGoes}
 use Rattle.pf_session.specs.Flushing.{UndamagedFlush, IsUndamaged}
 use Rattle.pf_session.specs.Reopening.{AsEither, Stood}
 use Rattle.pf_session.specs.Sealing.{StoodIf, Replaces}
 use Rattle.pf_session.specs.State.{SessionState, file_of}
 use Rattle.pf_session.specs.declared.fault.FlushFault.{FlushFault}
-use Rattle.pf_script.specs.Book.{Book, Entry, Alone, Partner, Seal, Agrees, IsSeated}
+use Rattle.pf_script.specs.Book.{Book, Entry, Seal, Agrees}
 use Rattle.pf_script.specs.BookActs.{Flush, Act, Among, booked_all, flushed, sealed_entry}
 use Rattle.pf_script.specs.BookDebts.{Unchanged, DidAll, seat_of}
 use Rattle.pf_script.specs.BookSeats.{IsOfScript, SparesSeats}
@@ -48,7 +45,7 @@ use Rattle.pf_script.proofs.SeatCalls.{seen_by}
 use Rattle.pf_script.proofs.Seats.{seats_after, seat_is_left, among_on, among_back}
 use Rattle.pf_script.proofs.StepFacts.{flushes_first, fits_at, stepped_is}
 use Rattle.pf_script.proofs.StepTurns.{flushes_on, Made, made_more, made_after}
-use Rattle.pf_script.proofs.Under.{flush_did, left_seat}
+use Rattle.pf_script.proofs.Under.{flush_did}
 
 -- acts on one name alone
 abbrev pub OnlyOf : Name → List Act → Type 0
@@ -80,7 +77,7 @@ module _ (key : List ℕ) (own : OwnSeat) (line : ScriptLine) (book : Book) (sea
     pub stood : Stood own.key own.name base m.now
 
   -- how the line ends with a fault
-  pub record Fell (m b : Honest) (new : SessionState) (words : List (List ℕ)) (of_host of_words : Bool) (reply : Reply) : Type 0 where
+  pub record Fell (b : Honest) (new : SessionState) (words : List (List ℕ)) (of_host of_words : Bool) (reply : Reply) : Type 0 where
     pub acts : List Act
     pub left : List Seal
     pub after : Seat
@@ -103,8 +100,8 @@ module _ (key : List ℕ) (own : OwnSeat) (line : ScriptLine) (book : Book) (sea
     -- how the change ends
     abbrev pub ChangeKnown : Outcome → Type 0
     ChangeKnown (Went flushed) = WentOn flushed
-    ChangeKnown (Broke blame) = Fell m b new (words ++ more) (host_blamed blame) false (flush_reply (fault_of blame))
-    ChangeKnown Lacked = Fell m b new (words ++ more) false true replies.WordsFault
+    ChangeKnown (Broke blame) = Fell b new (words ++ more) (host_blamed blame) false (flush_reply (fault_of blame))
+    ChangeKnown Lacked = Fell b new (words ++ more) false true replies.WordsFault
     ChangeKnown Wanted = Unit {0}
 
     was : Made (first ∷ []) own old made words sheets base

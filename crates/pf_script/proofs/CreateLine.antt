@@ -1,44 +1,41 @@
 -- The line `create`, from the contract of a creation.
-use Rattle.std.proofs.Common.{◌≡◌, ◌≢◌, ◌≤◌, ⊎_elim, inl, inr, Bool, true, false, List, [], ◌∷◌, ◌++◌, ℕ, refl, sym, ◌∙◌, ap, subst, Option, Some, None, Result, Ok, Err, arith, length}
-use Rattle.std.proofs.lemmas.List.Elements.{Contains-push, Contains-push_cases, Contains-append_cases}
+use Rattle.std.proofs.Common.{◌≡◌, inl, inr, Bool, true, false, List, [], ◌∷◌, ℕ, refl, sym, ◌∙◌, ap, subst, Option, Some, None, Result, Ok, Err, arith}
+use Rattle.std.proofs.lemmas.List.Elements.{Contains-push}
 use Rattle.std.specs.Prelude.{Contains}
 use Rattle.std.specs.Str.{IsUtf8}
-use Rattle.node_layout.specs.Metadata.{IsPath}
 use Rattle.node_tree.specs.Backing.{now}
 use Rattle.node_tree.specs.Sheet.{Sheet, IsLinked}
 use Rattle.pf_io.specs.Counts.{counted}
-use Rattle.pf_io.specs.Disk.{Name, IsImage, reading}
+use Rattle.pf_io.specs.Disk.{Name}
 use Rattle.pf_io.specs.Host.{Answer, LengthWas, Wrote, Synced, Made, Swapped, HostState, Both as BothAre, OnDisk, ReadsAsImage}
-use Rattle.pf_io.specs.Moments.{Honest, Ran}
+use Rattle.pf_io.specs.Moments.{Ran}
 use Rattle.pf_io.specs.Names.{IsTarget, recovery_of, side_of}
 use Rattle.pf_io.specs.Words.{WordsState}
 use Rattle.pf_io.specs.declared.faults.Memory.{Memory}
 use Rattle.pf_io.proofs.Telling.{told_by, told_none, told_on, both_same, both_weaker}
 use Rattle.pf_session.specs.Aside.{Aside, LeavesApart, KeepsApart}
 use Rattle.pf_session.specs.Asking.{IsTaken as AreTaken}
-use Rattle.pf_session.specs.Creating.{CreateGoes, misnamed, no_memory, look_up_failed, was_there, no_words, create_stopped, created, CreatesOn, AreNamed, IsFresh, LooksUp, empty_sheet, empty_node, fresh}
+use Rattle.pf_session.specs.Creating.{CreateGoes, misnamed, no_memory, look_up_failed, was_there, no_words, create_stopped, created, CreatesOn, AreNamed, empty_sheet, empty_node, fresh}
 use Rattle.pf_session.specs.Drawing.{IsDrawn}
 use Rattle.pf_session.specs.Placing.{place_steps}
 use Rattle.pf_session.specs.State.{SessionState}
 use Rattle.pf_session.specs.declared.fault.CreateFault.{CreateFault}
-use Rattle.pf_session.specs.declared.fault.CreateFault.TheVariants as faults
 use Rattle.pf_script.specs.Book.{Book, Seal}
 use Rattle.pf_script.specs.BookActs.{Creation, Act, Among}
-use Rattle.pf_script.specs.BookDebts.{DidAll, Unchanged, seat_of}
+use Rattle.pf_script.specs.BookDebts.{Unchanged, seat_of}
 use Rattle.pf_script.specs.BookSeats.{CoversNone, CoversMade, KeepsUnder}
-use Rattle.pf_script.specs.BookTurns.{ShowsUnder, no_file, of_book, SeatUnder, SeatBooked}
-use Rattle.pf_script.specs.Desk.{Shows, no_file as no_seat, whole_file, seat_on}
-use Rattle.pf_script.specs.DeskSteps.{Concerns, SeatGoes, is_host_fault, is_words_fault}
+use Rattle.pf_script.specs.BookTurns.{ShowsUnder, no_file, of_book, SeatUnder}
+use Rattle.pf_script.specs.Desk.{no_file as no_seat, whole_file, seat_on}
+use Rattle.pf_script.specs.DeskSteps.{Concerns}
 use Rattle.pf_script.specs.Rules.{Rule, refuses}
-use Rattle.pf_script.specs.Script.{Seat, Empty, Own, sheets_of}
+use Rattle.pf_script.specs.Script.{Seat, Empty, Own}
 use Rattle.pf_script.specs.SeatReplies.{create_reply}
 use Rattle.pf_script.specs.SeatSteps.{SealsEmpty}
-use Rattle.pf_script.specs.Turns.{Seen, Standing, SeatTurn, refused, accepted, host_failed, words_failed, created as creates_file, not_asked, not_created, no_creation, new_seat, on_carried}
+use Rattle.pf_script.specs.Turns.{Seen, Standing, SeatTurn, refused, accepted, host_failed, words_failed, created as creates_file, not_asked, not_created, no_creation, new_seat}
 use Rattle.pf_script.specs.declared.line.ScriptLine.{ScriptLine}
 use Rattle.pf_script.specs.declared.line.ScriptLine.TheVariants as lines
 use Rattle.pf_script.specs.declared.reply.Reply.{Reply}
 use Rattle.pf_script.specs.declared.reply.Reply.TheVariants as replies
-use Rattle.pf_script.specs.declared.reply.Why.{Why}
 use Rattle.pf_script.specs.declared.reply.Why.TheVariants as whys
 use Rattle.pf_script.proofs.ActKeeping.{one_act, one_spares, only_reads, unchanged_now}
 use Rattle.pf_script.proofs.CallKeeping.{at_both, both_with, read_image}

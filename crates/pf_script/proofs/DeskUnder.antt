@@ -1,24 +1,24 @@
 -- A line on one seat of a desk under a book, as one on the desk.
-use Rattle.std.proofs.Common.{◌≡◌, ◌≢◌, ◌⊎◌, inl, inr, ⊎_elim, Bool, List, ℕ, ◌<◌, refl, sym, ◌∙◌, ap, subst, Option, Some, None, Result, Ok, Err, get_or, set, length}
-use Rattle.std.specs.Prelude.{IsTrue, ◌↔◌, IfSome}
+use Rattle.std.proofs.Common.{◌≡◌, ◌≢◌, inl, inr, ⊎_elim, Bool, List, ℕ, ◌<◌, refl, sym, ◌∙◌, subst, Option, Some, None, Result, Ok, Err, length}
+use Rattle.std.specs.Prelude.{◌↔◌, IfSome}
 use Rattle.std.proofs.lemmas.List.{get_or-set_same, get_or-set_other, length-set}
 use Rattle.std.proofs.lemmas.Option.{IfSome_then}
-use Rattle.pf_io.specs.Disk.{Name, IsImage, reading}
+use Rattle.pf_io.specs.Disk.{Name, reading}
 use Rattle.pf_io.specs.Host.{HostState}
 use Rattle.pf_io.specs.Moments.{Honest}
 use Rattle.pf_io.specs.Words.{WordsState}
 use Rattle.pf_io.specs.declared.faults.Memory.{Memory}
 use Rattle.pf_io.proofs.Telling.{both_weaker}
 use Rattle.pf_session.specs.State.{SessionState}
-use Rattle.pf_script.specs.Book.{Book, Seal, Agrees}
+use Rattle.pf_script.specs.Book.{Book, Seal}
 use Rattle.pf_script.specs.BookActs.{Act, Among, booked_all}
 use Rattle.pf_script.specs.BookDebts.{seat_of}
 use Rattle.pf_script.specs.BookSeats.{SparesSeats}
-use Rattle.pf_script.specs.BookTurns.{stands_on, ShowsUnder, no_file, of_book, other_file, Knows, LineUnder, SeatUnder, SeatAgrees, SeatBooked, IsStateUnder, KnowsLine, TurnUnder, DeskUnder, DeskAgrees, DeskBooked}
-use Rattle.pf_script.specs.Desk.{DeskState, session_at, IsDesk, IsSeatOf}
-use Rattle.pf_script.specs.DeskSteps.{Concerns, OtherHas, HasItsName}
-use Rattle.pf_script.specs.Script.{Seat, Empty, Own, ScriptState, seat_at, HasThisName, IsTaken, state_with, seat_of_line, name_of_line}
-use Rattle.pf_script.specs.Turns.{Seen, SeatTurn, Turn, on_seat, SaysTaken}
+use Rattle.pf_script.specs.BookTurns.{stands_on, ShowsUnder, no_file, of_book, other_file, Knows, LineUnder, SeatUnder, SeatAgrees, SeatBooked, IsStateUnder, TurnUnder, DeskUnder, DeskAgrees, DeskBooked}
+use Rattle.pf_script.specs.Desk.{DeskState, session_at, IsDesk}
+use Rattle.pf_script.specs.DeskSteps.{OtherHas, HasItsName}
+use Rattle.pf_script.specs.Script.{Seat, Empty, ScriptState, seat_at, HasThisName, IsTaken, state_with, seat_of_line, name_of_line}
+use Rattle.pf_script.specs.Turns.{Seen, SeatTurn, on_seat, SaysTaken}
 use Rattle.pf_script.specs.Words.{SEATS}
 use Rattle.pf_script.specs.declared.line.ScriptLine.{ScriptLine}
 use Rattle.pf_script.specs.declared.reply.Reply.{Reply}

@@ -1,8 +1,6 @@
 -- The line `draw` under a book, from the contract of a drawing.
-use Rattle.std.proofs.Common.{◌≡◌, inl, Bool, true, false, List, [], ◌∷◌, ◌++◌, ℕ, refl, sym, ◌∙◌, ap, subst, Option, Some, Result, Ok, Err}
-use Rattle.std.specs.Prelude.{Contains}
+use Rattle.std.proofs.Common.{◌≡◌, inl, true, false, List, [], ◌∷◌, ◌++◌, ℕ, refl, sym, ap, subst, Option, Some, Result}
 use Rattle.node_tree.specs.Sheet.{Sheet}
-use Rattle.pf_io.specs.Disk.{Name}
 use Rattle.pf_io.specs.Host.{HostState, Both, OnDisk}
 use Rattle.pf_io.specs.Words.{WordsState}
 use Rattle.pf_io.specs.declared.faults.WordsFault.{WordsFault}
@@ -10,10 +8,8 @@ use Rattle.pf_io.proofs.Telling.{both_same, told_none}
 use Rattle.pf_session.specs.Asking.{IsTaken as AreTaken}
 use Rattle.pf_session.specs.Drawing.{DrawGoes, drawn_before, drawn_now, not_drawn}
 use Rattle.pf_session.specs.State.{SessionState}
-use Rattle.pf_script.specs.Book.{Book, Seal}
-use Rattle.pf_script.specs.BookDebts.{seat_of}
 use Rattle.pf_script.specs.BookSeats.{Covers}
-use Rattle.pf_script.specs.BookTurns.{ShowsUnder, of_book, SeatUnder, SeatAgrees, SeenIn}
+use Rattle.pf_script.specs.BookTurns.{ShowsUnder, of_book, SeatUnder, SeatAgrees}
 use Rattle.pf_script.specs.Desk.{IsSeated, seat_on}
 use Rattle.pf_script.specs.DeskSteps.{Concerns}
 use Rattle.pf_script.specs.Script.{Own}

@@ -1,30 +1,21 @@
 -- The line `flush` under a book, from the contract of a flush.
-use Rattle.std.proofs.Common.{◌≡◌, ◌⊎◌, inl, inr, Bool, true, false, List, [], ◌∷◌, ◌++◌, ℕ, ◌*◌, refl, sym, ◌∙◌, ap, subst, Option, Some, None, Result, Ok, Err}
-use Rattle.std.specs.Prelude.{Contains}
-use Rattle.node_layout.specs.declared.damage.Damage.{Damage}
+use Rattle.std.proofs.Common.{◌≡◌, inl, Bool, true, false, List, [], ◌∷◌, ℕ, refl, sym, ◌∙◌, ap, subst, Some, Result}
 use Rattle.node_tree.specs.Sheet.{Sheet}
-use Rattle.pf_io.specs.Disk.{Name, IsImage, reading}
+use Rattle.pf_io.specs.Disk.{reading}
 use Rattle.pf_io.specs.Host.{Answer, HostState, OnDisk, ReadsAsImage}
 use Rattle.pf_io.specs.Moments.{Honest, Ran, Where}
-use Rattle.pf_io.specs.Names.{side_of}
 use Rattle.pf_io.specs.Words.{WordsState}
-use Rattle.pf_io.proofs.Telling.{told_none, both_same}
 use Rattle.pf_session.specs.Aside.{Aside, LeavesApart, KeepsApart}
-use Rattle.pf_session.specs.Copying.{copied}
-use Rattle.pf_session.specs.Drawing.{WordsCame}
 use Rattle.pf_session.specs.Flushing.{FlushGoes}
 use Rattle.pf_session.specs.Reopening.{AsEither, Stood}
 use Rattle.pf_session.specs.Sealing.{StoodIf}
 use Rattle.pf_session.specs.State.{SessionState}
 use Rattle.pf_session.specs.declared.fault.FlushFault.{FlushFault}
-use Rattle.pf_session.specs.declared.fault.FlushFault.TheVariants as faults
-use Rattle.pf_script.specs.Book.{Book, Seal}
-use Rattle.pf_script.specs.BookActs.{Flush, Act, Among}
-use Rattle.pf_script.specs.BookDebts.{DidAll, seat_of}
+use Rattle.pf_script.specs.BookActs.{Flush}
+use Rattle.pf_script.specs.BookDebts.{seat_of}
 use Rattle.pf_script.specs.BookSeats.{Covers, KeepsUnder}
 use Rattle.pf_script.specs.BookTurns.{stands_on, ShowsUnder, of_book, other_file, SeatUnder, SeatAgrees, SeenIn}
 use Rattle.pf_script.specs.Desk.{IsSeated, seat_on}
-use Rattle.pf_script.specs.DeskSteps.{Concerns}
 use Rattle.pf_script.specs.Script.{OwnSeat, Own}
 use Rattle.pf_script.specs.SeatReplies.{flush_reply}
 use Rattle.pf_script.specs.SeatSteps.{Seals as SealsOwn, resealed, broken_seat}
@@ -32,14 +23,13 @@ use Rattle.pf_script.specs.Turns.{Seen, Standing, SeatTurn, Blame, ByHost, ByDam
 use Rattle.pf_script.specs.declared.line.ScriptLine.TheVariants as lines
 use Rattle.pf_script.specs.declared.reply.Reply.{Reply}
 use Rattle.pf_script.specs.declared.reply.Reply.TheVariants as replies
-use Rattle.pf_script.proofs.ActKeeping.{one_spares, unchanged_now}
-use Rattle.pf_script.proofs.CallKeeping.{at_both, both_with, read_image, same_disk, flush_keeps}
+use Rattle.pf_script.proofs.ActKeeping.{one_spares}
+use Rattle.pf_script.proofs.CallKeeping.{at_both, read_image, same_disk, flush_keeps}
 use Rattle.pf_script.proofs.FlushLine.{flush_result, flush_act, resealed_own}
 use Rattle.pf_script.proofs.Flushed.{SeenOf, FlushEnds, not_begun, not_ended, was_ended, flush_ends, host_blamed, fault_of}
 use Rattle.pf_script.proofs.Refusing.{none_then}
 use Rattle.pf_script.proofs.SeatCalls.{seen_by}
 use Rattle.pf_script.proofs.Seats.{seats_after}
-use Rattle.pf_script.proofs.StepKeeping.{keeps_more}
 use Rattle.pf_script.proofs.Under.{KnownUnder, on_disk, none_concerned, one_concerned, flush_did, left_seat}
 
 -- what was seen, whether the host tells it or not

@@ -48,6 +48,9 @@ pub mod ChangeLeft
 pub mod ChangeUnder
 pub mod LineUnder
 pub mod WriteUnder
+pub mod SizeLeft
+pub mod SizeUnder
+pub mod MoveUnder
 pub mod CloseLine
 pub mod Desking
 pub mod DeskUnder
@@ -65,3 +68,4 @@ pub mod SizeLine
 pub mod ReadLine
 pub mod DeskLine
 pub mod BlankLine
+pub mod MoveLine

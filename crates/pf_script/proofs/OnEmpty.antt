@@ -18,7 +18,7 @@ use Rattle.pf_script.specs.BookDebts.{Unchanged}
 use Rattle.pf_script.specs.BookSeats.{CoversNone, KeepsUnder}
 use Rattle.pf_script.specs.BookTurns.{stands_on, no_file, LineUnder, SeatUnder, SeatBooked}
 use Rattle.pf_script.specs.Desk.{IsSeatOf, Shows, no_file as no_file_now}
-use Rattle.pf_script.specs.DeskSteps.{Unfolds, SeatTurns, SeatAsks, CountsFault, CoversSome, Concerns, HasItsName, SeatGoes, SeatWants, TakesNone, is_host_fault, is_words_fault}
+use Rattle.pf_script.specs.DeskSteps.{Unfolds, SeatTurns, SeatAsks, CountsFault, CoversSome, Concerns, HasItsName, SeatGoes, TakesNone, is_host_fault, is_words_fault}
 use Rattle.pf_script.specs.Rules.{Rule, IsFirst, NoneRefuses, seating_rules}
 use Rattle.pf_script.specs.Script.{Seat, Empty, name_of_line, sheets_of}
 use Rattle.pf_script.specs.Turns.{Seen, Standing, SeatTurn, on_carried}

@@ -1,21 +1,20 @@
 -- The line `open`, from the contract of an opening.
-use Rattle.std.proofs.Common.{◌≡◌, ◌≢◌, inl, inr, Bool, true, false, List, [], ◌∷◌, ◌++◌, ℕ, ◌<◌, refl, sym, ◌∙◌, ap, subst, Option, Some, None, Result, Ok, Err, arith, length, length-append, take}
+use Rattle.std.proofs.Common.{◌≡◌, ◌≢◌, inl, inr, Bool, true, false, List, [], ◌∷◌, ◌++◌, ℕ, refl, sym, ◌∙◌, ap, subst, Option, Some, None, Result, Ok, Err, arith, length, length-append, take}
 use Rattle.std.proofs.lemmas.List.{append-nil, append_cancel_left}
 use Rattle.std.proofs.lemmas.List.Elements.{Contains-push, Contains-append_left, Contains-append_right}
-use Rattle.std.specs.Prelude.{Contains, IfOk, IfSome, IsSomeAnd}
+use Rattle.std.specs.Prelude.{Contains, IfOk, IsSomeAnd}
 use Rattle.std.specs.Str.{IsUtf8}
 use Rattle.node_layout.specs.Faults.{IsPlainFault}
 use Rattle.node_layout.specs.Metadata.{flag_at, magic}
-use Rattle.node_layout.specs.Opening.{OpensTo, IsOpenFault}
+use Rattle.node_layout.specs.Opening.{OpensTo}
 use Rattle.node_layout.specs.declared.damage.Damage.{Damage}
-use Rattle.node_layout.specs.declared.damage.Kind.{Kind}
 use Rattle.node_layout.specs.declared.damage.Kind.TheVariants as kinds
 use Rattle.node_layout.specs.declared.metadata.MetaSecret.{MetaSecret}
 use Rattle.node_layout.specs.declared.metadata.PlainFault.TheVariants.{BadVersion}
 use Rattle.node_layout.proofs.Secrets.{opens_to_one}
 use Rattle.node_tree.specs.Backing.{now}
 use Rattle.node_tree.specs.Sheet.{Sheet}
-use Rattle.node_tree.specs.Unforged.{Unforged, Carries}
+use Rattle.node_tree.specs.Unforged.{Unforged}
 use Rattle.pf_io.specs.Counts.{counted}
 use Rattle.pf_io.specs.Disk.{Name, Disk, IsImage, reading}
 use Rattle.pf_io.specs.Host.{Answer, LengthWas, Gave, HostState, Both as BothAre, IsMore, since, WhereTold, OnDisk}
@@ -26,9 +25,9 @@ use Rattle.pf_io.specs.Words.{WordsState}
 use Rattle.pf_io.specs.declared.faults.Memory.{Memory}
 use Rattle.pf_io.proofs.Telling.{told_by, told_none, both_weaker}
 use Rattle.pf_session.specs.Backing.{StandsOn}
-use Rattle.pf_session.specs.Carries.{IsLast, IsFirst, OnFirst, OpensOnFirst}
+use Rattle.pf_session.specs.Carries.{IsLast, OnFirst, OpensOnFirst}
 use Rattle.pf_session.specs.Keeping.{OpensEither}
-use Rattle.pf_session.specs.Opening.{Opens, by_answers, length_failed, read_failed, no_names, no_tree, OpenEnds, misnamed, absent, block_refused, secret_refused, accepted, AreGood, IsOpenable, IsAccepted, BlockRefused, not_protected, node_short, update_pending, other_version, SecretRefused, not_opened, other_path, node_answers, opened_session, damaged_zero}
+use Rattle.pf_session.specs.Opening.{Opens, by_answers, length_failed, read_failed, no_names, no_tree, misnamed, absent, block_refused, secret_refused, accepted, IsOpenable, IsAccepted, BlockRefused, not_protected, node_short, update_pending, other_version, SecretRefused, not_opened, other_path, node_answers, opened_session}
 use Rattle.pf_session.specs.Reopening.{ReopensAs}
 use Rattle.pf_session.specs.State.{SessionState}
 use Rattle.pf_session.specs.declared.open_fault.OpenFault.{OpenFault}
@@ -36,12 +35,12 @@ use Rattle.pf_session.specs.declared.open_fault.OpenFault.TheVariants as faults
 use Rattle.pf_session.proofs.Backed.{last_there}
 use Rattle.pf_session.proofs.OpenStanding.{not_block}
 use Rattle.pf_script.specs.Book.{Book, Entry, Seal, Agrees}
-use Rattle.pf_script.specs.BookActs.{Opening, Act, Among, speaks}
+use Rattle.pf_script.specs.BookActs.{Opening, Among, speaks}
 use Rattle.pf_script.specs.BookDebts.{Unchanged, seat_of}
 use Rattle.pf_script.specs.BookSeats.{CoversNone, CoversMade, KeepsUnder}
 use Rattle.pf_script.specs.BookTurns.{stands_on, of_book, Knows, LineUnder, SeatUnder}
 use Rattle.pf_script.specs.Desk.{IsSeated, Shows, whole_file, seat_on}
-use Rattle.pf_script.specs.DeskSteps.{CountsFault, Unfolds, then_more, in_the_end, SeatTurns, SeatAsks, Concerns, CoversSome, SeatGoes}
+use Rattle.pf_script.specs.DeskSteps.{CountsFault, Unfolds, then_more, in_the_end, SeatTurns, SeatAsks, Concerns, CoversSome}
 use Rattle.pf_script.specs.Rules.{IsFirst as IsFirstRule, NoneRefuses, opening_rules, other_version as other_version_rule}
 use Rattle.pf_script.specs.Script.{Seat, Empty, Own, sheets_of}
 use Rattle.pf_script.specs.SeatReplies.{open_reply}
@@ -52,13 +51,13 @@ use Rattle.pf_script.specs.declared.reply.Reply.{Reply}
 use Rattle.pf_script.specs.declared.reply.Reply.TheVariants as replies
 use Rattle.pf_script.specs.declared.reply.Why.{Why}
 use Rattle.pf_script.specs.declared.reply.Why.TheVariants as whys
-use Rattle.pf_script.proofs.ActKeeping.{one_spares, only_reads, unchanged_now}
+use Rattle.pf_script.proofs.ActKeeping.{one_spares, only_reads}
 use Rattle.pf_script.proofs.CallKeeping.{at_both, both_with}
 use Rattle.pf_script.proofs.CreateLine.{named_target}
 use Rattle.pf_script.proofs.Flushed.{SeenOf, length_now}
 use Rattle.pf_script.proofs.FlushUnder.{seen_in}
-use Rattle.pf_script.proofs.OnEmpty.{not_of, made_seat, BothHalves, concerns, empty_goes, empty_wants, empty_under, empty_idle, seat_first, seat_none}
-use Rattle.pf_script.proofs.OpenKeeping.{WasOpened, was_opened, of_opened, known_opening, open_keeps}
+use Rattle.pf_script.proofs.OnEmpty.{not_of, made_seat, BothHalves, concerns, empty_wants, empty_under, empty_idle, seat_first, seat_none}
+use Rattle.pf_script.proofs.OpenKeeping.{WasOpened, was_opened, known_opening, open_keeps}
 use Rattle.pf_script.proofs.Refusing.{none_taken}
 use Rattle.pf_script.proofs.SeatCalls.{seen_by, own_same, shows_same}
 use Rattle.pf_script.proofs.Seats.{seats_after, seat_is_left}

@@ -1,7 +1,6 @@
 -- The line `read` under a book, from the contract of a read.
-use Rattle.std.proofs.Common.{◌≡◌, Bool, true, false, List, [], ◌∷◌, ℕ, ◌-◌, ◌≤◌, ◌<◌, refl, sym, ◌∙◌, ap, subst, Option, Some, Result, Ok, Err, arith, length, min, take, drop}
+use Rattle.std.proofs.Common.{◌≡◌, Bool, true, false, List, [], ◌∷◌, ℕ, ◌-◌, ◌≤◌, ◌<◌, refl, sym, ap, subst, Some, Result, Ok, Err, arith, length, min}
 use Rattle.std.specs.Prelude.{Contains, IfOk}
-use Rattle.node_tree.specs.Backing.{now}
 use Rattle.node_tree.specs.Fetching.{host_part}
 use Rattle.node_tree.specs.Opened.{Given}
 use Rattle.node_tree.specs.Reading.{Reads}
@@ -12,21 +11,20 @@ use Rattle.node_tree.specs.declared.fault.TreeFault.TheVariants as trees
 use Rattle.pf_io.specs.Counts.{HasCause}
 use Rattle.pf_io.specs.Disk.{Name}
 use Rattle.pf_io.specs.Host.{HostState, OnDisk}
-use Rattle.pf_io.specs.Moments.{Honest}
 use Rattle.pf_io.specs.Unchanged.{KeepsDisk}
 use Rattle.pf_io.specs.Words.{WordsState}
 use Rattle.pf_session.specs.Reading.{KeepsFields, ReadsStanding, StandingRead}
 use Rattle.pf_session.specs.State.{SessionState, file_of}
 use Rattle.pf_script.specs.BookDebts.{Unchanged, seat_of}
 use Rattle.pf_script.specs.BookSeats.{Covers, KeepsUnder}
-use Rattle.pf_script.specs.BookTurns.{of_book, SeatUnder, SeatAgrees, SeatBooked, SeenIn}
+use Rattle.pf_script.specs.BookTurns.{of_book, SeatAgrees, SeatBooked}
 use Rattle.pf_script.specs.Desk.{IsSeated, seat_on}
 use Rattle.pf_script.specs.DeskSteps.{CountsFault}
 use Rattle.pf_script.specs.Rules.{refuses}
 use Rattle.pf_script.specs.Script.{Own}
 use Rattle.pf_script.specs.SeatReplies.{read_reply}
 use Rattle.pf_script.specs.SeatSteps.{PIECE}
-use Rattle.pf_script.specs.Turns.{Seen, Standing, SeatTurn, accepted, host_failed, read, not_read, ByHost}
+use Rattle.pf_script.specs.Turns.{Standing, SeatTurn, accepted, host_failed, read, not_read, ByHost}
 use Rattle.pf_script.specs.declared.line.ScriptLine.{ScriptLine}
 use Rattle.pf_script.specs.declared.line.ScriptLine.TheVariants as lines
 use Rattle.pf_script.specs.declared.reply.Reply.{Reply}

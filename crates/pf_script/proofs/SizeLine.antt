@@ -64,10 +64,10 @@ no_limit size fault result _ _ _ _ _ _ small is (set_failed other n old new befo
 no_limit size fault result _ _ _ _ _ _ small is (set_piece written old mid new before between after random random' random'' far sets rest) = no_limit size fault result mid new between after random' random'' small is rest
 
 module _ (key : List ℕ) (k size : ℕ) (small : size ≤ 2 ^ 32) (old new : SessionState) (whole : old.broken ≡ false) where
-  line_passes : (base : Sheet) (given : List Answer) → NoneRefuses (rules key false (Own (seat_on base old)) (lines.Size k size) given)
+  pub line_passes : (base : Sheet) (given : List Answer) → NoneRefuses (rules key false (Own (seat_on base old)) (lines.Size k size) given)
   line_passes base given = none_then (refuses whys.TooLarge (LARGEST < size) ∷ []) (Own (seat_on base old)) (seat_on base old) refl whole ((λ other too_large. omega (arith, too_large.1, small)), tt)
 
-  goes_on_now : (base : Sheet) (steps : List Step) → IsResize size old.tree.size steps → IsResize size (length (now base old.tree)) steps
+  pub goes_on_now : (base : Sheet) (steps : List Step) → IsResize size old.tree.size steps → IsResize size (length (now base old.tree)) steps
   goes_on_now base steps is = subst (λ n. IsResize size n steps) (sym (length_now base old.tree)) is
 
   module _ (given : List Answer) (words : List (List ℕ)) where

@@ -64,22 +64,22 @@ never_refused size n old (sizes.Damaged damage) small next why = why
 never_refused size n old sizes.Host small next why = why
 never_refused size n old sizes.Memory small next why = why
 
-tree_reply : (size : ℕ) (flushed : Bool) (fault : TreeFault) → outcome_reply (sized size) (outcome_of flushed (Err fault)) ≡ size_reply (size_of_tree fault)
+pub tree_reply : (size : ℕ) (flushed : Bool) (fault : TreeFault) → outcome_reply (sized size) (outcome_of flushed (Err fault)) ≡ size_reply (size_of_tree fault)
 tree_reply size flushed (trees.Damaged damage) = refl
 tree_reply size flushed trees.Host = refl
 tree_reply size flushed trees.Memory = refl
 
-tree_stays : (flushed f : Bool) (fault : TreeFault) → ¬ (outcome_of flushed (Err fault) ≡ Went f)
+pub tree_stays : (flushed f : Bool) (fault : TreeFault) → ¬ (outcome_of flushed (Err fault) ≡ Went f)
 tree_stays flushed f (trees.Damaged damage) is = absurd (cc)
 tree_stays flushed f trees.Host is = absurd (cc)
 tree_stays flushed f trees.Memory is = absurd (cc)
 
-unflushed_reply : (size : ℕ) (fault : FlushFault) → outcome_reply (sized size) (flush_outcome fault) ≡ size_reply (size_of_flush fault)
+pub unflushed_reply : (size : ℕ) (fault : FlushFault) → outcome_reply (sized size) (flush_outcome fault) ≡ size_reply (size_of_flush fault)
 unflushed_reply size faults.Words = refl
 unflushed_reply size (faults.Damaged damage) = refl
 unflushed_reply size faults.Host = refl
 
-unflushed_stays : (f : Bool) (fault : FlushFault) → ¬ (flush_outcome fault ≡ Went f)
+pub unflushed_stays : (f : Bool) (fault : FlushFault) → ¬ (flush_outcome fault ≡ Went f)
 unflushed_stays f faults.Words is = absurd (cc)
 unflushed_stays f (faults.Damaged damage) is = absurd (cc)
 unflushed_stays f faults.Host is = absurd (cc)
@@ -128,7 +128,7 @@ module _ (key : List ℕ) (size : ℕ) (small : size ≤ 2 ^ 32) where
     set_books : OnDisk before after (KeepsUnder (Covers old) (Covers new) (λ name. name ≡ old.name))
     set_books = change_keeps old seated.of_script SizeFault (SizeRefused n old.tree.size) (n ≡ old.tree.size) size_of_flush size_of_tree (Size n) result new before after random random' sets.whole sets.goes sets.aside sets.reads
 
-    set_seated : IsSeated key new × (new.name ≡ old.name)
+    pub set_seated : IsSeated key new × (new.name ≡ old.name)
     set_seated = change_seated key old seated sets.whole SizeFault (SizeRefused n old.tree.size) (n ≡ old.tree.size) size_of_flush size_of_tree (Size n) result new before after random random' sets.goes
 
   -- the last size was set
@@ -163,7 +163,7 @@ module _ (key : List ℕ) (size : ℕ) (small : size ≤ 2 ^ 32) where
   }
   last_seen written old new before after random random' seated few sets (set_broken outcome fault said reply stays other seen breaks) = absurd (cc)
 
-  same_fault : (fault other : SizeFault) → ◌≡◌ {A = Result Written SizeFault} (Err fault) (Err other) → other ≡ fault
+  pub same_fault : (fault other : SizeFault) → ◌≡◌ {A = Result Written SizeFault} (Err fault) (Err other) → other ≡ fault
   same_fault fault other is = cc
 
   -- one size was not set

@@ -60,7 +60,7 @@ module _ (key : List ℕ) (sealed : List Sheet) (own : OwnSeat) (k size : ℕ) (
       (all_made key sealed own (lines.Size k size) given old made words sheets base was asks (replies.Sized size) (to_size k size) passes))
 
   -- the steps from the next one on
-  next_steps : (old : SessionState) (n : ℕ) → IsNextSize size old.tree.size n → n ≢ old.tree.size → (made : List Step) → GoesOn old made → (steps : List Step) × IsResize size (length own.content) (made ++ Size n ∷ steps)
+  pub next_steps : (old : SessionState) (n : ℕ) → IsNextSize size old.tree.size n → n ≢ old.tree.size → (made : List Step) → GoesOn old made → (steps : List Step) × IsResize size (length own.content) (made ++ Size n ∷ steps)
   next_steps old n (last_size few is) other made on =
       ([], subst (λ m. IsResize size (length own.content) (made ++ Size m ∷ [])) (sym is) (on (Size size ∷ []) (last old.tree.size (λ e. other (is ∙ e)) few)))
   next_steps old n (piece_size more is) other made on =
@@ -68,7 +68,7 @@ module _ (key : List ℕ) (sealed : List Sheet) (own : OwnSeat) (k size : ℕ) (
       (rest.0, subst (λ m. IsResize size (length own.content) (made ++ Size m ∷ rest.0)) (sym is) (on (Size (old.tree.size + 32768) ∷ rest.0) (piece old.tree.size rest.0 more rest.1)))
 
   -- the last of the steps
-  last_step : (old : SessionState) (n : ℕ) → IsNextSize size old.tree.size n → n ≢ old.tree.size → n ≡ size → (made : List Step) → GoesOn old made → IsResize size (length own.content) (made ++ Size n ∷ [])
+  pub last_step : (old : SessionState) (n : ℕ) → IsNextSize size old.tree.size n → n ≢ old.tree.size → n ≡ size → (made : List Step) → GoesOn old made → IsResize size (length own.content) (made ++ Size n ∷ [])
   last_step old n (last_size few is) other whole made on = subst (λ m. IsResize size (length own.content) (made ++ Size m ∷ [])) (sym is) (on (Size size ∷ []) (last old.tree.size (λ e. other (is ∙ e)) few))
   last_step old n (piece_size more is) other whole made on = absurd (omega (arith, more, is, whole))
 

@@ -1,9 +1,8 @@
 -- The lines `write` and `fill` under a book, from the contract of a write.
-use Rattle.std.proofs.Common.{◌≡◌, ◌≢◌, inl, Bool, true, false, List, [], ◌∷◌, ◌++◌, ℕ, refl, sym, ◌∙◌, ap, subst, Option, Some, None, Result, Ok, Err, length}
+use Rattle.std.proofs.Common.{◌≡◌, ◌≢◌, Bool, true, false, List, [], ◌∷◌, ℕ, refl, sym, subst, Some, Result, Ok, Err, length}
 use Rattle.node_tree.specs.Applying.{Write}
 use Rattle.node_tree.specs.Backing.{now}
 use Rattle.node_tree.specs.Sheet.{Sheet}
-use Rattle.pf_io.specs.Disk.{Name}
 use Rattle.pf_io.specs.Host.{HostState, OnDisk, ReadsAsImage}
 use Rattle.pf_io.specs.Words.{WordsState}
 use Rattle.pf_io.specs.declared.faults.Memory.{Memory}
@@ -12,14 +11,13 @@ use Rattle.pf_session.specs.Aside.{Aside}
 use Rattle.pf_session.specs.Changing.{refused, unchanged, changed, not_flushed, flushed_and_changed, WriteGoes, WriteRefused, stepped}
 use Rattle.pf_session.specs.Faults.{write_of_flush, write_of_tree}
 use Rattle.pf_session.specs.State.{SessionState}
-use Rattle.pf_session.specs.declared.fault.FlushFault.{FlushFault}
 use Rattle.pf_session.specs.declared.fault.Written.{Written}
 use Rattle.pf_session.specs.declared.fault.WriteFault.{WriteFault}
 use Rattle.pf_script.specs.BookSeats.{Covers, KeepsUnder}
 use Rattle.pf_script.specs.BookTurns.{of_book, SeatUnder, SeatBooked}
 use Rattle.pf_script.specs.Desk.{IsSeated, seat_on}
 use Rattle.pf_script.specs.DeskSteps.{Concerns}
-use Rattle.pf_script.specs.Rules.{IsFirst, rules, writing_rules}
+use Rattle.pf_script.specs.Rules.{writing_rules}
 use Rattle.pf_script.specs.Script.{Own}
 use Rattle.pf_script.specs.SeatReplies.{write_reply}
 use Rattle.pf_script.specs.SeatSteps.{nothing, at_place, none_left}
@@ -27,7 +25,6 @@ use Rattle.pf_script.specs.Turns.{Standing, SeatTurn, IsChangeReply, accepted, c
 use Rattle.pf_script.specs.declared.line.ScriptLine.{ScriptLine}
 use Rattle.pf_script.specs.declared.reply.Reply.{Reply}
 use Rattle.pf_script.specs.declared.reply.Reply.TheVariants as replies
-use Rattle.pf_script.specs.declared.reply.Why.{Why}
 use Rattle.pf_script.proofs.ActKeeping.{unchanged_now}
 use Rattle.pf_script.proofs.ChangeKeeping.{change_keeps}
 use Rattle.pf_script.proofs.ChangeLeft.{ChangeIn, in_once, in_unflushed, in_after}
@@ -37,7 +34,6 @@ use Rattle.pf_script.proofs.Flushed.{flush_ends}
 use Rattle.pf_script.proofs.LineUnder.{line_under}
 use Rattle.pf_script.proofs.OfScript.{of_flushed}
 use Rattle.pf_script.proofs.Refusing.{idle_seen, none_taken, same_keeps, first_then}
-use Rattle.pf_script.proofs.SeatCalls.{seen_by}
 use Rattle.pf_script.proofs.Under.{own_under, none_concerned}
 use Rattle.pf_script.proofs.WriteLine.{IsWriteLine, write_asks, write_first, write_replies, written, stepped_reply, unflushed_reply, why_refused, passes}
 

@@ -135,7 +135,8 @@ pub(crate) fn set_size<H: Host, R: Words>(
     seat: &mut Option<Session>,
     size: u64,
 ) -> Result<Reply, Memory>
-    ensures { (key : List ℕ) (k : ℕ) → IsSeatOf key seat.old → SeatGoes key false (lines.Size k size) result seat.old seat.new (H.state host.old) (H.state host.new) (R.state random.old) (R.state random.new) }
+    ensures goes { (key : List ℕ) (k : ℕ) → IsSeatOf key seat.old → SeatGoes key false (lines.Size k size) result seat.old seat.new (H.state host.old) (H.state host.new) (R.state random.old) (R.state random.new) }
+    ensures booked { (key : List ℕ) (k : ℕ) → IsSeatOf key seat.old → SeatBooked key false (lines.Size k size) result seat.old seat.new (H.state host.old) (H.state host.new) (R.state random.old) (R.state random.new) }
 {
     let Some(session) = seat else {
         return Ok(Reply::Refused { why: Why::SeatEmpty });

@@ -61,6 +61,14 @@ mod RunLaws
 mod RunClauses
 mod ScriptCauses
 mod ScriptKey
+mod ScriptTurns
+mod ScriptSeen
+mod ScriptReading
+mod ScriptClosing
+mod ScriptParts
+mod ScriptText
+mod ScriptContent
+mod ScriptBooks
 mod EncryptRuns
 mod EncryptClauses
 mod RunChoices
