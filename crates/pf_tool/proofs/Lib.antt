@@ -74,11 +74,3 @@ mod EncryptClauses
 mod RunChoices
 mod RunDisk
 pub mod ContentRuns
-mod ScriptTurns
-mod ScriptSeen
-mod ScriptReading
-mod ScriptClosing
-mod ScriptParts
-mod ScriptText
-mod ScriptContent
-mod ScriptBooks
