@@ -69,3 +69,4 @@ pub mod ReadLine
 pub mod DeskLine
 pub mod BlankLine
 pub mod MoveLine
+pub mod BookRunning

@@ -20,3 +20,4 @@ pub mod DeskSteps
 pub mod SeatReplies
 pub mod BookTurns
 pub mod ScriptRuns
+pub mod BookRuns
