@@ -7,6 +7,7 @@ use Rattle.pf_io.specs.Unchanged.{KeepsDisk}
 use Rattle.pf_io.specs.Words.{WordsState}
 use Rattle.pf_io.specs.declared.faults.Memory.{Memory}
 use Rattle.pf_io.specs.declared.faults.StreamFault.{StreamFault}
+use Rattle.pf_script.specs.BookTurns.{DeskBooked, EndBooked}
 use Rattle.pf_script.specs.Desk.{DeskState, session_at}
 use Rattle.pf_script.specs.DeskSteps.{DeskGoes, EndGoes}
 use Rattle.pf_script.specs.LineReading.{ReaderState, Advances, LinesGoOn, AnswersAgain}
@@ -49,7 +50,7 @@ pub record NothingAsked (old new : DeskState) (before after : HostState) (random
 -- What is replied to bytes: where they are a line, what the desk answers to it. Where there was no memory, the bytes were not read, or the line was not done.
 abbrev pub BytesAnswered : List ℕ → Result (Option Reply) Memory → DeskState → DeskState → HostState → HostState → WordsState → WordsState → Type 0
 BytesAnswered bytes (Ok None) old new before after random random' = ((line : ScriptLine) → ¬ (IsScriptLine bytes line)) × NothingAsked old new before after random random'
-BytesAnswered bytes (Ok (Some reply)) old new before after random random' = (line : ScriptLine) × IsScriptLine bytes line × DeskGoes line (Ok reply) old new before after random random'
+BytesAnswered bytes (Ok (Some reply)) old new before after random random' = (line : ScriptLine) × IsScriptLine bytes line × DeskGoes line (Ok reply) old new before after random random' × DeskBooked line (Ok reply) old new before after random random'
 BytesAnswered bytes (Err none) old new before after random random' = NothingAsked old new before after random random' ⊎ ((line : ScriptLine) × IsScriptLine bytes line × DeskGoes line (Err none) old new before after random random')
 
 abbrev pub Nothing : At → At → Type 0
@@ -123,6 +124,7 @@ LinesEnd (Err fault) start now = (status : ℕ) × (last : At) × Lines start st
 -- a seat is closed
 pub record SeatClosed (seat : ℕ) (reply : Option Reply) (old new : At) : Type 0 where
   pub ends : EndGoes seat reply old.desk new.desk old.world.host new.world.host old.world.random new.world.random
+  pub booked : EndBooked seat reply old.desk new.desk old.world.host new.world.host old.world.random new.world.random
   pub none : (reply ≡ None) ↔ (session_at old.desk seat ≡ None)
   pub reader : new.reader ≡ old.reader
   pub input : new.world.input ≡ old.world.input
