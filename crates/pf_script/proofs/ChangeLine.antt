@@ -190,4 +190,4 @@ module _ (key : List ℕ) (line : ScriptLine) (old new : SessionState) (whole : 
               turns = whole_turns key false line (seen_by given seen.words false true) replies.WordsFault old (Some new) given whole (lacked_turns given seen.words told);
             })) books seated name_is
     line_goes Wanted seen breaks =
-        goes_wanting key false line old before after random random' (record {}) new (record { takes = takes; ends = inr (changes, breaks refl) }) books seated name_is seen.on_host seen.on_words
+        goes_wanting key false line old before after random random' (record {}) new (record { takes = takes; told = told_weaker (λ given. ChangeTold step old new given seen.words Wanted) (λ given. Unit {0}) before after seen.told (λ given facts. tt); ends = inr (changes, breaks refl) }) books seated name_is seen.on_host seen.on_words

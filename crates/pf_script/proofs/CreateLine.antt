@@ -12,7 +12,7 @@ use Rattle.pf_io.specs.Moments.{Ran}
 use Rattle.pf_io.specs.Names.{IsTarget, recovery_of, side_of}
 use Rattle.pf_io.specs.Words.{WordsState}
 use Rattle.pf_io.specs.declared.faults.Memory.{Memory}
-use Rattle.pf_io.proofs.Telling.{told_none, told_on, both_same, both_weaker}
+use Rattle.pf_io.proofs.Telling.{told_by, told_none, told_on, both_same, both_weaker}
 use Rattle.pf_session.specs.Aside.{Aside, LeavesApart, KeepsApart}
 use Rattle.pf_session.specs.Asking.{IsTaken as AreTaken}
 use Rattle.pf_session.specs.Creating.{CreateGoes, misnamed, no_memory, look_up_failed, was_there, no_words, create_stopped, created, CreatesOn, AreNamed, empty_sheet, empty_node, fresh}
@@ -136,7 +136,7 @@ module _ (key : List ℕ) (k : ℕ) (name : Name) (utf8 : IsUtf8 name) (before a
       (record {
         goes = empty_wants key line name refl None before after random random'
             (both_weaker Unchanged (KeepsUnder CoversNone CoversNone (λ n. n ≡ name)) before.honest after.honest (stays_so stays) (λ a b only. only_reads CoversNone a b (λ n. n ≡ name) only)) tt (λ n none. absurd none)
-            (λ takes. takes) refl (stays_so stays) (ap (λ (h : HostState). h.faults) stays) same;
+            (λ takes. takes) refl (stays_so stays) (ap (λ (h : HostState). h.faults) stays) same (told_by (λ given. Unit {0}) [] before after (told_none before after (ap (λ (h : HostState). h.given) stays)) tt);
         booked = tt;
       })
   by_case result aside reads keeps (look_up_failed good fails same said) =

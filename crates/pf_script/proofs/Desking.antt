@@ -183,7 +183,7 @@ module _ (old : DeskState) (desk : IsDesk old) (k : ℕ) (below : k < SEATS) (ta
     all_asks (Err fault) told = tt
 
     wants_on : SeatWants line (session_at old k) left before after random random' → Wants line old new before after random random'
-    wants_on wants = record { takes = wants.takes; ends = ⊎_elim (λ idle. inl (nothing idle)) (λ breaks. inr (breaks.0, broken breaks.1)) wants.ends }
+    wants_on wants = record { takes = wants.takes; told = wants.told; ends = ⊎_elim (λ idle. inl (nothing idle)) (λ breaks. inr (breaks.0, broken breaks.1)) wants.ends }
       where
         nothing : SeatIdle (session_at old k) left before after random random' → NothingDone old new before after random random'
         nothing idle = record {

@@ -5,6 +5,7 @@ pub mod OneReading
 pub mod Cutting
 pub mod Parts
 pub mod Advancing
+pub mod LineSeats
 pub mod Phrasing
 pub mod NameMaps
 pub mod Ruling
@@ -68,3 +69,4 @@ pub mod SizeLine
 pub mod ReadLine
 pub mod DeskLine
 pub mod BlankLine
+pub mod MoveLine

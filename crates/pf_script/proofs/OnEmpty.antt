@@ -5,12 +5,12 @@ use Rattle.std.specs.Option.{is_some}
 use Rattle.std.proofs.lemmas.List.Elements.{Contains-push_cases, Contains-append_cases}
 use Rattle.node_tree.specs.Sheet.{Sheet}
 use Rattle.pf_io.specs.Disk.{Name, IsImage, reading}
-use Rattle.pf_io.specs.Host.{Answer, HostState, OnDisk}
+use Rattle.pf_io.specs.Host.{Answer, HostState, OnDisk, WhereTold}
 use Rattle.pf_io.specs.Moments.{Honest}
 use Rattle.pf_io.specs.Unchanged.{KeepsDisk}
 use Rattle.pf_io.specs.Words.{WordsState}
 use Rattle.pf_io.specs.declared.faults.Memory.{Memory}
-use Rattle.pf_io.proofs.Telling.{told_by, both_same, both_weaker}
+use Rattle.pf_io.proofs.Telling.{told_by, told_none, both_same, both_weaker}
 use Rattle.pf_session.specs.State.{SessionState}
 use Rattle.pf_script.specs.Book.{Book, Seal, Agrees}
 use Rattle.pf_script.specs.BookActs.{Act}
@@ -114,12 +114,12 @@ module _ (key : List ℕ) (line : ScriptLine) (name : Name) (names : name_of_lin
     }
 
     -- want of memory
-    pub empty_wants : ¬ (TakesNone line) → new ≡ None → KeepsDisk before after → after.faults ≡ before.faults → random' ≡ random → SeatGoes key false line (Err (record {})) None new before after random random'
-    empty_wants takes none disk calm same = record {
+    pub empty_wants : ¬ (TakesNone line) → new ≡ None → KeepsDisk before after → after.faults ≡ before.faults → random' ≡ random → WhereTold before after (λ given. Unit {0}) → SeatGoes key false line (Err (record {})) None new before after random random'
+    empty_wants takes none disk calm same told = record {
       asks = tt;
       books = books;
       counts = (calm, ap (λ (w : WordsState). w.faults) same);
-      wants = record { takes = takes; ends = inl (record { seat = none; disk = disk; words = same }) };
+      wants = record { takes = takes; told = told; ends = inl (record { seat = none; disk = disk; words = same }) };
       seated = seated;
       named = λ n has. concerns n (named n has);
     }
@@ -129,7 +129,7 @@ module _ (key : List ℕ) (line : ScriptLine) (name : Name) (names : name_of_lin
   empty_unasked state random takes =
       empty_wants None state state random random
       (both_same (KeepsUnder CoversNone CoversNone (λ n. n ≡ name)) state.honest state.honest refl (λ a. only_reads CoversNone a a (λ n. n ≡ name) (unchanged_now a))) tt (λ n none. absurd none) takes refl
-      (both_same Unchanged state.honest state.honest refl (λ a. unchanged_now a)) refl refl
+      (both_same Unchanged state.honest state.honest refl (λ a. unchanged_now a)) refl refl (told_by (λ given. Unit {0}) [] state state (told_none state state refl) tt)
 
   -- under a book the seat is empty
   pub empty_under : (seen : Seen) (reply : Reply) (new : Option SessionState) (a b : Honest) → ((book : Book) (seats : List Seal) → Agrees book seats a.now → IsImage a.now (reading a.now) → LineUnder key false line seen reply None new book seats Empty a b)

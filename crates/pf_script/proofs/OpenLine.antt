@@ -23,7 +23,7 @@ use Rattle.pf_io.specs.Names.{IsTarget, recovery_of}
 use Rattle.pf_io.specs.Unchanged.{KeepsDisk}
 use Rattle.pf_io.specs.Words.{WordsState}
 use Rattle.pf_io.specs.declared.faults.Memory.{Memory}
-use Rattle.pf_io.proofs.Telling.{both_weaker}
+use Rattle.pf_io.proofs.Telling.{told_by, told_none, both_weaker}
 use Rattle.pf_session.specs.Backing.{StandsOn}
 use Rattle.pf_session.specs.Carries.{IsLast, OnFirst, OpensOnFirst}
 use Rattle.pf_session.specs.Keeping.{OpensEither}
@@ -167,10 +167,10 @@ module _ (key : List ℕ) (k : ℕ) (name : Name) (utf8 : IsUtf8 name) (before a
       empty_idle key line name refl before after words words (replies.DamagedNode damage) these [] false false only (seen_of these false told calm) refl refl
       (λ standing. was_damaged damage (record { host = refl; random = refl }) (fails_to_open k name (ByDamage damage) refl blames) refl)
 
-  wants_memory : after.faults ≡ before.faults → Halves (Err (record {})) None
-  wants_memory calm = record {
+  wants_memory : after.faults ≡ before.faults → WhereTold before after (λ given. Unit {0}) → Halves (Err (record {})) None
+  wants_memory calm told = record {
     goes = empty_wants key line name refl None before after words words
-        (both_weaker Unchanged (KeepsUnder CoversNone CoversNone (λ n. n ≡ name)) before.honest after.honest only (λ a b only_ab. only_reads CoversNone a b (λ n. n ≡ name) only_ab)) tt (λ n none. absurd none) (λ takes. takes) refl only calm refl;
+        (both_weaker Unchanged (KeepsUnder CoversNone CoversNone (λ n. n ≡ name)) before.honest after.honest only (λ a b only_ab. only_reads CoversNone a b (λ n. n ≡ name) only_ab)) tt (λ n none. absurd none) (λ takes. takes) refl only calm refl told;
     booked = tt;
   }
 
@@ -322,8 +322,10 @@ module _ (key : List ℕ) (k : ℕ) (name : Name) (utf8 : IsUtf8 name) (before a
           (subst (λ (r : Result SessionState OpenFault). IfOk r (λ session. OpensOnFirst session before after)) said first) (subst (λ (r : Result SessionState OpenFault). IfOk r (λ session. OnDisk before after (OpensEither session))) said either))
   by_case result first either (length_failed good asked said) = subst (λ (r : Result SessionState OpenFault). Halves (open_result name r) (made_seat r)) (sym said) (host_fails [] asked.asked.told asked.asked.faults)
   by_case result first either (read_failed size good asked said) = subst (λ (r : Result SessionState OpenFault). Halves (open_result name r) (made_seat r)) (sym said) (host_fails (LengthWas name (Some size) ∷ []) asked.asked.told asked.asked.faults)
-  by_case result first either (no_names good stays said) = subst (λ (r : Result SessionState OpenFault). Halves (open_result name r) (made_seat r)) (sym said) (wants_memory (ap (λ (h : HostState). h.faults) stays))
-  by_case result first either (no_tree size block secret good asked openable is said) = subst (λ (r : Result SessionState OpenFault). Halves (open_result name r) (made_seat r)) (sym said) (wants_memory asked.asked.faults)
+  by_case result first either (no_names good stays said) =
+      subst (λ (r : Result SessionState OpenFault). Halves (open_result name r) (made_seat r)) (sym said)
+      (wants_memory (ap (λ (h : HostState). h.faults) stays) (told_by (λ given. Unit {0}) [] before after (told_none before after (ap (λ (h : HostState). h.given) stays)) tt))
+  by_case result first either (no_tree size block secret good asked openable is said) = subst (λ (r : Result SessionState OpenFault). Halves (open_result name r) (made_seat r)) (sym said) (wants_memory asked.asked.faults (told_by (λ given. Unit {0}) _ before after asked.asked.told tt))
 
 pub open_line : (key : List ℕ) (k : ℕ) (name : Name) (result : Result SessionState OpenFault) (before after : HostState) (words : WordsState) → IsUtf8 name → Opens key name (Some name) before after result → KeepsDisk before after
     → IfOk result (λ session. OpensOnFirst session before after) → IfOk result (λ session. OnDisk before after (OpensEither session)) → BothHalves key (lines.Open k name) (open_result name result) (made_seat result) before after words words

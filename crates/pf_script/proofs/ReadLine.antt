@@ -199,7 +199,7 @@ module _ (key : List ℕ) (k at count : ℕ) (old : SessionState) (seated : IsSe
               turns = whole_turns key false (lines.Read k at count) (seen_by given [] true false) replies.HostFault old (Some new) given whole (host_turns few given facts);
             })) books seated_new (ap (λ (s : SessionState). s.name) fields)
     by_result (Err trees.Memory) counted cause told =
-        goes_wanting key false (lines.Read k at count) old before after words words (record {}) new (record { takes = λ none. none; ends = inl (record { seat = fields; disk = disk; words = refl }) }) books seated_new
+        goes_wanting key false (lines.Read k at count) old before after words words (record {}) new (record { takes = λ none. none; told = told_weaker (ReadFacts (Err trees.Memory) at buffer old new) (λ given. Unit {0}) before after told (λ given facts. tt); ends = inl (record { seat = fields; disk = disk; words = refl }) }) books seated_new
         (ap (λ (s : SessionState). s.name) fields) cause.still refl
 
 pub ends_count : (r : Result ℕ TreeFault) (given : AtNodes) (at : ℕ) (buffer : List ℕ) (old new : TreeState) → ReadEnds r given at buffer old new → IfOk r (λ n. n ≡ readable old at (length buffer))

@@ -78,7 +78,7 @@ nothing_wanting key taken line fault old host words takes seated = record {
   asks = tt;
   books = both_same (KeepsUnder (CoversSome old) (CoversSome old) (Concerns taken line old)) host.honest host.honest refl (same_keeps (CoversSome old) (Concerns taken line old));
   counts = (refl, refl);
-  wants = record { takes = takes; ends = inl (record { seat = keeps_same old; disk = both_same (Ran IsImage Stays) host.honest host.honest refl unchanged_now; words = refl }) };
+  wants = record { takes = takes; told = told_by (λ given. Unit {0}) [] host host (told_none host host refl) tt; ends = inl (record { seat = keeps_same old; disk = both_same (Ran IsImage Stays) host.honest host.honest refl unchanged_now; words = refl }) };
   seated = seated;
   named = λ name has. inl has;
 }

@@ -150,7 +150,7 @@ module _ (key : List ℕ) (k size : ℕ) (small : size ≤ 2 ^ 32) (old new : Se
                   (lacked_turns given seen.words (subst (λ (o : Outcome). SizeTold size old new given seen.words o) is told));
             })) seen.books seen.seated_new seen.name_is
     by_outcome Wanted is =
-        goes_wanting key false (lines.Size k size) old before after random random' (record {}) new (record { takes = λ none. none; ends = inr (tt, seen.breaks is) }) seen.books seen.seated_new seen.name_is
+        goes_wanting key false (lines.Size k size) old before after random random' (record {}) new (record { takes = λ none. none; told = told_weaker (λ given. SizeTold size old new given seen.words seen.outcome) (λ given. Unit {0}) before after seen.told (λ given facts. tt); ends = inr (tt, seen.breaks is) }) seen.books seen.seated_new seen.name_is
         (subst (λ (o : Outcome). CountsFault (host_in o) before.faults after.faults) is seen.on_host) (subst (λ (o : Outcome). CountsFault (words_in o) random.faults random'.faults) is seen.on_words)
 
 pub size_goes : (key : List ℕ) (k size : ℕ) (old new : SessionState) (result : Result (Unit {0}) SizeFault) (before after : HostState) (random random' : WordsState) → size ≤ 2 ^ 32 → IsSeated key old → old.broken ≡ false

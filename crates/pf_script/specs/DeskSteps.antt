@@ -136,6 +136,7 @@ IsBrokenSession new = IsSomeAnd new (λ session. session.broken ≡ true)
 
 pub record SeatWants (line : ScriptLine) (old new : Option SessionState) (before after : HostState) (random random' : WordsState) : Type 0 where
   pub takes : ¬ (TakesNone line)
+  pub told : WhereTold before after (λ given. ⊤)
   pub ends : SeatIdle old new before after random random' ⊎ (IsChange line × IsBrokenSession new)
 
 pub record NothingDone (old new : DeskState) (before after : HostState) (random random' : WordsState) : Type 0 where
@@ -148,9 +149,10 @@ pub record NothingDone (old new : DeskState) (before after : HostState) (random 
 abbrev pub BreaksSeat : ScriptLine → DeskState → Type 0
 BreaksSeat line new = (k : ℕ) × (session : SessionState) × (seat_of_line line ≡ Some k) × (session_at new k ≡ Some session) × (session.broken ≡ true)
 
--- want of memory
+-- want of memory; what the host tells goes on
 pub record Wants (line : ScriptLine) (old new : DeskState) (before after : HostState) (random random' : WordsState) : Type 0 where
   pub takes : ¬ (TakesNone line)
+  pub told : WhereTold before after (λ given. ⊤)
   pub ends : NothingDone old new before after random random' ⊎ (IsChange line × BreaksSeat line new)
 
 abbrev pub WhereWanting : Result Reply Memory → Type 0 → Type 0

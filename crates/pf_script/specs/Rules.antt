@@ -92,7 +92,7 @@ rules key taken seat (lines.Move k name) given =
     seated_rules seat
     ++ refuses whys.NameBusy (taken ≡ true)
     ∷ refuses whys.BadName (¬ (IsTarget name))
-    ∷ refuses whys.TargetExists ((size : ℕ) × Contains given (LengthWas name (Some size)))
+    ∷ refuses whys.TargetExists ((size : ℕ) × (others : List Answer) × (given ≡ LengthWas name (Some size) ∷ others))
     ∷ []
 rules key taken seat (lines.Draw k) given = seated_rules seat
 rules key taken seat (lines.Close k) given = refuses whys.SeatEmpty (seat ≡ Empty) ∷ []

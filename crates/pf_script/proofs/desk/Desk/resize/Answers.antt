@@ -8,10 +8,10 @@ pub invariant_of-self : goal.invariant_of-self
 invariant_of-self g c =
     let inside : DeskState = record { key = c.self.inside.key; seats = c.self.inside.seats } in
     (line_goes inside c.self.invariant c.args.self.now c.self.view_is c.args.seat c.requires c.index-self-seat.result false (lines.Size c.args.seat c.args.size) refl tt c.set_size.new.seat c.set_size.result (g.H.Host.state c.args.host.now) (g.H.Host.state c.set_size.new.host)
-        (g.R.Words.state c.args.random.now) (g.R.Words.state c.set_size.new.random) (c.set_size.ensures c.self.inside.key c.args.seat)).well
+        (g.R.Words.state c.args.random.now) (g.R.Words.state c.set_size.new.random) (c.set_size.ensures.goes c.self.inside.key c.args.seat)).well
 
 pub returns : goal.returns
 returns g c =
     let inside : DeskState = record { key = c.self.inside.key; seats = c.self.inside.seats } in
     (line_goes inside c.self.invariant c.args.self.now c.self.view_is c.args.seat c.requires c.index-self-seat.result false (lines.Size c.args.seat c.args.size) refl tt c.set_size.new.seat c.set_size.result (g.H.Host.state c.args.host.now) (g.H.Host.state c.set_size.new.host)
-        (g.R.Words.state c.args.random.now) (g.R.Words.state c.set_size.new.random) (c.set_size.ensures c.self.inside.key c.args.seat)).goes
+        (g.R.Words.state c.args.random.now) (g.R.Words.state c.set_size.new.random) (c.set_size.ensures.goes c.self.inside.key c.args.seat)).goes
