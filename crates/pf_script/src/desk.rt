@@ -166,7 +166,8 @@ impl Desk {
         size: u64,
     ) -> Result<Reply, Memory>
         requires { seat < SEAT_COUNT }
-        ensures { DeskGoes (lines.Size seat size) result self.old self.new (H.state host.old) (H.state host.new) (R.state random.old) (R.state random.new) }
+        ensures goes { DeskGoes (lines.Size seat size) result self.old self.new (H.state host.old) (H.state host.new) (R.state random.old) (R.state random.new) }
+        ensures booked { DeskBooked (lines.Size seat size) result self.old self.new (H.state host.old) (H.state host.new) (R.state random.old) (R.state random.new) }
     {
         set_size(host, random, &mut self.seats[seat as usize], size)
     }
