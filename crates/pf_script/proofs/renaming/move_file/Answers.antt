@@ -8,7 +8,7 @@ use Rattle.pf_script.specs.Rules.{Rule, refuses}
 use Rattle.pf_script.specs.SeatReplies.{move_reply}
 use Rattle.pf_script.specs.declared.reply.Reply.{Reply}
 use Rattle.pf_session.specs.State.{SessionState}
-use Rattle.pf_script.specs.Desk.{Shows}
+use Rattle.pf_script.specs.Desk.{IsSeatOf, Shows}
 use Rattle.pf_script.specs.declared.line.ScriptLine.TheVariants as lines
 use Rattle.pf_script.specs.declared.reply.Reply.TheVariants as replies
 use Rattle.pf_script.specs.declared.reply.Why.TheVariants as whys
