@@ -74,3 +74,4 @@ mod EncryptClauses
 mod RunChoices
 mod RunDisk
 pub mod ContentRuns
+mod ScriptUnder

@@ -53,7 +53,7 @@ settled_by bytes text new (Fed is stage) = inl stage
 settled_by bytes text new (Last is some end) = inr (end.pending, end.no_more)
 
 -- a line that is read leaves the reader so
-read_settled : (next : NextLine) (old new : At) → next ≢ nexts.End → Reads (Ok next) old new → IsSettled new × LinesGoOn (Ok next) old.reader new.reader old.world.input new.world.input
+pub read_settled : (next : NextLine) (old new : At) → next ≢ nexts.End → Reads (Ok next) old new → IsSettled new × LinesGoOn (Ok next) old.reader new.reader old.world.input new.world.input
 read_settled nexts.End old new some reads = absurd (some refl)
 read_settled nexts.Whole old new some (went_on stage advances lines) = (settled_by new.reader.line (old.reader.pending ++ advances.these) new advances.cuts.2, lines)
 read_settled nexts.TooLong old new some (went_on stage advances lines) = (settled_by advances.cuts.0 (old.reader.pending ++ advances.these) new advances.cuts.3, lines)
@@ -132,13 +132,13 @@ pub record LinesTold (items : List Item) (start now : At) : Type 0 where
   pub reads : FirstLinesAre items start now
   pub settled : IsSettled now
 
-each_on : (first : List (List ℕ)) (items : List Item) (bytes : List ℕ) (item : Item) → AnswerEach first items → AnswersBytes bytes item → AnswerEach (first ++ bytes ∷ []) (items ++ item ∷ [])
+pub each_on : (first : List (List ℕ)) (items : List Item) (bytes : List ℕ) (item : Item) → AnswerEach first items → AnswersBytes bytes item → AnswerEach (first ++ bytes ∷ []) (items ++ item ∷ [])
 each_on [] [] bytes item each one = (one, tt)
 each_on (line ∷ first) (other ∷ items) bytes item each one = (each.0, each_on first items bytes item each.1 one)
 each_on [] (other ∷ items) bytes item each one = absurd each
 each_on (line ∷ first) [] bytes item each one = absurd each
 
-items_on : (items : List Item) (item : Item) → flat_map exchange_of (items ++ item ∷ []) ≡ flat_map exchange_of items ++ exchange_of item
+pub items_on : (items : List Item) (item : Item) → flat_map exchange_of (items ++ item ∷ []) ≡ flat_map exchange_of items ++ exchange_of item
 items_on items item = flat_map-append exchange_of items (item ∷ []) ∙ ap (λ (l : List Exchange). flat_map exchange_of items ++ l) (append-nil (exchange_of item))
 
 pub lines_on : (items : List Item) (start mid now : At) (reply : Option Reply) → LinesTold items start mid → (one : LineTold reply mid now) → LinesTold (items ++ one.item ∷ []) start now

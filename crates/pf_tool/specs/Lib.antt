@@ -29,3 +29,4 @@ pub mod Scripting
 pub mod Transcripts
 pub mod Contents
 pub mod Runs
+pub mod BookScripts
