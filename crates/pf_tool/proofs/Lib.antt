@@ -75,3 +75,4 @@ mod RunChoices
 mod RunDisk
 pub mod ContentRuns
 mod ScriptUnder
+mod ScriptBooked
