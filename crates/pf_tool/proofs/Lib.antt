@@ -76,3 +76,4 @@ mod RunDisk
 pub mod ContentRuns
 mod ScriptUnder
 mod ScriptBooked
+mod ScriptKeeping

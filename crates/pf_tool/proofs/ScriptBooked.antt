@@ -34,7 +34,7 @@ use Rattle.pf_tool.proofs.ScriptContent.{same_all}
 use Rattle.pf_tool.proofs.ScriptUnder.{Under}
 
 -- nothing was done behind the last exchange
-stops_idle : (starved : Type 0) (desk : DeskState) (host after : HostState) (book : Book) (state : ScriptState) (d b : Honest) → IsUnder desk host book state d → after.honest ≡ Some b → after ≡ host → StopsUnder starved book state d b
+pub stops_idle : (starved : Type 0) (desk : DeskState) (host after : HostState) (book : Book) (state : ScriptState) (d b : Honest) → IsUnder desk host book state d → after.honest ≡ Some b → after ≡ host → StopsUnder starved book state d b
 stops_idle starved desk host after book state d b is at_end same =
     let e : Some d ≡ Some b = sym is.is_disk ∙ ap (λ (h : HostState). h.honest) (sym same) ∙ at_end in
     let one : d ≡ b = cc in
@@ -62,7 +62,7 @@ covered desk book seats state is k session at_k = by_seat _ (session_at desk k) 
         absurd (cc)
 
 -- there was no memory for a step
-stops_wanting : (starved : Type 0) → starved → (d0 d1 : DeskState) (h0 h1 after : HostState) (book : Book) (state : ScriptState) (d b : Honest) → IsUnder d0 h0 book state d → KeepsDesk d0 d1 h0 h1 → after.honest ≡ Some b → after ≡ h1 → StopsUnder starved book state d b
+pub stops_wanting : (starved : Type 0) → starved → (d0 d1 : DeskState) (h0 h1 after : HostState) (book : Book) (state : ScriptState) (d b : Honest) → IsUnder d0 h0 book state d → KeepsDesk d0 d1 h0 h1 → after.honest ≡ Some b → after ≡ h1 → StopsUnder starved book state d b
 stops_wanting starved is_starved d0 d1 h0 h1 after book state d b is keeps at_end same = by_disk h0.honest h1.honest is.is_disk (ap (λ (h : HostState). h.honest) (sym same) ∙ at_end) keeps
   where
     by_disk : (o p : Option Honest) → o ≡ Some d → p ≡ Some b → Both o p (KeepsUnder (CoversDesk d0) (CoversDesk d1) AnyName) → StopsUnder starved book state d b

@@ -144,10 +144,10 @@ module _ (key : Name) (user : List ℕ) (behind : List Answer) (long : length us
       by_rest (event ∷ rest) ending ahead refused = too_few es event rest ending refused told
 
 -- what an ending says of the status
-stream_says : (old new : SinkState) (status : ℕ) → SaysScript (Err faults.Stream) old new status → status ≡ 7
+pub stream_says : (old new : SinkState) (status : ℕ) → SaysScript (Err faults.Stream) old new status → status ≡ 7
 stream_says old new status says = ⊎_elim (λ both. both.0) (λ both. both.0) (reported_said _ _ old new status says)
 
-memory_says : (old begun new : World) (status : ℕ) → begun.log ≡ old.log → SaysScript (Err faults.Memory) old.log new.log status → IsStarved begun new status
+pub memory_says : (old begun new : World) (status : ℕ) → begun.log ≡ old.log → SaysScript (Err faults.Memory) old.log new.log status → IsStarved begun new status
 memory_says old begun new status same says = ⊎_elim (λ both. inl both.0) (λ both. inr (both.0, both.1 ∙ ap (λ (s : SinkState). counted s.faults) (sym same))) (reported_said _ _ old.log new.log status says)
 
 pub script_content : (key : Name) (old new : World) (status : ℕ) → RunsScript key old new status → TookScript key old new status

@@ -61,7 +61,7 @@ pub record Part (user : List ℕ) (transcript : Transcript) (begun until : World
 abbrev pub lines_only : List Item → Transcript
 lines_only items = record { items = items; closed = []; ended = false }
 
-both_first : {A : Type 0} (P : A → A → Type 0) (Q : A → Type 0) (o p : Option A) → Both o p P → ((a b : A) → P a b → Q a) → IfSome o Q
+pub both_first : {A : Type 0} (P : A → A → Type 0) (Q : A → Type 0) (o p : Option A) → Both o p P → ((a b : A) → P a b → Q a) → IfSome o Q
 both_first P Q (Some a) (Some b) both go = go a b both
 both_first P Q (Some a) None both go = absurd both
 both_first P Q None p both go = tt

@@ -29,13 +29,13 @@ use Rattle.pf_tool.proofs.ScriptReading.{lines_on, line_told, text_on, status_on
 use Rattle.pf_tool.proofs.ScriptClosing.{closing_texts, closing_statuses, closing_texts_on, one_closing, seats_on, Closed, seats_closed}
 use Rattle.pf_tool.proofs.ScriptParts.{AllTold, all_told, lines_only, lines_part, with_closings, closed_part, ended_input, Behind}
 
-wrote_front : (text all : List ℕ) (old new : SinkState) → all ≡ text → WroteAll text old new → Both old.bytes new.bytes (TakesFront all)
+pub wrote_front : (text all : List ℕ) (old new : SinkState) → all ≡ text → WroteAll text old new → Both old.bytes new.bytes (TakesFront all)
 wrote_front text all old new is wrote = both_weaker (IsMore text) (TakesFront all) old.bytes new.bytes wrote.told (λ before now more. front_taken text [] all before now (is ∙ sym (append-nil text)) more)
 
-failed_front : (text piece all : List ℕ) (old mid new : SinkState) → all ≡ text ++ piece → WroteAll text old mid → SinkFailed piece mid new → Both old.bytes new.bytes (TakesFront all)
+pub failed_front : (text piece all : List ℕ) (old mid new : SinkState) → all ≡ text ++ piece → WroteAll text old mid → SinkFailed piece mid new → Both old.bytes new.bytes (TakesFront all)
 failed_front text piece all old mid new is wrote failed = subst (λ (l : List ℕ). Both old.bytes new.bytes (TakesFront l)) (sym is) (told_front text piece old.bytes mid.bytes new.bytes wrote.told failed.told)
 
-lines_text : (items : List Item) → text_of (lines_only items) ≡ flat_map item_text items
+pub lines_text : (items : List Item) → text_of (lines_only items) ≡ flat_map item_text items
 lines_text items = append-nil (flat_map item_text items ++ []) ∙ append-nil (flat_map item_text items)
 
 module _ (user : List ℕ) (begun : World) (before : List Answer) (was : begun.host.given ≡ Some before) where

@@ -38,10 +38,10 @@ use Rattle.pf_tool.proofs.ScriptClosing.{closing_texts, closing_statuses, closin
 abbrev pub Under : List Exchange → At → At → Type 0
 Under exchanges old new = (book : Book) (state : ScriptState) (disk : Honest) → IsUnder old.desk old.world.host book state disk → FollowsUnder book state exchanges disk (IsUnder new.desk new.world.host)
 
-idle_under : (old new : At) → NothingAsked old.desk new.desk old.world.host new.world.host old.world.random new.world.random → Under [] old new
+pub idle_under : (old new : At) → NothingAsked old.desk new.desk old.world.host new.world.host old.world.random new.world.random → Under [] old new
 idle_under old new nothing book state disk is = subst (λ (d : DeskState). IsUnder d new.world.host book state disk) (sym nothing.same_desk) (subst (λ (h : HostState). IsUnder old.desk h book state disk) (sym nothing.same_host) is)
 
-then_under : (xs ys : List Exchange) (old mid new : At) → Under xs old mid → Under ys mid new → Under (xs ++ ys) old new
+pub then_under : (xs ys : List Exchange) (old mid new : At) → Under xs old mid → Under ys mid new → Under (xs ++ ys) old new
 then_under xs ys old mid new first second book state disk is =
     under_on (IsUnder new.desk new.world.host) book state xs ys disk (under_as book state xs disk (λ b s d is_mid. second b s d is_mid) (first book state disk is))
 
@@ -99,6 +99,21 @@ line_under reply old new answered = by_next answered.next reply answered.reads a
           under = one_under answers.0 said old.desk new.desk old.world.host new.world.host old.world.random new.world.random answers.3 answered.image;
         }
 
+-- one line more
+pub lines_more : (items : List Item) (start mid now : At) (reply : Option Reply) → FirstLinesAre items start mid → Under (flat_map exchange_of items) start mid → (one : LineUnder reply mid now)
+    → FirstLinesAre (items ++ one.item ∷ []) start now × Under (flat_map exchange_of (items ++ one.item ∷ [])) start now
+lines_more items start mid now reply reads under one = (
+  both_then (λ before left. (first : List (List ℕ)) × (lines_of (start.reader.pending ++ before) ≡ first ++ lines_of (mid.reader.pending ++ left)) × AnswerEach first items)
+      (λ before left. (bytes : List ℕ) × (lines_of (mid.reader.pending ++ before) ≡ bytes ∷ lines_of (now.reader.pending ++ left)) × AnswersBytes bytes one.item)
+      (λ before left. (first : List (List ℕ)) × (lines_of (start.reader.pending ++ before) ≡ first ++ lines_of (now.reader.pending ++ left)) × AnswerEach first (items ++ one.item ∷ []))
+      start.world.input.left mid.world.input.left now.world.input.left reads one.reads
+      (λ a b c first next. (
+      first.0 ++ next.0 ∷ [],
+      first.1 ∙ ap (λ (l : List (List ℕ)). first.0 ++ l) next.1 ∙ sym (append_assoc first.0 (next.0 ∷ []) (lines_of (now.reader.pending ++ c))),
+      each_on first.0 items next.0 one.item first.2 next.2)),
+  subst (λ (l : List Exchange). Under l start now) (sym (items_on items one.item)) (then_under (flat_map exchange_of items) (exchange_of one.item) start mid now under one.under),
+)
+
 -- lines that were answered, with the output and the status
 pub record LinesUnder (start : At) (status : ℕ) (now : At) : Type 0 where
   pub items : List Item
@@ -120,18 +135,12 @@ lines_under start status now ready (none_yet _ _ zero_is same) = subst (λ (n : 
 lines_under start status now ready (one_more earlier _ reply mid _ so_far goes is) =
     let old = lines_under start earlier mid ready so_far in
     let one = line_under reply mid now goes.answered in
+    let more = lines_more old.items start mid now reply old.reads old.under one in
     record {
       items = old.items ++ one.item ∷ [];
-      reads = both_then (λ before left. (first : List (List ℕ)) × (lines_of (start.reader.pending ++ before) ≡ first ++ lines_of (mid.reader.pending ++ left)) × AnswerEach first old.items)
-          (λ before left. (bytes : List ℕ) × (lines_of (mid.reader.pending ++ before) ≡ bytes ∷ lines_of (now.reader.pending ++ left)) × AnswersBytes bytes one.item)
-          (λ before left. (first : List (List ℕ)) × (lines_of (start.reader.pending ++ before) ≡ first ++ lines_of (now.reader.pending ++ left)) × AnswerEach first (old.items ++ one.item ∷ []))
-          start.world.input.left mid.world.input.left now.world.input.left old.reads one.reads
-          (λ a b c first next. (
-          first.0 ++ next.0 ∷ [],
-          first.1 ∙ ap (λ (l : List (List ℕ)). first.0 ++ l) next.1 ∙ sym (append_assoc first.0 (next.0 ∷ []) (lines_of (now.reader.pending ++ c))),
-          each_on first.0 old.items next.0 one.item first.2 next.2));
+      reads = more.0;
       settled = one.settled;
-      under = subst (λ (l : List Exchange). Under l start now) (sym (items_on old.items one.item)) (then_under (flat_map exchange_of old.items) (exchange_of one.item) start mid now old.under one.under);
+      under = more.1;
       said = subst (λ (l : List ℕ). WroteAll l start.world.out now.world.out) (sym (text_on old.items one.item))
           (wrote_both (flat_map item_text old.items) (item_text one.item) start.world.out mid.world.out now.world.out old.said (subst (λ (l : List ℕ). WroteAll l mid.world.out now.world.out) (sym one.text_is) goes.said));
       status_is = is ∙ ap (λ (n : ℕ). first_of n (spoken_status reply)) old.status_is ∙ ap (λ (n : ℕ). first_of (status_of (map item_status old.items)) n) (sym one.status_is)

@@ -24,8 +24,8 @@ pub record RunsUnder (user : List ℕ) (exchanges : List Exchange) (starved : Ty
   pub agrees : Agrees book [] start.now
   pub follows : FollowsUnder book (empty_seats user []) exchanges start (λ book state last. StopsUnder starved book state last new)
 
--- No script came, and the book stays; or the exchanges of a transcript, whose text the output took and whose lines are the first of the input, ran under the book.
+-- No script came, nothing of the input was read, and the book stays; or the exchanges of a transcript, whose text the output took and whose lines are the first of the input, ran under the book.
 pub data KeepsScript (old new : World) (status : ℕ) (book : Book) (a b : Honest) : Type 0 where
-  no_script : (new.out ≡ old.out) × (new.input ≡ old.input) → LeavesOnly (ImageFits book) a b → Agrees book [] b.now → KeepsScript old new status book a b
+  no_script : new.input ≡ old.input → LeavesOnly (ImageFits book) a b → Agrees book [] b.now → KeepsScript old new status book a b
   script : (user : List ℕ) (transcript : Transcript) → IfSome old.input.left (AnswersFirst transcript) → PutOut transcript old new status → RunsUnder user (exchanges_of transcript) (IsStarved old new status) book a b
       → KeepsScript old new status book a b
