@@ -8,6 +8,8 @@ use Rattle.pf_io.specs.Unchanged.{KeepsDisk}
 use Rattle.pf_io.specs.declared.faults.Memory.{Memory}
 use Rattle.pf_io.proofs.Telling.{both_weaker}
 use Rattle.pf_script.specs.BookDebts.{Unchanged}
+use Rattle.pf_script.specs.Book.{Book}
+use Rattle.pf_script.specs.BookLaws.{StartsWith, RunKeeps}
 use Rattle.pf_script.specs.BookSeats.{KeepsUnder}
 use Rattle.pf_script.specs.Desk.{DeskState, session_at}
 use Rattle.pf_script.specs.DeskSteps.{KeepsBooks as KeepsDesk, CoversDesk, AnyName, EndGoes}
@@ -18,7 +20,7 @@ use Rattle.pf_script.specs.declared.reply.Reply.{Reply}
 use Rattle.pf_script.proofs.ActKeeping.{only_reads}
 use Rattle.pf_script.proofs.RunKeeping.{books_still, books_on, run_from}
 use Rattle.pf_tool.specs.World.{World, with_log}
-use Rattle.pf_tool.specs.Runs.{KeepsBooks, RunsScript}
+use Rattle.pf_tool.specs.Runs.{RunsScript}
 use Rattle.pf_tool.specs.Scripting.{At, begins, NothingAsked, Answers, NextAnswered, LineAnswered, Lines, none_yet, one_more, AllLines, LineStops, not_read, not_answered, not_said, SeatClosed, Closings, none_closed, one_closed, KeyRead, ScriptGoes, no_key, no_reader, no_line, no_closing, no_end, done}
 use Rattle.pf_tool.specs.declared.fault.Fault.{Fault}
 use Rattle.pf_tool.proofs.ScriptContent.{same_all}
@@ -88,7 +90,11 @@ image_on before after kept image = by_case before.honest after.honest kept image
     by_case None None kept image = tt
     by_case None (Some b) kept image = absurd kept
 
-pub script_books : (key : Name) (old new : World) (status : ℕ) → ReadsAsImage old.host → RunsScript key old new status → KeepsBooks old new
+-- acts were done by which each book with which the run may begin was kept
+abbrev pub RunsBooks : World → World → Type 0
+RunsBooks old new = OnDisk old.host new.host (λ before after. (book : Book) → StartsWith book before.now → RunKeeps book before after)
+
+pub script_books : (key : Name) (old new : World) (status : ℕ) → ReadsAsImage old.host → RunsScript key old new status → RunsBooks old new
 script_books key old new status image run = by_goes run.ending run.goes
   where
     Now : World
@@ -97,9 +103,9 @@ script_books key old new status image run = by_goes run.ending run.goes
     desk_of user = (begins user old).desk
     begun_so : (user : List ℕ) (begun : World) → KeyRead key user old begun → KeptSo (desk_of user) old.host (begins user begun)
     begun_so user begun read = record { keeps = read_keeps (desk_of user) old.host begun.host read.disk; image = image_on old.host begun.host read.disk image }
-    ends : (user : List ℕ) (last : DeskState) (host : HostState) → new.host ≡ host → KeepsDesk (desk_of user) last old.host host → KeepsBooks old new
+    ends : (user : List ℕ) (last : DeskState) (host : HostState) → new.host ≡ host → KeepsDesk (desk_of user) last old.host host → RunsBooks old new
     ends user last host is keeps = run_from (desk_of user) last old.host new.host (λ k. same_all SEATS k None) (subst (λ (h : HostState). KeepsDesk (desk_of user) last old.host h) (sym is) keeps) image
-    by_goes : (ending : Result ℕ Fault) → ScriptGoes key ending old (with_log new old.log) → KeepsBooks old new
+    by_goes : (ending : Result ℕ Fault) → ScriptGoes key ending old (with_log new old.log) → RunsBooks old new
     by_goes ending (no_key fault falls is) = ends [] (desk_of []) new.host refl (read_keeps (desk_of []) old.host new.host falls.outcome.leaves)
     by_goes ending (no_reader user read is) = ends user (desk_of user) new.host refl (read_keeps (desk_of user) old.host new.host read.disk)
     by_goes ending (no_line user begun earlier last now fault read lines stopped same is) =

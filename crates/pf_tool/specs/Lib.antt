@@ -27,6 +27,6 @@ pub mod Summing
 pub mod Replying
 pub mod Scripting
 pub mod Transcripts
+pub mod BookScripts
 pub mod Contents
 pub mod Runs
-pub mod BookScripts

@@ -11,7 +11,7 @@ use Rattle.pf_io.specs.Streams.{TakesFront}
 use Rattle.pf_io.specs.Answered.{WereTold}
 use Rattle.pf_io.specs.Unchanged.{KeepsDisk}
 use Rattle.pf_script.specs.Book.{Book}
-use Rattle.pf_script.specs.BookLaws.{StartsWith, RunKeeps}
+use Rattle.pf_script.specs.BookLaws.{StartsWith}
 use Rattle.pf_script.specs.LineReading.{MOST_READS}
 use Rattle.pf_tool.specs.World.{World, with_log}
 use Rattle.pf_tool.specs.Events.{Event, answers_in}
@@ -26,6 +26,7 @@ use Rattle.pf_tool.specs.Encrypting.{EncryptRefused, EncryptGoes, EncryptOver, I
 use Rattle.pf_tool.specs.Keys.{KeyRefused, KeyOver}
 use Rattle.pf_tool.specs.Scripting.{ScriptGoes}
 use Rattle.pf_tool.specs.Transcripts.{TookScript}
+use Rattle.pf_tool.specs.BookScripts.{KeepsScript}
 use Rattle.pf_tool.specs.SealedContents.{GavePieces, GaveSealed}
 use Rattle.pf_tool.specs.Contents.{TookContent}
 use Rattle.pf_tool.specs.Manifests.{ManifestLeads, ManifestLeaves, ManifestOver, GaveRendered, IsRendered}
@@ -216,15 +217,15 @@ pub record OutputEnds (output : Name) (IsNew : Disk → Option (List ℕ) → Ty
 abbrev pub LeavesOutput : Name → (Disk → Option (List ℕ) → Type 0) → World → World → ℕ → Type 0
 LeavesOutput output IsNew old new status = OnDisk old.host new.host (Ran (OutputLeft output IsNew (MayBeNew old new status)) (OutputEnds output IsNew (MayBeNew old new status) (status ≡ 0)))
 
--- for each book with which a run may begin, each image is as the book says at some point of the run, and in the end the book after it agrees with the disk
-abbrev pub KeepsBooks : World → World → Type 0
-KeepsBooks old new = OnDisk old.host new.host (λ before after. (book : Book) → StartsWith book before.now → RunKeeps book before after)
+-- for each book with which a run may begin: what each of its exchanges did to names, with the images of every moment as the book says, and in the end the book after them agrees with the disk
+abbrev pub KeepsBooks : World → World → ℕ → Type 0
+KeepsBooks old new status = OnDisk old.host new.host (λ before after. (book : Book) → StartsWith book before.now → KeepsScript old new status book before after)
 
 -- a run at every moment of it, and in the end, on an honest disk
 abbrev pub OnDisks : Request → World → World → ℕ → Type 0
 OnDisks (Decrypt key input) old new status = KeepsDisk old.host new.host
 OnDisks (Encrypt key input output) old new status = LeavesOutput output (IsVersion key input output) old new status
-OnDisks (Session key) old new status = KeepsBooks old new
+OnDisks (Session key) old new status = KeepsBooks old new status
 OnDisks (Manifest values template None) old new status = KeepsDisk old.host new.host
 OnDisks (Manifest values template (Some output)) old new status = LeavesOutput output (IsRendered values template) old new status
 OnDisks (Sums manifest None) old new status = KeepsDisk old.host new.host
