@@ -1,5 +1,5 @@
 //! The tree of a protected file's nodes.
-ghost use Rattle.std.specs.Prelude.{◌≡◌, ◌+◌, ◌^◌, ◌-◌, min, ◌<◌, ◌≤◌, ◌==◌, ℕ, List, [], length, replicate, slice_index, if◌then◌else◌, IfOk, OnErr, is_some};
+ghost use Rattle.std.specs.Prelude.{◌≡◌, ◌+◌, ◌^◌, ◌-◌, min, ◌<◌, ◌≤◌, ◌==◌, ℕ, List, [], length, replicate, slice_index, if◌then◌else◌, IfOk, IsOk, OnErr, is_some};
 ghost use Rattle.pf_io.specs.Counts.{HasCause};
 ghost use Rattle.pf_io.specs.Host.{KeepsRest};
 ghost use Rattle.pf_io.specs.Unchanged.{KeepsDisk};
@@ -69,6 +69,7 @@ impl Tree {
     /// The tree of a file with these metadata, whose size is at most 2^32. It holds no node. `Memory` is want of memory.
     pub fn from_meta(alloc: Global, meta: &MetaSecret) -> Result<Tree, Memory>
         requires { meta.now.size ≤ 2 ^ 32 }
+        ensures made { IsOk result }
         ensures fields { IfOk result (λ tree. tree ≡ record { size = meta.now.size; first = meta.now.first; root_key = meta.now.root_key; root_tag = meta.now.root_tag; base = node_count meta.now.size; held = []; dirty = [] }) }
         ensures backed { IfOk result (λ tree. (sheet : Sheet) → IsLinked sheet → IsMetaOf sheet meta.now → Backs sheet tree × (now sheet tree ≡ sheet.content)) }
         ensures of_file { IfOk result (λ tree. (file : List ℕ) → IsOfFile file tree) }

@@ -15,19 +15,19 @@ use Rattle.pf_session.specs.declared.open_fault.OpenFault.TheVariants as faults
 use Rattle.pf_session.proofs.OpenStanding.{failed, not_block}
 
 one_refusal : (block : List ℕ) (fault other : OpenFault) → BlockRefused block fault → BlockRefused block other → fault ≡ other
-one_refusal block f g (not_protected a is) (not_protected a' is') = is ∙ sym is'
-one_refusal block f g (not_protected a is) (node_short a' b' is') = absurd (a a')
-one_refusal block f g (not_protected a is) (update_pending a' b' c' is') = absurd (a a')
-one_refusal block f g (not_protected a is) (other_version m n b' c' d' is') = absurd (a d'.0)
-one_refusal block f g (node_short a b is) (not_protected a' is') = absurd (a' a)
+one_refusal block f g (not_protected few a is) (not_protected few' a' is') = is ∙ sym is'
+one_refusal block f g (not_protected few a is) (node_short a' b' is') = absurd (a a')
+one_refusal block f g (not_protected few a is) (update_pending a' b' c' is') = absurd (a a')
+one_refusal block f g (not_protected few a is) (other_version m n b' c' d' is') = absurd (a d'.0)
+one_refusal block f g (node_short a b is) (not_protected few' a' is') = absurd (a' a)
 one_refusal block f g (node_short a b is) (node_short a' b' is') = is ∙ sym is'
 one_refusal block f g (node_short a b is) (update_pending a' b' c' is') = absurd (omega (arith, b, b'))
 one_refusal block f g (node_short a b is) (other_version m n b' c' d' is') = absurd (omega (arith, b, b'))
-one_refusal block f g (update_pending a b c is) (not_protected a' is') = absurd (a' a)
+one_refusal block f g (update_pending a b c is) (not_protected few' a' is') = absurd (a' a)
 one_refusal block f g (update_pending a b c is) (node_short a' b' is') = absurd (omega (arith, b, b'))
 one_refusal block f g (update_pending a b c is) (update_pending a' b' c' is') = is ∙ sym is'
 one_refusal block f g (update_pending a b c is) (other_version m n b' c' d' is') = absurd (c c')
-one_refusal block f g (other_version m n b c d is) (not_protected a' is') = absurd (a' d.0)
+one_refusal block f g (other_version m n b c d is) (not_protected few' a' is') = absurd (a' d.0)
 one_refusal block f g (other_version m n b c d is) (node_short a' b' is') = absurd (omega (arith, b, b'))
 one_refusal block f g (other_version m n b c d is) (update_pending a' b' c' is') = absurd (c' c)
 one_refusal block f g (other_version m n b c d is) (other_version m' n' b' c' d' is') = is ∙ ap₂ (λ (x y : ℕ). faults.BadVersion x y) (d.1 ∙ sym d'.1) (d.2 ∙ sym d'.2) ∙ sym is'

@@ -29,7 +29,7 @@ of_kind : (kind : Kind) → kind ≢ kinds.Text → IsNoText (failed (damaged_ze
 of_kind kind other = other
 
 of_block : (block : List ℕ) (fault : OpenFault) → BlockRefused block fault → IsNoText (failed fault)
-of_block block fault (not_protected other is) = of_fault fault faults.NotProtected is tt
+of_block block fault (not_protected few other is) = of_fault fault faults.NotProtected is tt
 of_block block fault (node_short there short is) = of_fault fault (damaged_zero kinds.Short) is (of_kind kinds.Short (λ same. absurd (cc)))
 of_block block fault (update_pending there whole flag is) = of_fault fault faults.Unbuilt is tt
 of_block block fault (other_version major minor whole flag other is) = of_fault fault (faults.BadVersion major minor) is tt

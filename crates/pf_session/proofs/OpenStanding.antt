@@ -49,6 +49,26 @@ use Rattle.pf_session.specs.declared.open_fault.OpenFault.{OpenFault}
 use Rattle.pf_session.specs.declared.open_fault.OpenFault.TheVariants as faults
 use Rattle.pf_session.proofs.Backed.{path_same, stands_on}
 
+block_early : (block : List ℕ) (fault : OpenFault) → BlockRefused block fault → fault ≡ faults.Memory → ⊥
+block_early block fault (not_protected few other is) memory = absurd (cc)
+block_early block fault (node_short magic short is) memory = absurd (cc)
+block_early block fault (update_pending magic whole flag is) memory = absurd (cc)
+block_early block fault (other_version major minor whole flag version is) memory = absurd (cc)
+
+-- behind a call no memory is wanted
+pub node_early : (name : Name) (before after : HostState) (fault : OpenFault) → NodeRefused name before after fault → fault ≡ faults.Memory → ⊥
+node_early name before after fault (node_absent asked is) memory = absurd (cc)
+node_early name before after fault (node_refused size block asked refused) memory = block_early block fault refused memory
+node_early name before after fault (no_length asked is) memory = absurd (cc)
+node_early name before after fault (no_bytes size asked is) memory = absurd (cc)
+
+pub secret_early : (key : List ℕ) (path : Option (List ℕ)) (block : List ℕ) (fault : OpenFault) → SecretRefused key path block fault → fault ≡ faults.Memory → ⊥
+secret_early key path block fault (not_opened kind open_fault is) memory = absurd (cc)
+secret_early key path block fault (other_path secret given opens path_is other is) memory = absurd (cc)
+
+pub not_early : (fault : OpenFault) → (fault ≡ faults.Memory → ⊥) → ◌≡◌ {A = Result SessionState OpenFault} (Err fault) (Err faults.Memory) → ⊥
+not_early fault other same = other cc
+
 abbrev pub failed : OpenFault → Result SessionState OpenFault
 failed fault = Err fault
 
@@ -66,7 +86,7 @@ version (inr other) one none = other none
 
 -- a node 0 that can be opened is not refused
 pub not_block : (block : List ℕ) → IsOpenable block → (fault : OpenFault) → BlockRefused block fault → ⊥
-not_block block openable fault (not_protected other is) = other openable.plain.magic_is
+not_block block openable fault (not_protected few other is) = other openable.plain.magic_is
 not_block block openable fault (node_short there short is) = let whole = openable.whole in omega arith
 not_block block openable fault (update_pending there whole flag is) = flag openable.flag
 not_block block openable fault (other_version major minor whole flag other is) = version other.3 (other.1 ∙ openable.plain.major) (other.2 ∙ openable.plain.minor)

@@ -1,5 +1,5 @@
 -- What an opening comes to, by the answers of the call.
-use Rattle.std.specs.Prelude.{◌≡◌, ◌≢◌, ℕ, ◌<◌, List, [], ◌∷◌, length, take, Option, Some, None, IfSome, Result, Ok, Err, Bool, false}
+use Rattle.std.specs.Prelude.{◌≡◌, ◌≢◌, ℕ, ◌<◌, ◌≤◌, List, [], ◌∷◌, length, take, Option, Some, None, IfSome, Result, Ok, Err, Bool, false}
 use Rattle.node_layout.specs.Metadata.{IsPath, IsPlain, magic, flag_at, nonce_at}
 use Rattle.node_layout.specs.Faults.{IsPlainFault}
 use Rattle.node_layout.specs.Opening.{OpensTo, IsOpenFault}
@@ -37,7 +37,7 @@ damaged_zero kind = let damage : Damage = record { node = 0; kind = kind } in fa
 
 -- why the bytes given of node 0 are not such: the first cause; fewer than 8 bytes are no magic
 pub data BlockRefused (block : List ℕ) (fault : OpenFault) : Type 0 where
-  not_protected : take 8 block ≢ magic → fault ≡ faults.NotProtected → BlockRefused block fault
+  not_protected : length block ≤ 4096 → take 8 block ≢ magic → fault ≡ faults.NotProtected → BlockRefused block fault
   node_short : take 8 block ≡ magic → length block < 4096 → fault ≡ damaged_zero Short → BlockRefused block fault
   update_pending : take 8 block ≡ magic → length block ≡ 4096 → flag_at block ≢ 0 → fault ≡ faults.Unbuilt → BlockRefused block fault
   other_version : (major minor : ℕ) → length block ≡ 4096 → flag_at block ≡ 0 → IsPlainFault block (plain_faults.BadVersion major minor) → fault ≡ faults.BadVersion major minor → BlockRefused block fault
@@ -105,3 +105,7 @@ pub data NodeRefused (name : Name) (before after : HostState) (fault : OpenFault
   node_refused : (size : ℕ) (block : List ℕ) → OnlyAsked (node_answers name size block) NoCall before after → BlockRefused block fault → NodeRefused name before after fault
   no_length : OnlyAsked [] AnotherCall before after → fault ≡ faults.Host → NodeRefused name before after fault
   no_bytes : (size : ℕ) → OnlyAsked (LengthWas name (Some size) ∷ []) AReading before after → fault ≡ faults.Host → NodeRefused name before after fault
+
+-- memory is wanting before any call of the host
+abbrev pub WantsEarly : Result SessionState OpenFault → HostState → HostState → Type 0
+WantsEarly result before after = result ≡ Err faults.Memory → after ≡ before

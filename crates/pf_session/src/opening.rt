@@ -1,5 +1,5 @@
 // The opening of a protected file.
-ghost use Rattle.std.specs.Prelude.{◌≡◌, ◌≤◌, ◌↔◌, ◌^◌, IsTrue, IfOk, ℕ, List, Ok, None, false, option_map};
+ghost use Rattle.std.specs.Prelude.{◌≡◌, ◌≤◌, ◌↔◌, ◌^◌, IsTrue, IsOk, IfOk, ℕ, List, Ok, None, false, option_map};
 ghost use Rattle.pf_io.specs.Counts.{HasCause};
 ghost use Rattle.pf_io.specs.Host.{OnDisk};
 ghost use Rattle.pf_io.specs.Names.{IsTarget, side_of};
@@ -7,7 +7,7 @@ ghost use Rattle.node_layout.specs.Metadata.{IsPath};
 ghost use Rattle.pf_io.specs.Unchanged.{KeepsDisk};
 ghost use Rattle.node_tree.specs.Fetching.{CountsReads};
 ghost use Rattle.node_tree.specs.Reading.{IsOfFile};
-ghost use Rattle.pf_session.specs.Opening.{AreGood, Opens, opening_part};
+ghost use Rattle.pf_session.specs.Opening.{AreGood, Opens, WantsEarly, opening_part};
 ghost use Rattle.pf_session.specs.State.{unread};
 ghost use Rattle.pf_session.specs.Carries.{OpensOnCarried, OpensOnFirst, OpensNoText, OpensStanding};
 ghost use Rattle.pf_session.specs.Aside.{Aside};
@@ -46,6 +46,7 @@ fn make(
     requires target { IsTarget name }
     requires side { side ≡ side_of name }
     requires path { IsPath secret.path }
+    ensures made { IsOk result }
     ensures fields { IfOk result (λ s. s ≡ record { key = key.now; name = name; path = secret.path; nonce = nonce; drawn = None; tree = unread secret; changed = false; broken = false; beside = false }) }
 {
     let tree = Tree::from_meta(alloc, &secret)?;
@@ -70,7 +71,7 @@ impl Session {
     /// `NotFound` where no file has the name, `NotProtected` where it does not begin with `GRPFTOOL`, `Damaged` with `Short`
     /// where node 0 is short, `Unbuilt` where an update is pending, `BadVersion` where the version is not 1.0, `Damaged` with
     /// `Tag` or `Text` where node 0 does not open under the key, and `WrongPath` where it is stored under another path than
-    /// the given one. `Host` comes where a call of the host failed, and `Memory` is want of memory.
+    /// the given one. `Host` comes where a call of the host failed, and `Memory` is want of memory, before any call.
     pub fn open<H: Host>(
         alloc: Global,
         host: &mut H,
@@ -90,6 +91,7 @@ impl Session {
         ensures standing { OpensStanding key.now name.now (option_map (λ p. p.now) path.entry) result (H.state host.old) }
         ensures reopens { IfOk result (λ session. OnDisk (H.state host.old) (H.state host.new) (OpensEither session)) }
         ensures of_file { IfOk result (λ session. (file : List ℕ) → IsOfFile file session.tree) }
+        ensures early { WantsEarly result (H.state host.old) (H.state host.new) }
     {
         if !are_good(name, path) {
             return Err(OpenFault::BadName);

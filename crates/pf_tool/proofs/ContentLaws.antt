@@ -29,8 +29,9 @@ use Rattle.pf_io.proofs.Answering.{all_append}
 use Rattle.pf_tool.specs.Events.{Event, Answers, Draws, Puts, answers_in, pieces_in}
 use Rattle.pf_tool.specs.Endings.{Ending, Done, Damaged, Stop, AtEnd, Failed, Starved, tried}
 use Rattle.pf_tool.specs.Keys.{KeyRefused, key_unnamed, key_absent, key_length, key_short, key_events}
-use Rattle.pf_tool.specs.Decrypting.{NodeRefused, not_protected, node_short, node_unbuilt, node_damaged, end_of, node_refused, pieces_read, node_events, last_events, piece_events, Unseals, input_unnamed, input_absent, input_read, DecryptLeads, decrypt_key_refused, decrypt_key_read}
+use Rattle.pf_tool.specs.Decrypting.{NodeRefused, not_protected, node_short, node_pending, node_version, node_damaged, end_of, node_refused, pieces_read, node_events, last_events, piece_events, Unseals, input_unnamed, input_absent, input_read, DecryptLeads, decrypt_key_refused, decrypt_key_read}
 use Rattle.pf_tool.specs.Decrypting as decrypting
+use Rattle.pf_session.specs.Opening.{IsOpenable}
 use Rattle.pf_tool.specs.Unsealing.{opening_events}
 use Rattle.pf_tool.specs.Contents.{ArePiecesOf, IsCarried, IsOfSheets, DecryptsSheets}
 use Rattle.pf_tool.proofs.Composing.{answers_then, pieces_then}
@@ -162,7 +163,7 @@ record Deep (key input : Name) (es : List Event) (ending : Ending) : Type 0 wher
   pub pieces : List (List ℕ)
   pub end : Option Damage
   pub secret : MetaSecret
-  pub whole : decrypting.IsOpenable (block_of file 0)
+  pub whole : IsOpenable (block_of file 0)
   pub opens_to : OpensTo user (block_of file 0) secret
   pub are : ArePiecesFrom file secret 0 pieces end
   pub es_are : es ≡ (key_events key user ++ opening_events input size (block_of file 0)) ++ piece_events input file 0 pieces (end_of end)
@@ -189,7 +190,8 @@ key_shallow key es ending (key_short bytes named short is ends) = one_ending _ e
 node_shallow : (user node : List ℕ) (ending : Ending) → NodeRefused user node ending → (es : List Event) → pieces_in es ≡ [] → Shallow es ending
 node_shallow user node ending (not_protected other is) es silent = one_ending _ ending (λ d. absurd (cc)) (λ k kind low d. absurd (cc)) is es silent
 node_shallow user node ending (node_short magic short is) es silent = one_ending _ ending (λ d. absurd (cc)) (λ k kind low d. damaged_0 _ k kind low d) is es silent
-node_shallow user node ending (node_unbuilt magic long why is) es silent = one_ending _ ending (λ d. absurd (cc)) (λ k kind low d. absurd (cc)) is es silent
+node_shallow user node ending (node_pending magic long flag is) es silent = one_ending _ ending (λ d. absurd (cc)) (λ k kind low d. absurd (cc)) is es silent
+node_shallow user node ending (node_version major minor long none version is) es silent = one_ending _ ending (λ d. absurd (cc)) (λ k kind low d. absurd (cc)) is es silent
 node_shallow user node ending (node_damaged kind whole fault is) es silent = one_ending _ ending (λ d. absurd (cc)) (λ k other low d. damaged_0 kind k other low d) is es silent
 
 deep_or : (key input : Name) (es : List Event) (ending : Ending) → DecryptLeads key input es ending → Deep key input es ending ⊎ Shallow es ending
@@ -360,7 +362,8 @@ module _ (key input : Name) (user : List ℕ) (sheets : List Sheet) where
   text_never es ending (decrypt_key_read user' rest has is (input_read size file pieces target (node_refused (not_protected other ends) none) are)) text has_key unforged = absurd (cc)
   text_never es ending (decrypt_key_read user' rest has is (input_read size file pieces target (node_refused (node_short magic short ends) none) are)) text has_key unforged =
       absurd (let kinds_same : kinds.Short ≡ kinds.Text = cc in cc)
-  text_never es ending (decrypt_key_read user' rest has is (input_read size file pieces target (node_refused (node_unbuilt magic long why ends) none) are)) text has_key unforged = absurd (cc)
+  text_never es ending (decrypt_key_read user' rest has is (input_read size file pieces target (node_refused (node_pending magic long flag ends) none) are)) text has_key unforged = absurd (cc)
+  text_never es ending (decrypt_key_read user' rest has is (input_read size file pieces target (node_refused (node_version major minor long zero_flag version ends) none) are)) text has_key unforged = absurd (cc)
   text_never es ending (decrypt_key_read user' rest has is (input_read size file pieces target (node_refused (node_damaged kind whole fault ends) none) are)) text has_key unforged =
       let is_text : kind ≡ kinds.Text = cc in
       let all : es ≡ key_events key user' ++ opening_events input size (block_of file 0) =

@@ -19,6 +19,7 @@ use Rattle.pf_tool.specs.Endings.{Ending, Done, Damaged, Refused, BadName, NotFo
 use Rattle.pf_tool.specs.Keys.{IsKeyOf, KeyRefused, key_unnamed, key_absent, key_length, key_short, key_events, KeyOver}
 use Rattle.pf_tool.specs.Decrypting.{end_of, ComesTo, node_refused, pieces_read, node_events, last_events, piece_events, Unseals, input_unnamed, input_absent, input_read, DecryptLeads, decrypt_key_refused, decrypt_key_read, DecryptOver, decrypt_no_key, decrypt_unnamed, decrypt_no_input, decrypt_file}
 use Rattle.pf_tool.specs.Decrypting as decrypting
+use Rattle.pf_session.specs.Opening.{IsOpenable}
 use Rattle.pf_tool.proofs.Composing.{answers_then, words_then, pieces_then}
 use Rattle.pf_tool.proofs.SameBlocks.{SameTo, same_sooner, same_whole}
 use Rattle.pf_tool.proofs.Following.{range_events, own_nodes, nodes_same, all_split, length-whole}
@@ -246,7 +247,7 @@ front_file : (user : List ℕ) (input : Name) (files : Files) (file : List ℕ) 
 front_file user input files file pieces others ending given es more (node_refused refused none) gives first same all =
     took_none es others (front_silent es more (piece_events input file 0 pieces ending) same (ap (λ (l : List Event). pieces_in l) (refused_events user file pieces ending refused none input file)))
 front_file user input files file pieces others ending given es more (pieces_read end whole are is) (node_refused refused none) first same all =
-    absurd (not_refused user (block_of (contents (files input)) 0) given are.secret (subst decrypting.IsOpenable first whole) (subst (λ (b : List ℕ). OpensTo user b are.secret) first are.opens_to) refused)
+    absurd (not_refused user (block_of (contents (files input)) 0) given are.secret (subst IsOpenable first whole) (subst (λ (b : List ℕ). OpensTo user b are.secret) first are.opens_to) refused)
 front_file user input files file pieces others ending given es more (pieces_read end whole are is) (pieces_read end2 whole2 are2 is2) first same all =
     let one = opens_to_one user (block_of (contents (files input)) 0) are2.secret are.secret are2.opens_to (subst (λ (b : List ℕ). OpensTo user b are.secret) first are.opens_to) in
     front_from input files file are.secret 0 pieces others end end2 es more (λ some k lt. let e : k ≡ 0 = omega arith in subst (λ (j : ℕ). block_of file j ≡ block_of (contents (files input)) j) (sym e) first) are.pieces_are

@@ -1,5 +1,5 @@
 -- No event is behind the answers that lead to a refusal or a damage.
-use Rattle.std.proofs.Common.{◌≡◌, ◌≢◌, inl, inr, ℕ, zero, suc, ◌+◌, ◌-◌, ◌*◌, ◌<◌, ◌≤◌, min, List, [], ◌∷◌, ◌++◌, length, ap, ◌∙◌, sym, arith, subst, append_assoc, Some, None, Result, Ok, Err}
+use Rattle.std.proofs.Common.{◌≡◌, ◌≢◌, inl, inr, ⊎_elim, ℕ, zero, suc, ◌+◌, ◌-◌, ◌*◌, ◌<◌, ◌≤◌, min, List, [], ◌∷◌, ◌++◌, length, ap, ◌∙◌, sym, arith, subst, append_assoc, Some, None, Result, Ok, Err}
 use Rattle.std.proofs.lemmas.Bool.{cases_lt}
 use Rattle.std.proofs.lemmas.List.{append-nil, append_cancel_left}
 use Rattle.node_layout.specs.Places.{node_count}
@@ -10,14 +10,13 @@ use Rattle.node_tree.specs.Parts.{IsWhole, IsBroken, PIECE, ArePiecesFrom}
 use Rattle.node_tree.proofs.Lively.{touched_low}
 use Rattle.node_tree.proofs.Parting.{one_part}
 use Rattle.pf_io.specs.Disk.{Name}
-use Rattle.pf_io.specs.Host.{Answer, LengthWas, Gave, Wrote, Synced, Made}
-use Rattle.pf_io.specs.Names.{side_of}
+use Rattle.pf_io.specs.Host.{Answer, LengthWas, Gave}
 use Rattle.pf_tool.specs.Events.{Event, Answers, Draws, Puts, answers_in}
 use Rattle.pf_tool.specs.Endings.{Ending, Done}
 use Rattle.pf_tool.specs.Keys.{KeyRefused, key_unnamed, key_absent, key_length, key_short, key_events}
 use Rattle.pf_tool.specs.Decrypting.{end_of, ComesTo, node_refused, pieces_read, node_events, piece_events, Unseals, input_unnamed, input_absent, input_read, DecryptLeads, decrypt_key_refused, decrypt_key_read}
 use Rattle.pf_tool.specs.Encrypting as encrypting
-use Rattle.pf_tool.specs.Encrypting.{MOST_FIRST, Seals, output_unnamed, input_unfit, input_large, published, EncryptLeads, encrypt_key_refused, encrypt_key_read}
+use Rattle.pf_tool.specs.Encrypting.{EncryptRefused, no_key, names_unfit}
 use Rattle.pf_tool.proofs.Following.{range_events}
 use Rattle.pf_tool.proofs.OneFile.{refused_events}
 use Rattle.pf_tool.proofs.Fronts.{root_entry, AreOpen, whole_next}
@@ -134,17 +133,10 @@ decrypt_answered key input es ending (decrypt_key_read user rest has is (input_r
     behind_key key user es rest (Answers (LengthWas input (Some size)) ∷ Answers (Gave input 0 4096 (block_of file 0)) ∷ piece_events input file 0 pieces ending) is are
     (comes_answered user input file pieces ending comes other (Answers (LengthWas key (Some 16)) ∷ Answers (Gave key 0 16 user) ∷ Answers (LengthWas input (Some size)) ∷ []) (Gave input 0 4096 (block_of file 0)))
 
-seals_answered : (key : Name) (user : List ℕ) (input output : Name) (es rest : List Event) (ending : Ending) → es ≡ key_events key user ++ rest → Seals user input output rest ending → ending ≢ Done → EndsAnswered es
-seals_answered key user input output es rest ending is (output_unnamed u are ends) other = behind_key key user es rest [] is are tt
-seals_answered key user input output es rest ending is (input_unfit target u are ends) other = behind_key key user es rest [] is are tt
-seals_answered key user input output es rest ending is (encrypting.input_absent target fit are ends) other = behind_key key user es rest (Answers (LengthWas input None) ∷ []) is are tt
-seals_answered key user input output es rest ending is (input_large size first second bytes target fit large are ends) other =
-    behind_key key user es rest (encrypting.read_events user input output size first second bytes) is are tt
-seals_answered key user input output es rest ending is (published size first second third fourth content target fit small are ends) other = absurd (other ends)
-
-pub encrypt_answered : (key input output : Name) (es : List Event) (ending : Ending) → EncryptLeads key input output es ending → ending ≢ Done → EndsAnswered es
-encrypt_answered key input output es ending (encrypt_key_refused refused) other = key_answered key es ending refused
-encrypt_answered key input output es ending (encrypt_key_read user rest has is seals) other = seals_answered key user input output es rest ending is seals other
+pub encrypt_answered : (key input output : Name) (es : List Event) (ending : Ending) → EncryptRefused key input output es ending → EndsAnswered es
+encrypt_answered key input output es ending (no_key refused) = key_answered key es ending refused
+encrypt_answered key input output es ending (names_unfit user has unfit is ends) = subst EndsAnswered (sym is) tt
+encrypt_answered key input output es ending (encrypting.input_absent user has target fit is ends) = subst EndsAnswered (sym is) tt
 
 -- what is behind all answers
 none_behind : (xs more : List Answer) → xs ++ more ≡ xs → more ≡ []
@@ -208,67 +200,25 @@ decrypt_no_more key input es others more e f (decrypt_key_read user rest has is 
     let runs = unseals_one user input rest rest2 more e f unseals (subst (λ (u : List ℕ). Unseals u input rest2 f) one unseals2) behind in
     none_behind (answers_in rest) more (behind ∙ ap (λ (l : List Event). answers_in l) (sym runs.0))
 
-five_same : (a a2 b b2 c c2 d d2 e e2 : Answer) (xs ys : List Answer) → a ∷ b ∷ c ∷ d ∷ e ∷ xs ≡ a2 ∷ b2 ∷ c2 ∷ d2 ∷ e2 ∷ ys → (e ≡ e2) × (xs ≡ ys)
-five_same a a2 b b2 c c2 d d2 e e2 xs ys same = (cc, cc)
+module _ (key input output : Name) (es others : List Event) (more : List Answer) (same : answers_in es ++ more ≡ answers_in others) where
+  abbrev absent : List Event
+  absent = Answers (LengthWas input None) ∷ []
 
-gave_same : (name : Name) (place room : ℕ) (a b : List ℕ) → Gave name place room a ≡ Gave name place room b → a ≡ b
-gave_same name place room a b same = cc
-
-absent_apart : (input : Name) (size : ℕ) (xs ys : List Answer) → LengthWas input None ∷ xs ≡ LengthWas input (Some size) ∷ ys → ⊥
-absent_apart input size xs ys same = absurd (cc)
-
-module _ (user : List ℕ) (input output : Name) (es others : List Event) (more : List Answer) (same : answers_in es ++ more ≡ answers_in others) where
-  beside : (all all2 : List Event) → es ≡ all → others ≡ all2 → answers_in all ++ more ≡ answers_in all2
-  beside all all2 is is2 = with_more es all more (answers_in all2) is (same ∙ ap (λ (l : List Event). answers_in l) is2)
-
-  abbrev Wrote_first : List ℕ → List ℕ → Answer
-  Wrote_first first second = Wrote (side_of output) 0 (encrypting.node_of user (first ++ second) output [])
-
-  seals_more : (e f : Ending) → e ≢ Done → Seals user input output es e → Seals user input output others f → more ≡ []
-  seals_more e f other (output_unnamed u is ends) (output_unnamed u2 is2 ends2) = beside [] [] is is2
-  seals_more e f other (output_unnamed u is ends) (input_unfit target u2 is2 ends2) = absurd (u target)
-  seals_more e f other (output_unnamed u is ends) (encrypting.input_absent target fit is2 ends2) = absurd (u target)
-  seals_more e f other (output_unnamed u is ends) (input_large size first second bytes target fit large is2 ends2) = absurd (u target)
-  seals_more e f other (output_unnamed u is ends) (published size first second third fourth content target fit small is2 ends2) = absurd (u target)
-  seals_more e f other (input_unfit target u is ends) (output_unnamed u2 is2 ends2) = absurd (u2 target)
-  seals_more e f other (input_unfit target u is ends) (input_unfit target2 u2 is2 ends2) = beside [] [] is is2
-  seals_more e f other (input_unfit target u is ends) (encrypting.input_absent target2 fit is2 ends2) = absurd (u fit)
-  seals_more e f other (input_unfit target u is ends) (input_large size first second bytes target2 fit large is2 ends2) = absurd (u fit)
-  seals_more e f other (input_unfit target u is ends) (published size first second third fourth content target2 fit small is2 ends2) = absurd (u fit)
-  seals_more e f other (encrypting.input_absent target fit is ends) (output_unnamed u is2 ends2) = absurd (u target)
-  seals_more e f other (encrypting.input_absent target fit is ends) (input_unfit target2 u is2 ends2) = absurd (u fit)
-  seals_more e f other (encrypting.input_absent target fit is ends) (encrypting.input_absent target2 fit2 is2 ends2) =
-      let all : LengthWas input None ∷ more ≡ LengthWas input None ∷ [] = beside (Answers (LengthWas input None) ∷ []) (Answers (LengthWas input None) ∷ []) is is2 in
+  -- behind keys that were read
+  behind : (user user2 : List ℕ) (xs ys : List Event) → es ≡ key_events key user ++ xs → others ≡ key_events key user2 ++ ys → answers_in xs ++ more ≡ answers_in ys
+  behind user user2 xs ys is is2 =
+      let all : LengthWas key (Some 16) ∷ Gave key 0 16 user ∷ (answers_in xs ++ more) ≡ LengthWas key (Some 16) ∷ Gave key 0 16 user2 ∷ answers_in ys = alike key es others more same (key_events key user ++ xs) (key_events key user2 ++ ys) is is2 in
       cc
-  seals_more e f other (encrypting.input_absent target fit is ends) (input_large size first second bytes target2 fit2 large is2 ends2) =
-      absurd (absent_apart input size more (Made (side_of output) ∷ Wrote_first first second ∷ Synced (side_of output) ∷ Gave input 0 3073 bytes ∷ [])
-      (beside (Answers (LengthWas input None) ∷ []) (encrypting.read_events user input output size first second bytes) is is2))
-  seals_more e f other (encrypting.input_absent target fit is ends) (published size first second third fourth content target2 fit2 small is2 ends2) =
-      absurd (absent_apart input size more (Made (side_of output) ∷ Wrote_first first second ∷ Synced (side_of output) ∷ Gave input 0 3073 content ∷ answers_in (encrypting.published_events user output third fourth content))
-      (beside (Answers (LengthWas input None) ∷ []) (encrypting.read_events user input output size first second content ++ encrypting.published_events user output third fourth content) is is2))
-  seals_more e f other (input_large size first second bytes target fit large is ends) (output_unnamed u is2 ends2) = absurd (u target)
-  seals_more e f other (input_large size first second bytes target fit large is ends) (input_unfit target2 u is2 ends2) = absurd (u fit)
-  seals_more e f other (input_large size first second bytes target fit large is ends) (encrypting.input_absent target2 fit2 is2 ends2) =
-      absurd (absent_apart input size [] (Made (side_of output) ∷ Wrote_first first second ∷ Synced (side_of output) ∷ Gave input 0 3073 bytes ∷ more)
-      (sym (beside (encrypting.read_events user input output size first second bytes) (Answers (LengthWas input None) ∷ []) is is2)))
-  seals_more e f other (input_large size first second bytes target fit large is ends) (input_large size2 first2 second2 bytes2 target2 fit2 large2 is2 ends2) =
-      (five_same (LengthWas input (Some size)) (LengthWas input (Some size2)) (Made (side_of output)) (Made (side_of output)) (Wrote_first first second) (Wrote_first first2 second2)
-      (Synced (side_of output)) (Synced (side_of output)) (Gave input 0 3073 bytes) (Gave input 0 3073 bytes2) more []
-      (beside (encrypting.read_events user input output size first second bytes) (encrypting.read_events user input output size2 first2 second2 bytes2) is is2)).1
-  seals_more e f other (input_large size first second bytes target fit large is ends) (published size2 first2 second2 third fourth content target2 fit2 small is2 ends2) =
-      let alike = gave_same input 0 3073 bytes content
-      (five_same (LengthWas input (Some size)) (LengthWas input (Some size2)) (Made (side_of output)) (Made (side_of output)) (Wrote_first first second) (Wrote_first first2 second2)
-      (Synced (side_of output)) (Synced (side_of output)) (Gave input 0 3073 bytes) (Gave input 0 3073 content) more (answers_in (encrypting.published_events user output third fourth content))
-      (beside (encrypting.read_events user input output size first second bytes) (encrypting.read_events user input output size2 first2 second2 content ++ encrypting.published_events user output third fourth content) is is2)).0 in
-      absurd (omega (arith, large, small, ap (λ (l : List ℕ). length l) alike))
-  seals_more e f other (published size first second third fourth content target fit small is ends) seals = absurd (other ends)
 
-pub encrypt_no_more : (key input output : Name) (es others : List Event) (more : List Answer) (e f : Ending) → e ≢ Done → EncryptLeads key input output es e → EncryptLeads key input output others f → answers_in es ++ more ≡ answers_in others → more ≡ []
-encrypt_no_more key input output es others more e f other (encrypt_key_refused refused) (encrypt_key_refused refused2) same = key_more key es others more same e f refused refused2
-encrypt_no_more key input output es others more e f other (encrypt_key_refused refused) (encrypt_key_read user rest has is seals) same = absurd (key_apart key es others e user rest more [] refused has is (same ∙ sym (append-nil (answers_in others))))
-encrypt_no_more key input output es others more e f other (encrypt_key_read user rest has is seals) (encrypt_key_refused refused) same = absurd (key_apart key others es f user rest [] more refused has is (append-nil (answers_in others) ∙ sym same))
-encrypt_no_more key input output es others more e f other (encrypt_key_read user rest has is seals) (encrypt_key_read user2 rest2 has2 is2 seals2) same =
-    let all : LengthWas key (Some 16) ∷ Gave key 0 16 user ∷ (answers_in rest ++ more) ≡ LengthWas key (Some 16) ∷ Gave key 0 16 user2 ∷ answers_in rest2 = alike key es others more same (key_events key user ++ rest) (key_events key user2 ++ rest2) is is2 in
-    let one : user2 ≡ user = cc in
-    let behind : answers_in rest ++ more ≡ answers_in rest2 = cc in
-    seals_more user input output rest rest2 more behind e f other seals (subst (λ (u : List ℕ). Seals u input output rest2 f) one seals2)
+  pub encrypt_no_more : (e f : Ending) → EncryptRefused key input output es e → EncryptRefused key input output others f → more ≡ []
+  encrypt_no_more e f (no_key refused) (no_key refused2) = key_more key es others more same e f refused refused2
+  encrypt_no_more e f (no_key refused) (names_unfit user has unfit is ends) = absurd (key_apart key es others e user [] more [] refused has is (same ∙ sym (append-nil (answers_in others))))
+  encrypt_no_more e f (no_key refused) (encrypting.input_absent user has target fit is ends) = absurd (key_apart key es others e user absent more [] refused has is (same ∙ sym (append-nil (answers_in others))))
+  encrypt_no_more e f (names_unfit user has unfit is ends) (no_key refused) = absurd (key_apart key others es f user [] [] more refused has is (append-nil (answers_in others) ∙ sym same))
+  encrypt_no_more e f (names_unfit user has unfit is ends) (names_unfit user2 has2 unfit2 is2 ends2) = behind user user2 [] [] is is2
+  encrypt_no_more e f (names_unfit user has unfit is ends) (encrypting.input_absent user2 has2 target fit is2 ends2) = absurd (⊎_elim (λ never. never target) (λ never. never fit) unfit)
+  encrypt_no_more e f (encrypting.input_absent user has target fit is ends) (no_key refused) = absurd (key_apart key others es f user absent [] more refused has is (append-nil (answers_in others) ∙ sym same))
+  encrypt_no_more e f (encrypting.input_absent user has target fit is ends) (names_unfit user2 has2 unfit is2 ends2) = absurd (⊎_elim (λ never. never target) (λ never. never fit) unfit)
+  encrypt_no_more e f (encrypting.input_absent user has target fit is ends) (encrypting.input_absent user2 has2 target2 fit2 is2 ends2) =
+      let all : LengthWas input None ∷ more ≡ LengthWas input None ∷ [] = behind user user2 absent absent is is2 in
+      cc

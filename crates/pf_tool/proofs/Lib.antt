@@ -10,13 +10,21 @@ pub mod PageReading
 pub mod LayoutReading
 mod Lists
 mod Drawing
-mod SideDisk
-mod SealDisk
-mod SideMaking
-mod InputDisk
-mod InputSealing
+mod HeldTree
+mod SessionWrites
+mod PieceGiving
+mod SessionBegun
+mod EncryptFinding
+mod PieceAnswers
+mod SheetWrites
+mod PiecesStand
+mod InputStands
+mod SealCounts
+mod WriteFails
+mod SealStops
+mod SealDisks
+mod SealSummary
 mod SideBehind
-mod EncryptEnding
 pub mod Numbered
 pub mod SameBlocks
 pub mod Following
@@ -47,5 +55,8 @@ mod EntryReading
 mod SumsEnding
 mod RunLaws
 mod RunClauses
+mod EncryptRuns
+mod EncryptClauses
+mod RunChoices
 mod RunDisk
 pub mod ContentRuns

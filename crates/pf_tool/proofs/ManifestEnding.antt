@@ -21,10 +21,9 @@ use Rattle.pf_tool.specs.declared.fault.Fault.{Fault}
 use Rattle.pf_tool.specs.declared.fault.Fault.TheVariants as faults
 use Rattle.pf_tool.specs.declared.why.Why.TheVariants as whys
 use Rattle.pf_tool.proofs.Composing.{files_kept, happened_honest, passed_none}
-use Rattle.pf_tool.proofs.InputDisk.{kept_leaves}
 use Rattle.pf_tool.proofs.InputLaws.{input_over}
 use Rattle.pf_tool.proofs.RenderLaws.{IsAheadOf, render_ahead, a_render}
-use Rattle.pf_tool.proofs.SideBehind.{leaves_behind}
+use Rattle.pf_tool.proofs.SideBehind.{kept_leaves, leaves_behind}
 use Rattle.pf_tool.proofs.Stopping.{GoesOn, LeadsOn, not_done, outcome_of, outcome_then, stands_on, refused, starves_at}
 
 -- a text has an event, whatever it is

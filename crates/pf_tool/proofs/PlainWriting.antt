@@ -28,7 +28,7 @@ use Rattle.pf_tool.specs.declared.fault.Fault.TheVariants as faults
 use Rattle.pf_tool.proofs.Asking.{asked_then, passed_asked}
 use Rattle.pf_tool.proofs.Composing.{host_none, passed_none, failed_host}
 use Rattle.pf_tool.proofs.Following.{all_split}
-use Rattle.pf_tool.proofs.SealDisk.{not_side}
+use Rattle.pf_tool.proofs.SideBehind.{not_side}
 use Rattle.pf_tool.proofs.Stopping.{host_fails, starves}
 
 -- A call that changes the disk: it is neither a question for a length nor a read. A swap gives the side file the output's name.

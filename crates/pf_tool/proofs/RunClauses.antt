@@ -22,21 +22,19 @@ use Rattle.pf_tool.specs.Faults.{fault_status}
 use Rattle.pf_tool.specs.Outcomes.{IsAhead, StopsAt, ComesOut, Concludes}
 use Rattle.pf_tool.specs.Reports.{Reported, Reports}
 use Rattle.pf_tool.specs.Requests.{Request, Decrypt, Encrypt, Manifest, Sums, Measure}
-use Rattle.pf_tool.specs.Runs.{Leads, LeavesHost, Runs, Usage, Causes, ByWords, Content, Decided, NoneCounted, Honestly, as_files_give, starved, Honest, Stays}
+use Rattle.pf_tool.specs.Runs.{Leads, LeavesHost, RunsByEvents, Usage, Causes, ByWords, DecidedByEvents, NoneCounted, Honestly, as_files_give, starved, Honest}
 use Rattle.pf_tool.proofs.RunStops.{not_two, reports_of, stop_low, reported_said, said, status_of, host_counted, random_counted, out_counted, all_passed, none_failed, input_kept, undrawn, unput, done_at_zero}
 use Rattle.pf_tool.proofs.RunLaws.{silent, spoken, decided, none_left, over, over_front}
 use Rattle.pf_tool.proofs.DecryptLaws.{decrypt_undrawn}
-use Rattle.pf_tool.proofs.EncryptLaws.{encrypt_unput, encrypt_given}
 use Rattle.pf_tool.proofs.SumsLaws.{sums_undrawn, put_lines, put_both}
 use Rattle.pf_tool.specs.Summing.{SumsLead, WroteSums}
 use Rattle.pf_tool.proofs.MeasureLaws.{measure_undrawn, measure_put}
 use Rattle.pf_tool.proofs.ContentRuns.{told_of, these_told, front_taken, took_content}
-use Rattle.pf_tool.specs.Encrypting.{EncryptLeads, GaveSealed}
 use Rattle.pf_tool.specs.Measuring.{MeasureLeads}
 
 -- a command, and what was said of it
 pub concluded : {T : Type 0} (request : Request) (r : Result T Fault) (h0 h1 : HostState) (input : SourceState) (o0 o1 l0 l1 : SinkState) (r0 r1 : WordsState) (status : ℕ) → ComesOut (Leads request) (LeavesHost request) r (world_of h0 input o0 l0 r0) (world_of h1 input o1 l0 r1)
-    → Concludes r l0 l1 status → Runs request (world_of h0 input o0 l0 r0) (world_of h1 input o1 l1 r1) status
+    → Concludes r l0 l1 status → RunsByEvents request (world_of h0 input o0 l0 r0) (world_of h1 input o1 l1 r1) status
 concluded request (Ok v) h0 h1 input o0 o1 l0 l1 r0 r1 status ends said = record { stop = AtEnd Done; outcome = ends; reports = said }
 concluded request (Err fault) h0 h1 input o0 o1 l0 l1 r0 r1 status ends said = record {
   stop = ends.stop;
@@ -91,12 +89,12 @@ usage_causes old new status usage =
       most = ⊎_elim (λ e. omega (arith, e)) (λ e. omega (arith, e)) two_or_seven;
     }
 
-module _ (request : Request) (old new : World) (status : ℕ) (run : Runs request old new status) where
+module _ (request : Request) (old new : World) (status : ℕ) (run : RunsByEvents request old new status) where
   abbrev Now : World
   Now = with_log new old.log
 
-  pub run_causes : Causes old new status
-  run_causes =
+  pub events_causes : Causes old new status
+  events_causes =
       let what = said run.stop old.log new.log status run.reports in
       let es = run.outcome.events in
       let happened = run.outcome.happened in
@@ -128,8 +126,8 @@ module _ (request : Request) (old new : World) (status : ℕ) (run : Runs reques
   by_words_at (Failed event) es ending leads stands happened reports = absurd (some_event es event stands.0 (silent request ending stands.1 (es ++ event ∷ stands.0) leads stands.2).0)
   by_words_at Starved es ending leads stands happened reports = absurd (not_ahead es stands.0 ending stands.1 stands.2 leads (silent request ending stands.1 (es ++ stands.0) leads stands.3))
 
-  pub run_by_words : ByWords request old new status
-  run_by_words ending leads = by_words_at run.stop run.outcome.events ending leads run.outcome.stands run.outcome.happened run.reports
+  pub events_by_words : ByWords request old new status
+  events_by_words ending leads = by_words_at run.stop run.outcome.events ending leads run.outcome.stands run.outcome.happened run.reports
 
   -- memory is wanting behind all answers of an ending alone where it may be for this ending
   want_decided : (es events rest : List Event) (ending other : Ending) → ending ≢ Done → Leads request events ending → IsAhead rest other → Leads request (es ++ rest) other → answers_in es ≡ answers_in events → MayStarve ending
@@ -149,8 +147,8 @@ module _ (request : Request) (old new : World) (status : ℕ) (run : Runs reques
       inr (want_decided es events stands.0 ending stands.1 refused leads stands.2 stands.3 (these_told old.host new.host (answers_in es) (answers_in events) (told_of es Starved old Now happened) told), reports)
   decided_at Starved es events ending leads told (inl low) stands happened reports = absurd (⊎_elim (λ both. omega (arith, both.0, low)) (λ both. omega (arith, both.0, low)) (said Starved old.log new.log status reports))
 
-  pub run_decided : Decided request old new status
-  run_decided events ending leads told low = decided_at run.stop run.outcome.events events ending leads told low run.outcome.stands run.outcome.happened run.reports
+  pub events_decided : DecidedByEvents request old new status
+  events_decided events ending leads told low = decided_at run.stop run.outcome.events events ending leads told low run.outcome.stands run.outcome.happened run.reports
 
   honest_at : (stop : Stop) (es : List Event) (files : Files) → files_of old.host ≡ Some files → NoneCounted old new → StopsAt (Leads request) es stop → Happened es stop old Now → Reports stop old.log new.log status → Honestly request files old new status
   honest_at (AtEnd ending) es files is none stands happened reports =
@@ -163,76 +161,8 @@ module _ (request : Request) (old new : World) (status : ℕ) (run : Runs reques
       both_weaker (IsMore (bytes_in es)) (TakesFront (concat pieces)) old.out.bytes new.out.bytes happened.out.told (λ before now more. front_taken (bytes_in es) front.0 (concat pieces) before now front.1 more)) both.0 both.1)
       (λ both. absurd (none.log both.1)) (said Starved old.log new.log status reports)
 
-  pub run_honest : Honest request old new status
-  run_honest files is none = honest_at run.stop run.outcome.events files is none run.outcome.stands run.outcome.happened run.reports
+  pub events_honest : Honest request old new status
+  events_honest files is none = honest_at run.stop run.outcome.events files is none run.outcome.stands run.outcome.happened run.reports
 
-  pub run_not_two : status ≡ 2 → ⊥
-  run_not_two is = ⊎_elim (λ both. not_two run.stop (sym both.0 ∙ is)) (λ both. omega (arith, both.0, is)) (said run.stop old.log new.log status run.reports)
-
-  pub run_unread : new.input ≡ old.input
-  run_unread = input_kept run.outcome.events old Now run.stop run.outcome.happened
-
-done_given : (key input output : Name) (es : List Event) (stop : Stop) → stop ≡ AtEnd Done → StopsAt (EncryptLeads key input output) es stop → GaveSealed key input output (answers_in es)
-done_given key input output es stop is stands = encrypt_given key input output es (subst (λ (s : Stop). StopsAt (EncryptLeads key input output) es s) is stands)
-
-took_text : (output : Option Name) (text : List ℕ) (pieces : List (List ℕ)) (old new : SinkState) → OutPassed pieces old new → pieces ≡ out_pieces output text → TookText output text old new
-took_text None text pieces old new passed is = subst (λ (l : List ℕ). Both old.bytes new.bytes (IsMore l)) (ap (λ (l : List (List ℕ)). concat l) is ∙ concat_pieces text) passed.told
-took_text (Some output) text pieces old new passed is = passed.untouched is
-
-done_rendered : (values : Values) (template : Name) (output : Option Name) (es : List Event) (stop : Stop) → stop ≡ AtEnd Done → StopsAt (ManifestLeads values template output) es stop → GivenText values template output es
-done_rendered values template output es stop is stands = manifest_given values template output es (subst (λ (s : Stop). StopsAt (ManifestLeads values template output) es s) is stands)
-
-pub run_content : (request : Request) (old new : World) (status : ℕ) → Runs request old new status → Content request old new status
-run_content (Decrypt key input) old new status run = took_content key input old new status run
-run_content (Encrypt key input output) old new status run = λ these told zero_is.
-    let es = run.outcome.events in
-    let done = done_at_zero run.stop old.log new.log status run.reports zero_is in
-    let passed : Passed es old (with_log new old.log) = subst (λ (s : Stop). Happened es s old (with_log new old.log)) done run.outcome.happened in
-    let same : answers_in es ≡ these = these_told old.host new.host (answers_in es) these passed.host.told told in
-    subst (λ (l : List Answer). GaveSealed key input output l) same (done_given key input output es run.stop done run.outcome.stands)
-run_content (Manifest values template output) old new status run = λ these told zero_is.
-    let es = run.outcome.events in
-    let done = done_at_zero run.stop old.log new.log status run.reports zero_is in
-    let passed : Passed es old (with_log new old.log) = subst (λ (s : Stop). Happened es s old (with_log new old.log)) done run.outcome.happened in
-    let same : answers_in es ≡ these = these_told old.host new.host (answers_in es) these passed.host.told told in
-    let given = done_rendered values template output es run.stop done run.outcome.stands in
-    record {
-      bytes = given.bytes;
-      text = given.text;
-      first = given.first;
-      taken = given.taken;
-      small = given.small;
-      rendered = given.rendered;
-      answered = sym same ∙ given.answered;
-      took = took_text output given.text (pieces_in es) old.out new.out passed.out given.pieces;
-    }
-run_content (Sums manifest None) old new status run = λ these told zero_is.
-    let es = run.outcome.events in
-    let done = done_at_zero run.stop old.log new.log status run.reports zero_is in
-    let passed : Passed es old (with_log new old.log) = subst (λ (s : Stop). Happened es s old (with_log new old.log)) done run.outcome.happened in
-    let same : answers_in es ≡ these = these_told old.host new.host (answers_in es) these passed.host.told told in
-    put_lines manifest es Done these old.out new.out (subst (λ (s : Stop). StopsAt (SumsLead manifest None) es s) done run.outcome.stands) refl same passed.out.told
-run_content (Sums manifest (Some output)) old new status run = λ these told zero_is.
-    let es = run.outcome.events in
-    let done = done_at_zero run.stop old.log new.log status run.reports zero_is in
-    let passed : Passed es old (with_log new old.log) = subst (λ (s : Stop). Happened es s old (with_log new old.log)) done run.outcome.happened in
-    let same : answers_in es ≡ these = these_told old.host new.host (answers_in es) these passed.host.told told in
-    put_both manifest output es these old.out new.out (subst (λ (s : Stop). WroteSums manifest output (tried es s)) done (run.outcome.leaves.done done)) same passed.out.told
-run_content (Measure layout) old new status run = λ these told zero_is.
-    let es = run.outcome.events in
-    let done = done_at_zero run.stop old.log new.log status run.reports zero_is in
-    let passed : Passed es old (with_log new old.log) = subst (λ (s : Stop). Happened es s old (with_log new old.log)) done run.outcome.happened in
-    let same : answers_in es ≡ these = these_told old.host new.host (answers_in es) these passed.host.told told in
-    measure_put layout es Done these old new (subst (λ (s : Stop). StopsAt (MeasureLeads layout) es s) done run.outcome.stands) refl same passed.out.told
-
-pub run_stays : (request : Request) (old new : World) (status : ℕ) → Runs request old new status → Stays request old new
-run_stays (Decrypt key input) old new status run = undrawn (Leads (Decrypt key input)) run.outcome.events run.stop old (with_log new old.log) (decrypt_undrawn key input) run.outcome.stands run.outcome.happened
-run_stays (Encrypt key input output) old new status run = unput (Leads (Encrypt key input output)) run.outcome.events run.stop old (with_log new old.log) (encrypt_unput key input output) run.outcome.stands run.outcome.happened
-run_stays (Manifest values template None) old new status run =
-    undrawn (Leads (Manifest values template None)) run.outcome.events run.stop old (with_log new old.log) (manifest_undrawn values template None) run.outcome.stands run.outcome.happened
-run_stays (Manifest values template (Some output)) old new status run = (
-  undrawn (Leads (Manifest values template (Some output))) run.outcome.events run.stop old (with_log new old.log) (manifest_undrawn values template (Some output)) run.outcome.stands run.outcome.happened,
-  unput (Leads (Manifest values template (Some output))) run.outcome.events run.stop old (with_log new old.log) (manifest_unput values template output) run.outcome.stands run.outcome.happened,
-)
-run_stays (Sums manifest output) old new status run = undrawn (Leads (Sums manifest output)) run.outcome.events run.stop old (with_log new old.log) (sums_undrawn manifest output) run.outcome.stands run.outcome.happened
-run_stays (Measure layout) old new status run = undrawn (Leads (Measure layout)) run.outcome.events run.stop old (with_log new old.log) (measure_undrawn layout) run.outcome.stands run.outcome.happened
+  pub events_not_two : status ≡ 2 → ⊥
+  events_not_two is = ⊎_elim (λ both. not_two run.stop (sym both.0 ∙ is)) (λ both. omega (arith, both.0, is)) (said run.stop old.log new.log status run.reports)

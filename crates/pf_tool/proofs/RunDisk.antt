@@ -31,8 +31,8 @@ use Rattle.pf_tool.proofs.Asking.{asked_then}
 use Rattle.pf_tool.proofs.EntryReading.{IsAsk, gives_asks, end_asks}
 use Rattle.pf_tool.proofs.PlainWriting.{ran_weaker}
 use Rattle.pf_tool.specs.Keys.{KeyRefused, key_unnamed, key_absent, key_length, key_short, key_events}
-use Rattle.pf_tool.specs.Encrypting.{Seals, output_unnamed, input_unfit, input_absent, input_large, published, EncryptLeads, encrypt_key_refused, encrypt_key_read, IsSealed, IsVersion, nonce_in}
 use Rattle.pf_tool.specs.Runs.{Runs, MayBeNew, OutputLeft, OutputEnds, LeavesOutput, OnDisks}
+use Rattle.pf_tool.proofs.RunChoices.{sealing_disk}
 use Rattle.pf_tool.proofs.RunStops.{host_counted, reports_done, done_at_zero}
 
 -- a side file takes a name
@@ -74,32 +74,9 @@ none_only [] none = tt
 none_only (x ∷ []) none = tt
 none_only (x ∷ y ∷ ys) none = (none.0, none_only (y ∷ ys) none.1)
 
-key_none : (key : Name) (es : List Event) (ending : Ending) → KeyRefused key es ending → NoSwap es
-key_none key es ending (key_unnamed u is ends) = subst NoSwap (sym is) tt
-key_none key es ending (key_absent named is ends) = subst NoSwap (sym is) (λ no. no, tt)
-key_none key es ending (key_length n named other is ends) = subst NoSwap (sym is) (λ no. no, tt)
-key_none key es ending (key_short bytes named short is ends) = subst NoSwap (sym is) (λ no. no, (λ no. no, tt))
-
 -- no side file takes a name, or the work is done, and it does so last
 abbrev Swaps : List Event → Ending → Type 0
 Swaps es ending = NoSwap es ⊎ ((ending ≡ Done) × OnlyLast es)
-
-seals_swaps : (key : Name) (user : List ℕ) (input output : Name) (rest : List Event) (ending : Ending) → Seals user input output rest ending → Swaps (key_events key user ++ rest) ending
-seals_swaps key user input output rest ending (output_unnamed u is ends) = inl (subst (λ (l : List Event). NoSwap (key_events key user ++ l)) (sym is) (λ no. no, (λ no. no, tt)))
-seals_swaps key user input output rest ending (input_unfit target u is ends) = inl (subst (λ (l : List Event). NoSwap (key_events key user ++ l)) (sym is) (λ no. no, (λ no. no, tt)))
-seals_swaps key user input output rest ending (input_absent target fit is ends) = inl (subst (λ (l : List Event). NoSwap (key_events key user ++ l)) (sym is) (λ no. no, (λ no. no, (λ no. no, tt))))
-seals_swaps key user input output rest ending (input_large size first second bytes target fit large is ends) =
-    inl (subst (λ (l : List Event). NoSwap (key_events key user ++ l)) (sym is) (λ no. no, (λ no. no, (λ no. no, (λ no. no, (λ no. no, (λ no. no, (λ no. no, (λ no. no, (λ no. no, tt))))))))))
-seals_swaps key user input output rest ending (published size first second third fourth content target fit small is ends) =
-    inr (
-      ends,
-      subst (λ (l : List Event). OnlyLast (key_events key user ++ l)) (sym is)
-          (λ no. no, (λ no. no, (λ no. no, (λ no. no, (λ no. no, (λ no. no, (λ no. no, (λ no. no, (λ no. no, (λ no. no, (λ no. no, (λ no. no, (λ no. no, tt))))))))))))),
-    )
-
-encrypt_swaps : (key input output : Name) (es : List Event) (ending : Ending) → EncryptLeads key input output es ending → Swaps es ending
-encrypt_swaps key input output es ending (encrypt_key_refused refuses) = inl (key_none key es ending refuses)
-encrypt_swaps key input output es ending (encrypt_key_read user rest has is seals) = subst (λ (l : List Event). Swaps l ending) (sym is) (seals_swaps key user input output rest ending seals)
 
 none_append : (xs ys : List Event) → NoSwap xs → NoSwap ys → NoSwap (xs ++ ys)
 none_append [] ys first second = second
@@ -243,10 +220,7 @@ module _ (output : Name) (Leading : List Event → Ending → Type 0) (swaps : (
 
 pub run_disk : (request : Request) (old new : World) (status : ℕ) → Runs request old new status → OnDisks request old new status
 run_disk (Decrypt key input) old new status run = run.outcome.leaves
-run_disk (Encrypt key input output) old new status run =
-    let es = run.outcome.events in
-    side_disk output (EncryptLeads key input output) (encrypt_swaps key input output) old new status es run.stop run.outcome.stands run.outcome.happened run.reports (IsSealed key input output) (IsVersion key input output)
-    (λ d file stands. (nonce_in (tried es run.stop), stands)) run.outcome.leaves
+run_disk (Encrypt key input output) old new status run = sealing_disk key input output old new status run.ended run.goes run.concludes
 run_disk (Manifest values template None) old new status run = run.outcome.leaves
 run_disk (Manifest values template (Some output)) old new status run =
     side_disk output (ManifestLeads values template (Some output)) (manifest_swaps values template output) old new status run.outcome.events run.stop run.outcome.stands run.outcome.happened run.reports

@@ -95,14 +95,14 @@ decided (Measure layout) es others ending other first second same = measure_one 
 
 answered : (request : Request) (es : List Event) (ending : Ending) → Leads request es ending → ending ≢ Done → EndsAnswered es
 answered (Decrypt key input) es ending leads refused = decrypt_answered key input es ending leads refused
-answered (Encrypt key input output) es ending leads refused = encrypt_answered key input output es ending leads refused
+answered (Encrypt key input output) es ending leads refused = encrypt_answered key input output es ending leads
 answered (Manifest values template output) es ending leads refused = manifest_answered values template output es ending leads refused
 answered (Sums manifest output) es ending leads refused = sums_answered manifest output es ending leads refused
 answered (Measure layout) es ending leads refused = measure_answered layout es ending leads refused
 
 no_more : (request : Request) (es others : List Event) (more : List Answer) (ending other : Ending) → ending ≢ Done → Leads request es ending → Leads request others other → answers_in es ++ more ≡ answers_in others → more ≡ []
 no_more (Decrypt key input) es others more ending other refused first second same = decrypt_no_more key input es others more ending other first second same
-no_more (Encrypt key input output) es others more ending other refused first second same = encrypt_no_more key input output es others more ending other refused first second same
+no_more (Encrypt key input output) es others more ending other refused first second same = encrypt_no_more key input output es others more same ending other first second
 no_more (Manifest values template output) es others more ending other refused first second same = manifest_no_more values template output es others more ending other refused first second same
 no_more (Sums manifest output) es others more ending other refused first second same = sums_no_more manifest output es others more ending other refused first second same
 no_more (Measure layout) es others more ending other refused first second same = measure_no_more layout es others more ending other refused first second same

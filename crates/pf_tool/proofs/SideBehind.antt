@@ -1,5 +1,5 @@
 -- A file that is made by its side file, behind events that changed nothing.
-use Rattle.std.proofs.Common.{◌≡◌, inl, inr, ⊎_elim, List, ◌++◌, ℕ, ◌∙◌, subst, Option, Some, None, IfSome}
+use Rattle.std.proofs.Common.{◌≡◌, ◌≢◌, sym, ap, refl, inl, inr, ⊎_elim, List, ◌++◌, ℕ, ◌∙◌, subst, Option, Some, None, IfSome}
 use Rattle.std.specs.Prelude.{option_map}
 use Rattle.std.proofs.lemmas.List.Elements.{Contains-append_right}
 use Rattle.pf_io.specs.Disk.{Name, Files, File, Disk, Image, IsImage, reading}
@@ -9,9 +9,31 @@ use Rattle.pf_io.specs.Names.{side_of}
 use Rattle.pf_io.specs.Steps.{Stays}
 use Rattle.pf_io.specs.Unchanged.{KeepsDisk}
 use Rattle.pf_io.proofs.Runs.{started, goes_on_ran}
+use Rattle.pf_session.proofs.Names.{side_apart}
 use Rattle.pf_tool.specs.Events.{Event, Answers}
-use Rattle.pf_tool.specs.Endings.{Stop}
+use Rattle.pf_tool.specs.Endings.{Done, Stop, AtEnd}
 use Rattle.pf_tool.specs.SideFiles.{IsMade, IsSwapped, SideLeaves, SideEnds, IsNewFile, LeavesBySide}
+
+-- the side file has another name
+pub not_side : (output : Name) → output ≢ side_of output
+not_side output same = side_apart output (sym same)
+
+-- a run that changed nothing, and is not done
+pub kept_leaves : (output : Name) (IsNew : Disk → List Event → Option (List ℕ) → Type 0) (tried : List Event) (stop : Stop) (old new : HostState) → (stop ≡ AtEnd Done → ⊥) → KeepsDisk old new → LeavesBySide output IsNew tried stop old new
+kept_leaves output IsNew tried stop old new never kept =
+    goes_on_ran (λ disk image. SideLeaves tried output (IsNew disk tried) disk image) IsImage (λ d e. e ≡ d) Stays (λ before now. SideEnds tried stop output (IsNew before tried) before now) old.honest old.honest new.honest
+    (started (λ disk image. SideLeaves tried output (IsNew disk tried) disk image) old.honest (λ d image is. record { here = inl (is output); side = λ none. is (side_of output); others = λ other ne side. is other })) kept
+    (λ d e same image is.
+    let there = subst (λ (x : Disk). IsImage x image) same is in
+    record { here = inl (there output); side = λ none. there (side_of output); others = λ other ne side. there other })
+    (λ d e f same stays.
+    let all = stays ∙ same in
+    record {
+      done = λ done. absurd (never done);
+      here = inl (ap (λ (x : Disk). x output) all);
+      side = λ none. ap (λ (x : Disk). x (side_of output)) all;
+      others = λ other ne side. ap (λ (x : Disk). x other) all;
+    })
 
 -- what is known of the files at the start of a run
 knowing_first : (F : Files → Type 0) (P : Disk → Image → Type 0) (Q : Disk → Disk → Type 0) (o p : Option Honest) → Both o p (Ran P Q) → IfSome (option_map (λ host. reading host.now) o) F

@@ -37,10 +37,9 @@ use Rattle.pf_tool.proofs.Composing.{answers_then, passed_none, passed_reading}
 use Rattle.file_sums.proofs.Existing.{gives_some}
 use Rattle.pf_tool.proofs.EntryReading.{ahead_behind, sums_out, out_ahead, out_leads}
 use Rattle.pf_tool.proofs.Following.{all_split}
-use Rattle.pf_tool.proofs.InputDisk.{kept_leaves}
 use Rattle.pf_tool.proofs.ManifestFileLaws.{seen_from}
 use Rattle.pf_tool.proofs.RenderLaws.{ReadAnswers, refusal_fault}
-use Rattle.pf_tool.proofs.SideBehind.{leaves_behind}
+use Rattle.pf_tool.proofs.SideBehind.{kept_leaves, leaves_behind}
 use Rattle.pf_tool.proofs.Stopping.{LeadsOn, outcome_then, refused, starves_at, falls_undone}
 
 -- nothing is asked of an honest host's files

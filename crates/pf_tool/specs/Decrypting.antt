@@ -1,33 +1,31 @@
 -- What `decrypt -w KEY -i IN` comes to.
 use Rattle.std.specs.Prelude.{◌≡◌, ◌≢◌, ◌⊎◌, ℕ, ◌+◌, ◌*◌, ◌-◌, ◌<◌, List, [], ◌∷◌, ◌++◌, length, take, map, Option, Some, None, Ok, Err}
 use Rattle.std.specs.List.{range_with_len}
-use Rattle.node_layout.specs.Metadata.{IsPlain, magic, flag_at}
+use Rattle.node_layout.specs.Faults.{IsPlainFault}
+use Rattle.node_layout.specs.Metadata.{magic, flag_at}
 use Rattle.node_layout.specs.Opening.{IsOpenFault}
 use Rattle.node_layout.specs.Places.{node_count}
 use Rattle.node_layout.specs.declared.damage.Damage.{Damage}
 use Rattle.node_layout.specs.declared.damage.Kind.{Kind}
 use Rattle.node_layout.specs.declared.damage.Kind.TheVariants.{Short}
 use Rattle.node_layout.specs.declared.metadata.MetaSecret.{MetaSecret}
+use Rattle.node_layout.specs.declared.metadata.PlainFault.TheVariants as plain_faults
 use Rattle.node_tree.specs.Opened.{block_of}
 use Rattle.node_tree.specs.Parts.{PIECE, ArePiecesFrom, ArePieces}
 use Rattle.pf_io.specs.Disk.{Name, Files}
 use Rattle.pf_io.specs.Host.{LengthWas, Gave}
 use Rattle.pf_io.specs.Names.{IsTarget}
+use Rattle.pf_session.specs.Opening.{IsOpenable}
 use Rattle.pf_tool.specs.Events.{Event, Answers, Puts}
-use Rattle.pf_tool.specs.Endings.{Ending, Done, Damaged, Refused, BadName, NotFound, KeyFile, NotProtected, Unbuilt}
+use Rattle.pf_tool.specs.Endings.{Ending, Done, Damaged, Refused, BadName, NotFound, KeyFile, NotProtected, BadVersion, Unbuilt}
 use Rattle.pf_tool.specs.Keys.{IsKeyOf, KeyRefused, KeyOver, key_events}
-
--- node 0 is whole, of version 1.0, and has no update pending
-pub record IsOpenable (node : List ℕ) : Type 0 where
-  pub whole : length node ≡ 4096
-  pub plain : IsPlain node
-  pub flag : flag_at node ≡ 0
 
 -- why nothing is put out of a file whose node 0 is this; fewer than 8 bytes are no magic
 pub data NodeRefused (user node : List ℕ) (ending : Ending) : Type 0 where
   not_protected : take 8 node ≢ magic → ending ≡ Refused NotProtected → NodeRefused user node ending
   node_short : take 8 node ≡ magic → length node < 4096 → ending ≡ Damaged 0 Short → NodeRefused user node ending
-  node_unbuilt : take 8 node ≡ magic → length node ≡ 4096 → (flag_at node ≢ 0) ⊎ ¬ (IsPlain node) → ending ≡ Refused Unbuilt → NodeRefused user node ending
+  node_pending : take 8 node ≡ magic → length node ≡ 4096 → flag_at node ≢ 0 → ending ≡ Refused Unbuilt → NodeRefused user node ending
+  node_version : (major minor : ℕ) → length node ≡ 4096 → flag_at node ≡ 0 → IsPlainFault node (plain_faults.BadVersion major minor) → ending ≡ Refused (BadVersion major minor) → NodeRefused user node ending
   node_damaged : (kind : Kind) → IsOpenable node → IsOpenFault user node kind → ending ≡ Damaged 0 kind → NodeRefused user node ending
 
 -- all pieces are there, or one has a damaged node

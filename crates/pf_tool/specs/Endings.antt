@@ -18,6 +18,7 @@ pub data Refusal : Type 0 where
   NotFound : (name : Name) → Refusal
   KeyFile : (number : ℕ) → Refusal
   NotProtected : Refusal
+  BadVersion : (major minor : ℕ) → Refusal
   TooLarge : Refusal
   NotUtf8 : Refusal
   BadTemplate : (fault : RenderFault) → Refusal
@@ -40,6 +41,7 @@ MayStarve (Refused BadName) = ⊥
 MayStarve (Refused (NotFound name)) = ⊥
 MayStarve (Refused (KeyFile number)) = ⊥
 MayStarve (Refused NotProtected) = ⊥
+MayStarve (Refused (BadVersion major minor)) = ⊥
 MayStarve (Refused TooLarge) = ⊥
 MayStarve (Refused NotUtf8) = ⊥
 MayStarve (Refused (BadTemplate fault)) = Unit {0}
@@ -104,6 +106,7 @@ refusal_text BadName = codes "refused bad name"
 refusal_text (NotFound name) = codes "refused not found " ++ name
 refusal_text (KeyFile number) = codes "refused key file " ++ decimal number
 refusal_text NotProtected = codes "refused not protected"
+refusal_text (BadVersion major minor) = codes "refused version " ++ decimal major ++ codes "." ++ decimal minor
 refusal_text TooLarge = codes "refused too large"
 refusal_text NotUtf8 = codes "refused template not utf-8"
 refusal_text (BadTemplate fault) = template_text fault

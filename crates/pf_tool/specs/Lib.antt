@@ -16,8 +16,9 @@ pub mod Manifests
 pub mod Keys
 pub mod InputFiles
 pub mod InputSlices
+pub mod SealingInput
 pub mod Encrypting
-pub mod Making
+pub mod SealedContents
 pub mod Decrypting
 pub mod Unsealing
 pub mod Measuring

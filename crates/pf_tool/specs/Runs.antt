@@ -1,6 +1,7 @@
 -- What a run of the program comes to, by what its words ask for.
-use Rattle.std.specs.Prelude.{◌≡◌, ◌≢◌, ◌⊎◌, ℕ, ◌≤◌, List, [], Option, Some, None}
+use Rattle.std.specs.Prelude.{◌≡◌, ◌≢◌, ◌⊎◌, ℕ, ◌<◌, ◌≤◌, List, [], length, Option, Some, None, Result}
 use Rattle.std.specs.List.{concat}
+use Rattle.node_layout.specs.Metadata.{MOST_SIZE}
 use Rattle.pf_io.specs.Counts.{counted}
 use Rattle.pf_io.specs.Disk.{Name, Files, Disk, Image, IsImageAt}
 use Rattle.pf_io.specs.Host.{Answer, HostState, Both, OnDisk, files_of}
@@ -11,22 +12,24 @@ use Rattle.pf_io.specs.Answered.{WereTold}
 use Rattle.pf_io.specs.Unchanged.{KeepsDisk}
 use Rattle.pf_tool.specs.World.{World, with_log}
 use Rattle.pf_tool.specs.Events.{Event, answers_in}
-use Rattle.pf_tool.specs.Endings.{Ending, Done, MayStarve, Stop, AtEnd, Starved, ending_line, ending_status, memory_line, no_command_line}
-use Rattle.pf_tool.specs.Outcomes.{Outcome}
+use Rattle.pf_tool.specs.Endings.{Ending, Done, Refused, TooLarge, MayStarve, Stop, AtEnd, Starved, ending_line, ending_status, memory_line, no_command_line}
+use Rattle.pf_tool.specs.Outcomes.{Outcome, Concludes}
+use Rattle.pf_tool.specs.declared.fault.Fault.{Fault}
 use Rattle.pf_tool.specs.Reports.{WroteAll, Reported, Reports}
 use Rattle.pf_tool.specs.Requests.{Request, Decrypt, Encrypt, Manifest, Sums, Measure}
 use Rattle.pf_tool.specs.SideFiles.{IsNewFile}
 use Rattle.pf_tool.specs.Decrypting.{DecryptLeads, DecryptOver}
-use Rattle.pf_tool.specs.Encrypting.{EncryptLeads, EncryptLeaves, EncryptOver, GaveSealed, IsVersion}
+use Rattle.pf_tool.specs.Encrypting.{EncryptRefused, EncryptGoes, EncryptOver, IsVersion}
+use Rattle.pf_tool.specs.SealedContents.{GavePieces, GaveSealed}
 use Rattle.pf_tool.specs.Contents.{TookContent}
 use Rattle.pf_tool.specs.Manifests.{ManifestLeads, ManifestLeaves, ManifestOver, GaveRendered, IsRendered}
 use Rattle.pf_tool.specs.Summing.{SumsLead, SumsLeave, SumsOver, PutSums, IsSummed}
 use Rattle.pf_tool.specs.Measuring.{MeasureLeads, MeasureOver, PutMeasurement}
 
--- all events of a run with this ending
+-- all events of a run with this ending; of `encrypt`, of one that makes nothing
 abbrev pub Leads : Request → List Event → Ending → Type 0
 Leads (Decrypt key input) events ending = DecryptLeads key input events ending
-Leads (Encrypt key input output) events ending = EncryptLeads key input output events ending
+Leads (Encrypt key input output) events ending = EncryptRefused key input output events ending
 Leads (Manifest values template output) events ending = ManifestLeads values template output events ending
 Leads (Sums manifest output) events ending = SumsLead manifest output events ending
 Leads (Measure layout) events ending = MeasureLeads layout events ending
@@ -34,7 +37,7 @@ Leads (Measure layout) events ending = MeasureLeads layout events ending
 -- what is left on the host after what was tried
 abbrev pub LeavesHost : Request → List Event → Stop → HostState → HostState → Type 0
 LeavesHost (Decrypt key input) tried stop old new = KeepsDisk old new
-LeavesHost (Encrypt key input output) tried stop old new = EncryptLeaves key input output tried stop old new
+LeavesHost (Encrypt key input output) tried stop old new = KeepsDisk old new
 LeavesHost (Manifest values template output) tried stop old new = ManifestLeaves values template output tried stop old new
 LeavesHost (Sums manifest output) tried stop old new = SumsLeave manifest output tried stop old new
 LeavesHost (Measure layout) tried stop old new = KeepsDisk old new
@@ -47,11 +50,24 @@ Over (Manifest values template output) files pieces ending = ManifestOver values
 Over (Sums manifest output) files pieces ending = SumsOver manifest output files pieces ending
 Over (Measure layout) files pieces ending = MeasureOver layout files pieces ending
 
--- The whole of a run: where it stopped, what had happened until then, and what it said.
-pub record Runs (request : Request) (old new : World) (status : ℕ) : Type 0 where
+-- The whole of a run by its events: where it stopped, what had happened until then, and what it said.
+pub record RunsByEvents (request : Request) (old new : World) (status : ℕ) : Type 0 where
   pub stop : Stop
   pub outcome : Outcome (Leads request) (LeavesHost request) stop old (with_log new old.log)
   pub reports : Reports stop old.log new.log status
+
+-- the whole of a run of `encrypt`: the calls of its session, how they ended, and what it said
+pub record RunsSealing (key input output : Name) (old new : World) (status : ℕ) : Type 0 where
+  pub ended : Result (Unit {0}) Fault
+  pub goes : EncryptGoes key input output ended old (with_log new old.log)
+  pub concludes : Concludes ended old.log new.log status
+
+abbrev pub Runs : Request → World → World → ℕ → Type 0
+Runs (Decrypt key input) old new status = RunsByEvents (Decrypt key input) old new status
+Runs (Encrypt key input output) old new status = RunsSealing key input output old new status
+Runs (Manifest values template output) old new status = RunsByEvents (Manifest values template output) old new status
+Runs (Sums manifest output) old new status = RunsByEvents (Sums manifest output) old new status
+Runs (Measure layout) old new status = RunsByEvents (Measure layout) old new status
 
 -- words that are no command are named so, and nothing else is done
 pub record Usage (old new : World) (status : ℕ) : Type 0 where
@@ -82,7 +98,7 @@ ByWords request old new status = (ending : Ending) → Leads request [] ending �
 -- files.
 abbrev pub Content : Request → World → World → ℕ → Type 0
 Content (Decrypt key input) old new status = TookContent key input old new status
-Content (Encrypt key input output) old new status = (these : List Answer) → WereTold these old.host new.host → status ≡ 0 → GaveSealed key input output these
+Content (Encrypt key input output) old new status = (these : List Answer) → WereTold these old.host new.host → status ≡ 0 → GaveSealed key input output these new.random
 Content (Manifest values template output) old new status = (these : List Answer) → WereTold these old.host new.host → status ≡ 0 → GaveRendered values template output these old.out new.out
 Content (Sums manifest output) old new status = (these : List Answer) → WereTold these old.host new.host → status ≡ 0 → PutSums manifest output these old.out new.out
 Content (Measure layout) old new status = (these : List Answer) → WereTold these old.host new.host → status ≡ 0 → PutMeasurement layout these old new
@@ -90,9 +106,22 @@ Content (Measure layout) old new status = (these : List Answer) → WereTold the
 -- Where the host told these answers, and they lead to an ending, it is reported: a refusal or a damage always, since no event
 -- comes behind its answers, and `Done` where the status is at most 3, since a piece may come behind the last and fail. In place of
 -- an ending that is found in a text, want of memory may be.
-abbrev pub Decided : Request → World → World → ℕ → Type 0
-Decided request old new status = (events : List Event) (ending : Ending) → Leads request events ending → WereTold (answers_in events) old.host new.host → (status ≤ 3) ⊎ (ending ≢ Done)
+abbrev pub DecidedByEvents : Request → World → World → ℕ → Type 0
+DecidedByEvents request old new status = (events : List Event) (ending : Ending) → Leads request events ending → WereTold (answers_in events) old.host new.host → (status ≤ 3) ⊎ (ending ≢ Done)
     → Reports (AtEnd ending) old.log new.log status ⊎ (MayStarve ending × Reports Starved old.log new.log status)
+
+-- What is refused by the answers of `encrypt`: what makes nothing; and an input of which more bytes were given than a content may have. No node is damaged.
+pub record DecidedSealing (key input output : Name) (old new : World) (status : ℕ) : Type 0 where
+  pub refused : DecidedByEvents (Encrypt key input output) old new status
+  pub too_large : (these : List Answer) (pieces : List (List ℕ)) → WereTold these old.host new.host → GavePieces input these pieces → MOST_SIZE < length (concat pieces) → Reports (AtEnd (Refused TooLarge)) old.log new.log status
+  pub undamaged : status ≢ 1
+
+abbrev pub Decided : Request → World → World → ℕ → Type 0
+Decided (Decrypt key input) old new status = DecidedByEvents (Decrypt key input) old new status
+Decided (Encrypt key input output) old new status = DecidedSealing key input output old new status
+Decided (Manifest values template output) old new status = DecidedByEvents (Manifest values template output) old new status
+Decided (Sums manifest output) old new status = DecidedByEvents (Sums manifest output) old new status
+Decided (Measure layout) old new status = DecidedByEvents (Measure layout) old new status
 
 -- no fault was counted, and no count stands at its last value
 pub record NoneCounted (old new : World) : Type 0 where

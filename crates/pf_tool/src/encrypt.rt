@@ -1,18 +1,21 @@
 // The command `encrypt`.
-ghost use Rattle.std.specs.Prelude.{◌≡◌, ◌++◌, ◌↔◌, IsTrue};
+ghost use Rattle.std.specs.Prelude.{◌≡◌, ◌++◌, ◌↔◌, IsTrue, List, ℕ, false, OnOk, IfErr};
 ghost use Rattle.pf_io.specs.Names.{IsTarget};
 ghost use Rattle.pf_tool.specs.World.{World, with_host, with_random};
-ghost use Rattle.pf_tool.specs.Outcomes.{ComesOut};
-ghost use Rattle.pf_tool.specs.Encrypting.{IsInput, Seals, EncryptLeads, EncryptLeaves};
-ghost use Rattle.pf_tool.specs.Making.{LeavesSealed};
+ghost use Rattle.pf_tool.specs.SealingInput.{InputWritten, InputStops, SealsInput};
+ghost use Rattle.pf_tool.specs.Encrypting.{IsInput, EncryptGoes};
 
 use crate::fault::Fault;
 use crate::key::read_key;
-use crate::side_file::{begin, publish};
+use crate::session_faults::piece_fault;
 use crate::why::Why;
 use crate::words::Encrypt;
-use pf_io::{Host, Text, Words, is_name, is_target};
+use pf_io::{Host, Words, is_name, is_target};
+use pf_session::Session;
 use std::alloc::Global;
+
+// The most bytes of a piece.
+const PIECE: usize = 32_768;
 
 // Whether the name is another one with an ending.
 fn is_beside(name: &str, other: &str, ending: &str) -> bool
@@ -33,37 +36,47 @@ fn is_input(input: &str, output: &str) -> bool
         && !is_beside(input, output, ".new.recovery")
 }
 
-// Reads the input and seals it under the output's name.
-fn seal_input<'a, H: Host, R: Words>(
+// Writes the pieces of the input into the session, up to the first that is given short.
+fn write_input<H: Host, R: Words>(
+    host: &mut H,
+    random: &mut R,
+    input: &str,
+    session: &mut Session,
+) -> Result<(), Fault<'static>>
+    requires whole { session.old.broken ≡ false }
+    requires empty { session.old.tree.size ≡ 0 }
+    ensures written { OnOk result ((content : List ℕ) × InputWritten input.now content session.old session.new (H.state host.old) (H.state host.new) (R.state random.old) (R.state random.new)) }
+    ensures stops { IfErr result (λ fault. InputStops input.now session.old fault (H.state host.old) (H.state host.new) (R.state random.old) (R.state random.new)) }
+{
+    let mut piece = [0; PIECE];
+    loop {
+        let at = session.size();
+        let given = host.read_at(input, at, &mut piece)?;
+        if let Err(fault) = session.write(host, random, at, &piece[..given]) {
+            return Err(piece_fault(fault));
+        }
+        if given < PIECE {
+            return Ok(());
+        }
+    }
+}
+
+// Makes the protected file of the input beside its name, and gives it the name.
+fn seal_input<H: Host, R: Words>(
     alloc: Global,
     host: &mut H,
     random: &mut R,
     user: &[u8; 16],
-    command: &Encrypt<'a>,
-) -> Result<(), Fault<'a>>
-    requires target { IsTarget command.now.output.now }
-    requires input { IsInput command.now.input.now command.now.output.now }
-    ensures { (world : World) → ComesOut (Seals user.now command.now.input.now command.now.output.now) (LeavesSealed user.now command.now.input.now command.now.output.now) result
-        (with_random (with_host world (H.state host.old)) (R.state random.old)) (with_random (with_host world (H.state host.new)) (R.state random.new)) }
+    input: &str,
+    output: &str,
+) -> Result<(), Fault<'static>>
+    requires { IsTarget output.now }
+    ensures { SealsInput user.now input.now output.now result (H.state host.old) (H.state host.new) (R.state random.old) (R.state random.new) }
 {
-    let Some(_) = host.len(command.input)? else {
-        return Err(Fault::Refused(Why::NotFound(command.input)));
-    };
-    let side = Text::joined(alloc, command.output, ".new")?;
-    begin(host, random, user, command.output, side.as_str())?;
-    let mut bytes = [0; 3073];
-    let given = host.read_at(command.input, 0, &mut bytes)?;
-    if given > 3072 {
-        return Err(Fault::Refused(Why::Unbuilt));
-    }
-    publish(
-        host,
-        random,
-        user,
-        command.output,
-        side.as_str(),
-        &bytes[..given],
-    )
+    let mut session = Session::create_beside(alloc, host, random, user, output, output)?;
+    write_input(host, random, input, &mut session)?;
+    session.publish(host, random)?;
+    Ok(())
 }
 
 /// Makes a protected file of a plain one, by a side file that gets the output's name once it is whole.
@@ -73,12 +86,15 @@ pub(crate) fn encrypt<'a, H: Host, R: Words>(
     random: &mut R,
     command: &Encrypt<'a>,
 ) -> Result<(), Fault<'a>>
-    ensures { (world : World) → ComesOut (EncryptLeads command.now.key.now command.now.input.now command.now.output.now) (EncryptLeaves command.now.key.now command.now.input.now command.now.output.now) result
+    ensures { (world : World) → EncryptGoes command.now.key.now command.now.input.now command.now.output.now result
         (with_random (with_host world (H.state host.old)) (R.state random.old)) (with_random (with_host world (H.state host.new)) (R.state random.new)) }
 {
     let user = read_key(host, command.key)?;
     if !is_target(command.output) || !is_input(command.input, command.output) {
         return Err(Fault::Refused(Why::BadName));
     }
-    seal_input(alloc, host, random, &user, command)
+    let Some(_) = host.len(command.input)? else {
+        return Err(Fault::Refused(Why::NotFound(command.input)));
+    };
+    seal_input(alloc, host, random, &user, command.input, command.output)
 }

@@ -1,5 +1,5 @@
 // The lines that go to the log.
-ghost use Rattle.std.specs.Prelude.{◌≡◌, ◌+◌, ◌≤◌, ◌++◌, IfSome, length, take};
+ghost use Rattle.std.specs.Prelude.{◌≡◌, ◌+◌, ◌≤◌, ◌++◌, IfSome, length, take, codes};
 ghost use Rattle.std.specs.Fmt.{decimal};
 ghost use Rattle.pf_tool.specs.Endings.{line};
 ghost use Rattle.pf_tool.specs.Reports.{Written};
@@ -115,4 +115,18 @@ pub(crate) fn write_name_number<L: Sink>(
 {
     let mut digits = Buffer::new();
     write_line(log, text, name, between, digits.format(number))
+}
+
+/// Writes a line of a text and two numbers with a point between them, for whose digits no memory is taken.
+pub(crate) fn write_version<L: Sink>(
+    log: &mut L,
+    text: &str,
+    major: u64,
+    minor: u64,
+) -> Result<(), StreamFault>
+    ensures { Written result (line (text.now ++ decimal major ++ codes "." ++ decimal minor)) (L.state log.old) (L.state log.new) }
+{
+    let mut digits = Buffer::new();
+    let mut others = Buffer::new();
+    write_line(log, text, digits.format(major), ".", others.format(minor))
 }

@@ -23,7 +23,7 @@ mod pieces;
 mod plain_file;
 mod rendering;
 mod run;
-mod side_file;
+mod session_faults;
 mod sum_files;
 mod sums;
 #[cfg(test)]

@@ -1,17 +1,18 @@
 // The content of a protected file, put out in pieces.
-ghost use Rattle.std.specs.Prelude.{◌≡◌, ◌^◌, ◌≤◌, List, ℕ, length};
+ghost use Rattle.std.specs.Prelude.{◌≡◌, List, ℕ, length, false};
+ghost use Rattle.node_layout.specs.declared.metadata.MetaSecret.{MetaSecret};
 ghost use Rattle.pf_io.specs.Host.{KeepsFiles};
 ghost use Rattle.pf_io.specs.Unchanged.{KeepsDisk};
+ghost use Rattle.pf_session.specs.State.{unread};
 ghost use Rattle.pf_tool.specs.World.{World, with_host, with_out};
 ghost use Rattle.pf_tool.specs.Outcomes.{ComesOut};
 ghost use Rattle.pf_tool.specs.Unsealing.{tree_fault};
 ghost use Rattle.pf_tool.specs.Decrypting.{PiecesLead};
 
 use crate::fault::Fault;
-use node_layout::MetaSecret;
-use node_tree::{Tree, TreeFault};
+use node_tree::TreeFault;
 use pf_io::{Host, Sink};
-use std::alloc::Global;
+use pf_session::Session;
 
 // The most bytes of a piece.
 const PIECE: usize = 32_768;
@@ -28,29 +29,24 @@ impl From<TreeFault> for Fault<'_> {
     }
 }
 
-/// Puts out the content of the file with these metadata. A piece is put out once all its nodes have opened; a node is read
-/// and opened once.
-pub(crate) fn write_pieces<H: Host, K: Sink>(
-    alloc: Global,
+/// Puts out the content of an opened file. A piece is put out once all its nodes have opened; a node is read and opened once.
+pub(crate) fn write_content<H: Host, K: Sink>(
     host: &mut H,
-    name: &str,
-    secret: &MetaSecret,
+    session: &mut Session,
     out: &mut K,
 ) -> Result<(), Fault<'static>>
-    requires size { secret.now.size ≤ 2 ^ 32 }
+    requires named { session.old.beside ≡ false }
+    requires whole { session.old.broken ≡ false }
     ensures files { KeepsFiles (H.state host.old) (H.state host.new) }
     ensures disk { KeepsDisk (H.state host.old) (H.state host.new) }
-    ensures ends { (node : List ℕ) (world : World) → length node ≡ 4096 → ComesOut (PiecesLead name.now node secret.now) (λ _ _. KeepsDisk) result
+    ensures ends { (secret : MetaSecret) (node : List ℕ) (world : World) → session.old.tree ≡ unread secret → length node ≡ 4096 → ComesOut (PiecesLead session.old.name node secret) (λ _ _. KeepsDisk) result
         (with_out (with_host world (H.state host.old)) (K.state out.old)) (with_out (with_host world (H.state host.new)) (K.state out.new)) }
 {
-    if secret.size == 0 {
-        return Ok(());
-    }
-    let mut tree = Tree::from_meta(alloc, secret)?;
+    let size = session.size();
     let mut piece = [0; PIECE];
     let mut at = 0;
-    while at < secret.size {
-        let count = tree.read(host, name, at, &mut piece)?;
+    while at < size {
+        let count = session.read(host, at, &mut piece)?;
         out.write(&piece[..count])?;
         at += PIECE as u64;
     }

@@ -3,7 +3,7 @@ ghost use Rattle.pf_tool.specs.Endings.{line, refusal_text};
 ghost use Rattle.pf_tool.specs.Faults.{refusal_of};
 ghost use Rattle.pf_tool.specs.Reports.{Written};
 
-use crate::lines::{write_name, write_number, write_text};
+use crate::lines::{write_name, write_number, write_text, write_version};
 use crate::text_refusals::{say_layout, say_manifest, say_template};
 use enclave_measure::LayoutFault;
 use manifest_model::ManifestFault;
@@ -21,6 +21,8 @@ pub(crate) enum Why<'a> {
     KeyFile(u64),
     /// The file is no protected file.
     NotProtected,
+    /// The protected file has another version than 1.0.
+    BadVersion { major: u8, minor: u8 },
     /// The file has more bytes than it may have.
     TooLarge,
     /// The template is no UTF-8.
@@ -47,6 +49,9 @@ impl Why<'_> {
             Why::NotFound(name) => write_name(log, "refused not found ", name),
             Why::KeyFile(number) => write_number(log, "refused key file ", *number, ""),
             Why::NotProtected => write_text(log, "refused not protected"),
+            Why::BadVersion { major, minor } => {
+                write_version(log, "refused version ", *major as u64, *minor as u64)
+            }
             Why::TooLarge => write_text(log, "refused too large"),
             Why::NotUtf8 => write_text(log, "refused template not utf-8"),
             Why::BadTemplate(fault) => say_template(fault, log),

@@ -11,7 +11,7 @@ use Rattle.pf_session.proofs.node_zero.check_node.Goals as goal
 use Rattle.pf_session.proofs.node_zero.check_node.Goals.{then-given-lt8-via-then-given-lt8, then-given-lt8-via-else-given-lt8+then-not-has_magic}
 
 pub returns-then-given-lt8-clause-refused : goal.returns-then-given-lt8-clause-refused
-returns-then-given-lt8-clause-refused c = not_protected (λ is. elim c.then-given-lt8.branch [
+returns-then-given-lt8-clause-refused c = not_protected (omega (arith, length-take c.args.given c.args.node.now, c.requires)) (λ is. elim c.then-given-lt8.branch [
   | then-given-lt8-via-then-given-lt8 w ↦ absurd (omega (arith, ap (λ (l : List ℕ). length l) is, length-take 8 (take c.args.given c.args.node.now), length-take c.args.given c.args.node.now))
   | then-given-lt8-via-else-given-lt8+then-not-has_magic w ↦ let other : take 8 c.args.node.now ≢ magic = search rules in other (front_given 8 c.args.given c.args.node.now magic refl is)
 ]) refl

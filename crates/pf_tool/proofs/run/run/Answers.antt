@@ -3,7 +3,7 @@ use Rattle.pf_tool.specs.World.{world_of}
 use Rattle.pf_tool.specs.Requests.{Request, request_of, texts}
 use Rattle.pf_tool.specs.Runs.{Runs, ByWords, Content, Decided, Honest, OnDisks, Stays}
 use Rattle.pf_tool.proofs.RunLaws.{one_request, over_one}
-use Rattle.pf_tool.proofs.RunClauses.{run_causes, run_by_words, run_content, run_decided, run_honest, run_not_two, run_stays}
+use Rattle.pf_tool.proofs.RunChoices.{run_causes, run_by_words, run_content, run_decided, run_honest, run_not_two, run_stays}
 use Rattle.pf_tool.proofs.RunDisk.{run_disk}
 use Rattle.pf_tool.proofs.run.run.Goals as goal
 

@@ -13,7 +13,7 @@ use Rattle.pf_session.proofs.Backed.{on_carried, on_first}
 use Rattle.pf_session.proofs.Keeping.{keeps_either, kept_aside}
 use Rattle.pf_session.proofs.NoText.{no_text}
 use Rattle.pf_session.proofs.Reopened.{opens_either}
-use Rattle.pf_session.proofs.OpenStanding.{failed, node_ends, opens_standing}
+use Rattle.pf_session.proofs.OpenStanding.{node_early, secret_early, not_early, failed, node_ends, opens_standing}
 use Rattle.pf_session.proofs.session.Session.open.Goals as goal
 
 pub returns-then-not-are_good-clause-opens : goal.returns-then-not-are_good-clause-opens
@@ -136,3 +136,13 @@ returns-in_err-make-clause-never_text g c = no_text _ _ _ (g.H.Host.state c.args
 
 pub returns-clause-never_text : goal.returns-clause-never_text
 returns-clause-never_text g c = no_text _ _ _ (g.H.Host.state c.args.host.now) (g.H.Host.state c.read_node_zero.new.host) _ (returns-clause-opens g c)
+
+pub returns-in_err-node-clause-early : goal.returns-in_err-node-clause-early
+returns-in_err-node-clause-early g c is =
+    let p = err_from_is_err_and c.from_residual-in_err-node.result c.from_residual-in_err-node.ensures.1 in
+    absurd (not_early c.in_err-node.field-0.0 (node_early _ _ _ _ c.in_err-node.ensures.refused) (sym (p.1 ∙ ap failed p.2) ∙ is))
+
+pub returns-in_err-secret-clause-early : goal.returns-in_err-secret-clause-early
+returns-in_err-secret-clause-early g c is =
+    let p = err_from_is_err_and c.from_residual-in_err-secret.result c.from_residual-in_err-secret.ensures.1 in
+    absurd (not_early c.in_err-secret.field-0.0 (secret_early _ _ _ _ c.in_err-secret.ensures.refused) (sym (p.1 ∙ ap failed p.2) ∙ is))
