@@ -73,14 +73,13 @@ def test_status_3_refusals():
     ends(tool("measure", "-"), 3, "refused not found -")
     encrypt()
     node = got("out.pf")
-    # A version to come, and an update that is pending.
-    for place, byte in ((8, 2), (58, 1)):
+    # Versions to come, and an update that is pending.
+    for place, byte, line in ((8, 2, "refused version 2.0"), (9, 7, "refused version 1.7"), (58, 1, "refused unbuilt")):
         put("out.pf", changed(node, place, byte))
-        ends(decrypt(), 3, "refused unbuilt")
+        ends(decrypt(), 3, line)
     for size in (3073, 4096):
         put("in", bytes(size))
         ends(decrypt("in"), 3, "refused not protected")
-        ends(encrypt(), 3, "refused unbuilt")
     put("in", node[:7])
     ends(decrypt("in"), 3, "refused not protected")
     for size in (0, 15, 17):

@@ -41,6 +41,19 @@ def test_files_of_each_depth_are_decrypted():
         same(ran.out == content, True, f"the content of {size} bytes")
 
 
+def test_what_was_encrypted_decrypts_at_each_size():
+    # one node more than the dirty ones that a session may have is sealed in several versions
+    for size, length in ((0, 4096), (1, 4096), (3072, 4096), (3073, 12_288), (396_288, 401_408), (396_289, 409_600), (1_000_000, 1_015_808)):
+        content = content_of(size)
+        put("in", content)
+        ran = encrypt()
+        same((ran.status, ran.out, ran.log), (0, b"", ""), f"{size} bytes")
+        same((os.path.getsize("out.pf"), os.path.exists("out.pf.new")), (length, False), f"the file of {size} bytes")
+        ran = decrypt()
+        same((ran.status, ran.log), (0, ""), f"{size} bytes")
+        same(ran.out == content, True, f"the content of {size} bytes")
+
+
 def first_touched(node):
     """The place in the content of the first byte that is read by way of the node."""
     if node == 0:

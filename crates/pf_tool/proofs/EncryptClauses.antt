@@ -38,6 +38,7 @@ use Rattle.pf_tool.specs.declared.why.Why.TheVariants as whys
 use Rattle.pf_tool.proofs.ContentRuns.{these_told}
 use Rattle.pf_tool.proofs.DecryptLaws.{key_apart}
 use Rattle.pf_tool.proofs.KeyOver.{there_of, key_read_over}
+use Rattle.pf_tool.proofs.NodeReading.{kept_files}
 use Rattle.pf_tool.proofs.PlainWriting.{ran_weaker}
 use Rattle.pf_tool.proofs.RunStops.{wrote_nothing}
 use Rattle.pf_tool.proofs.SealDisks.{HasVersion, alone_left}
@@ -183,15 +184,9 @@ module _ (key input output : Name) (old new : World) (status : ℕ) (ended : Res
     there : (bytes : List ℕ) × (files input ≡ Some bytes) × (length bytes ≡ found.size)
     there = there_of (files input) found.size answers_of.1.1.0
 
-    same_files : (o p : Option Honest) → Both o p (Ran IsImage Stays) → option_map (λ (h : Honest). reading h.now) o ≡ Some files → option_map (λ (h : Honest). reading h.now) p ≡ Some files
-    same_files (Some a) (Some b) ran same = ap (λ (d : Disk). Some (reading d)) ran.ends ∙ same
-    same_files None None ran same = absurd (cc)
-    same_files (Some a) None ran same = absurd ran
-    same_files None (Some b) ran same = absurd ran
-
     over : SizeOver ended there.0
     over =
-        let o = subst (λ (x : Option Files). IfSome x (λ f. SizeOver ended (contents (f input)))) (same_files old.host.honest mid.host.honest found.disk is) s.over in
+        let o = subst (λ (x : Option Files). IfSome x (λ f. SizeOver ended (contents (f input)))) (kept_files old.host mid.host found.disk ∙ is) s.over in
         subst (λ (x : Option (List ℕ)). SizeOver ended (contents x)) there.1 o
 
     wrote_none : WroteAll (concat []) old.out new.out

@@ -6,8 +6,11 @@ use Rattle.node_layout.specs.Metadata.{IsPlain, magic, flag_at}
 use Rattle.node_layout.specs.Opening.{OpensTo}
 use Rattle.node_layout.specs.declared.metadata.MetaSecret.{MetaSecret}
 use Rattle.node_tree.specs.Opened.{block_of}
-use Rattle.pf_io.specs.Disk.{Name}
-use Rattle.pf_io.specs.Host.{Answer, LengthWas, Gave, HostState, KeepsFiles}
+use Rattle.std.specs.Prelude.{option_map}
+use Rattle.pf_io.specs.Disk.{Name, Disk, IsImage, reading}
+use Rattle.pf_io.specs.Moments.{Honest, Ran}
+use Rattle.pf_io.specs.Steps.{Stays}
+use Rattle.pf_io.specs.Host.{Answer, LengthWas, Gave, HostState, Both, KeepsFiles}
 use Rattle.pf_io.specs.Names.{IsTarget}
 use Rattle.pf_io.specs.Unchanged.{KeepsDisk}
 use Rattle.pf_io.proofs.Unchanged.{kept_none}
@@ -163,6 +166,20 @@ module _ (user : List ℕ) (input : Name) (s0 s1 : HostState) (kept : KeepsDisk 
   opening_falls early (no_tree size block secret good asked openable is_accepted is) =
       let memory = same_fault fault opens.Memory is in
       no_room user input world s0 said s1 good.target (subst (λ (f : OpenFault). SaysOpening input f said) memory says) (early memory)
+
+-- the fault as a result
+pub as_result : (fault other : OpenFault) → fault ≡ other → ◌≡◌ {A = Result SessionState OpenFault} (Err fault) (Err other)
+as_result fault other same = ap (λ (f : OpenFault). let r : Result SessionState OpenFault = Err f in r) same
+
+files_at : (o p : Option Honest) → Both o p (Ran IsImage Stays) → option_map (λ (h : Honest). reading h.now) p ≡ option_map (λ (h : Honest). reading h.now) o
+files_at (Some a) (Some b) ran = ap (λ (d : Disk). Some (reading d)) ran.ends
+files_at None None ran = refl
+files_at (Some a) None ran = absurd ran
+files_at None (Some b) ran = absurd ran
+
+-- a disk that stays has the same files
+pub kept_files : (old new : HostState) → KeepsDisk old new → KeepsFiles old new
+kept_files old new kept = files_at old.honest new.honest kept
 
 no_other : (session : SessionState) (fault : OpenFault) → ◌≡◌ {A = Result SessionState OpenFault} (Ok session) (Err fault) → ⊥
 no_other session fault same = cc
