@@ -101,8 +101,8 @@ module _ (key input output : Name) (old new : World) (status : ℕ) (ended : Res
   behind : (P : List Answer → List Answer → Type 0) (these : List Answer) → Both mid.host.given new.host.given (λ before now. (those : List Answer) × (now ≡ before ++ those) × P before those) → WereTold these old.host new.host → (those : List Answer) × (before : List Answer) × (these ≡ First ++ those) × P before those
   behind P these told were =
       let all = told_at (λ before now. (b : List Answer) × (those : List Answer) × (now ≡ before ++ (First ++ those)) × P b those) old.host new.host these
-          (both_then (IsMore First) (λ before now. (those : List Answer) × (now ≡ before ++ those) × P before those) (λ before now. (b : List Answer) × (those : List Answer) × (now ≡ before ++ (First ++ those)) × P b those) old.host.given mid.host.given new.host.given found.passed.host.told told
-          (λ a b c one two. (b, two.0, two.1 ∙ ap (λ (l : List Answer). l ++ two.0) one ∙ append_assoc a First two.0, two.2))) were in
+      (both_then (IsMore First) (λ before now. (those : List Answer) × (now ≡ before ++ those) × P before those) (λ before now. (b : List Answer) × (those : List Answer) × (now ≡ before ++ (First ++ those)) × P b those) old.host.given mid.host.given new.host.given found.passed.host.told told
+      (λ a b c one two. (b, two.0, two.1 ∙ ap (λ (l : List Answer). l ++ two.0) one ∙ append_assoc a First two.0, two.2))) were in
       (all.1.1, all.1.0, append_cancel_left all.0 these (First ++ all.1.1) all.1.2, all.1.3)
 
   -- the key and the pieces were given, and what was sealed has them
@@ -111,8 +111,8 @@ module _ (key input output : Name) (old new : World) (status : ℕ) (ended : Res
     by_end : SealEnd ended mid.host new.host mid.random new.random → GaveSealed key input output these new.random
     by_end (was_done is host random) =
         let b = behind (λ before those. (content : List ℕ) × TakenInPieces input those content × SealedLast user output content those new.random) these
-            (both_weaker (TellsSealed user input output new.random) (λ before now. (those : List Answer) × (now ≡ before ++ those) × ((content : List ℕ) × TakenInPieces input those content × SealedLast user output content those new.random))
-            mid.host.given new.host.given (s.gave is) (λ a c t. (t.0, t.1, (t.2, t.3, t.4)))) were in
+        (both_weaker (TellsSealed user input output new.random) (λ before now. (those : List Answer) × (now ≡ before ++ those) × ((content : List ℕ) × TakenInPieces input those content × SealedLast user output content those new.random))
+        mid.host.given new.host.given (s.gave is) (λ a c t. (t.0, t.1, (t.2, t.3, t.4)))) were in
         let taken = b.3.1 in
         let sealed = b.3.2 in
         let all = b.2 in
@@ -169,8 +169,8 @@ module _ (key input output : Name) (old new : World) (status : ℕ) (ended : Res
   pub found_large : (these : List Answer) (pieces : List (List ℕ)) → WereTold these old.host new.host → GavePieces input these pieces → MOST_SIZE < length (concat pieces) → Reports (AtEnd (Refused TooLarge)) old.log new.log status
   found_large these pieces were gave large =
       let b = behind (λ before those. (ps : List (List ℕ)) × (filter (is_piece_of input) those ≡ piece_answers input 0 ps) × ((length (concat ps) ≤ MOST_SIZE) ⊎ (ended ≡ Large))) these
-          (both_weaker (TellsEnd input ended) (λ before now. (those : List Answer) × (now ≡ before ++ those) × ((ps : List (List ℕ)) × (filter (is_piece_of input) those ≡ piece_answers input 0 ps) × ((length (concat ps) ≤ MOST_SIZE) ⊎ (ended ≡ Large))))
-          mid.host.given new.host.given s.told (λ a c t. (t.0, t.1, (t.2, t.3, t.4)))) were in
+      (both_weaker (TellsEnd input ended) (λ before now. (those : List Answer) × (now ≡ before ++ those) × ((ps : List (List ℕ)) × (filter (is_piece_of input) those ≡ piece_answers input 0 ps) × ((length (concat ps) ≤ MOST_SIZE) ⊎ (ended ≡ Large))))
+      mid.host.given new.host.given s.told (λ a c t. (t.0, t.1, (t.2, t.3, t.4)))) were in
       let same = same_pieces input 0 pieces b.3.0 (sym gave ∙ ap (λ (l : List Answer). filter (is_piece_of input) l) b.2 ∙ first_none key user input found.size b.0 ∙ b.3.1) in
       ⊎_elim (λ small. absurd (let e = ap (λ (l : List (List ℕ)). length (concat l)) same in omega (arith, small, large, e))) (λ is. subst (λ (e : Result (Unit {0}) Fault). Concludes e old.log new.log status) is concludes) b.3.2
 

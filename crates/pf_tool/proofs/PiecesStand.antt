@@ -53,9 +53,12 @@ module _ (input : Name) (user : List ℕ) (output : Name) where
   pub piece_stands : (sheet : Sheet) (content piece : List ℕ) (old new : SessionState) (before after : HostState) (random random' : WordsState) → Standing user output sheet content old → PieceWritten input (length content) piece old new before after random random'
       → (next : Sheet) × Standing user output next (content ++ piece) new × Went input user output sheet next (length content) (piece ∷ []) before after random random'
   piece_stands sheet content piece old new before after random random' stands wrote =
-      let made = write_stands input user output sheet content wrote.written piece old new wrote.between after random random' stands wrote.wrote in
-      (made.0, made.1, went_then input user output sheet sheet made.0 (length content) (piece ∷ []) [] before wrote.between after random random random' (gave_went sheet (length content) piece before wrote.between random wrote.gave)
-      (made.2 (length content + length (concat (piece ∷ [])))))
+      let made = write_stands input user output sheet content wrote.written piece old new wrote.between after random random' stands wrote.wrote in (
+        made.0,
+        made.1,
+        went_then input user output sheet sheet made.0 (length content) (piece ∷ []) [] before wrote.between after random random random' (gave_went sheet (length content) piece before wrote.between random wrote.gave)
+            (made.2 (length content + length (concat (piece ∷ [])))),
+      )
 
 -- whole pieces
 pub record AreStanding (input : Name) (user : List ℕ) (output : Name) (first : Sheet) (content : List ℕ) (new : SessionState) (before after : HostState) (random random' : WordsState) : Type 0 where

@@ -78,7 +78,7 @@ module _ (input user : List ℕ) (output : Name) (first : Sheet) (old : SessionS
       let fails = write_fails input user output i.sheet earlier piece mid new given after words random' i.stands why fault says goes in
       let place : length earlier ≡ 0 + length (concat i.pieces) = let same = ap (λ (l : List ℕ). length l) i.together in omega (arith, same) in
       let went = went_then input user output first i.sheet i.sheet 0 i.pieces (piece ∷ []) before between given random words words i.went
-          (subst (λ (n : ℕ). Went input user output i.sheet i.sheet n (piece ∷ []) between given words words) place (gave_went input user output i.sheet (length earlier) piece between given words gave)) in
+      (subst (λ (n : ℕ). Went input user output i.sheet i.sheet n (piece ∷ []) between given words words) place (gave_went input user output i.sheet (length earlier) piece between given words gave)) in
       let pieces = i.pieces ++ piece ∷ [] in
       let end : length (concat pieces) ≡ length earlier + length piece = ap (λ (l : List ℕ). length l) (joined i.pieces piece earlier i.together) ∙ length-append earlier piece in
       record {

@@ -134,9 +134,13 @@ module _ (user : List ℕ) (input output : Name) (ne : input ≢ side_of output)
     copied_not fault stops = record {
       counts = counts_after fault before begun after random words random' b.asked.faults b.drawn.took.calm stops.counts;
       told = both_then (TellsPieces input 0 []) (TellsUpTo input fault) (TellsEnd input (Err fault)) before.given begun.given after.given begun_told stops.told
-          (λ a c d one two. (one.0 ++ two.0, two.1 ∙ ap (λ (l : List Answer). l ++ two.0) one.1 ∙ append_assoc a one.0 two.0, two.2,
-          filter-append (is_piece_of input) one.0 two.0 ∙ ap (λ (l : List Answer). l ++ filter (is_piece_of input) two.0) one.2 ∙ two.3,
-          ⊎_elim (λ fits. inl fits.0) (λ large. inr (ap Err large.0)) two.4));
+          (λ a c d one two. (
+            one.0 ++ two.0,
+            two.1 ∙ ap (λ (l : List Answer). l ++ two.0) one.1 ∙ append_assoc a one.0 two.0,
+            two.2,
+            filter-append (is_piece_of input) one.0 two.0 ∙ ap (λ (l : List Answer). l ++ filter (is_piece_of input) two.0) one.2 ∙ two.3,
+            ⊎_elim (λ fits. inl fits.0) (λ large. inr (ap Err large.0)) two.4,
+          ));
       over = IfSome_then (files_of before) (alone_read output input (λ file. IsLargeIf fault (contents file)) before begun ne b.alone (stops.large ne)) (λ (files : Files) large. record { fits = λ is. absurd (cc); large = λ is. large (large_fault fault is) });
       disk = kept_out (λ is. absurd (cc)) (alone_then output before begun after b.alone stops.alone);
       gave = λ is. absurd (cc);
@@ -178,7 +182,7 @@ module _ (user : List ℕ) (input output : Name) (ne : input ≢ side_of output)
       has_base : OnDisk before copied (Ends (λ _. HasSheet whole.key (side_of whole.name) c.sheet))
       has_base =
           let one = both_then (Ends (λ _. HasSheet user (side_of output) First)) (Where (HasSheet user (side_of output) First) (Ends (λ _. HasSheet user (side_of output) c.sheet))) (Ends (λ _. HasSheet user (side_of output) c.sheet))
-              before.honest begun.honest copied.honest begun_has c.went.stands (λ a m e has go. go has) in
+          before.honest begun.honest copied.honest begun_has c.went.stands (λ a m e has go. go has) in
           subst (λ (u : List ℕ). OnDisk before copied (Ends (λ _. HasSheet u (side_of whole.name) c.sheet))) (sym c.stands.key_is)
           (subst (λ (n : Name). OnDisk before copied (Ends (λ _. HasSheet user (side_of n) c.sheet))) (sym c.stands.name_is) one)
 
@@ -259,30 +263,36 @@ module _ (user : List ℕ) (input output : Name) (ne : input ≢ side_of output)
                 disk = new_out content of_file (done_left user output content whole next c.stands.key_is c.stands.name_is path_is content_is c.sheet before copied between after copied_alone has_base keeps two
                     (MayBe (Ok tt) before after) (Ok tt ≡ Ok tt) (inl refl) publishes);
                 gave = λ is. both_then (TellsPieces input 0 Given) (IsMore (steps ++ swap)) (TellsSealed user input output random') before.given copied.given after.given copied_told behind
-                    (λ a d e one two. (one.0 ++ (steps ++ swap), two ∙ ap (λ (l : List Answer). l ++ (steps ++ swap)) one.1 ∙ append_assoc a one.0 (steps ++ swap), content, record {
-                      whole = c.whole;
-                      last = c.last;
-                      are_whole = c.are_whole;
-                      short = c.short;
-                      gave = filter-append (is_piece_of input) one.0 (steps ++ swap) ∙ ap₂ (λ (l m : List Answer). l ++ m) one.2 none ∙ append-nil (piece_answers input 0 Given);
-                      content_is = sym c.together;
-                    }, record {
-                      base = c.sheet;
-                      tree = whole.tree;
-                      linked = c.stands.linked;
-                      backs = c.stands.backed.backs;
-                      nonce = nonce;
-                      keys = keys;
-                      before = more;
-                      words_came = subst (λ (o : Option (List ℕ)). WordsCame o (length whole.tree.dirty) nonce keys more random') c.stands.drawn_is came;
-                      next = next;
-                      is_next = subst (λ (p : List ℕ). NextSheet c.sheet whole.tree p nonce keys next) c.stands.path_is is_next;
-                      content_is = content_is;
-                      sealed = sealed_tree;
-                      shape = done.shape;
-                      front = one.0;
-                      last_calls = refl;
-                    }));
+                    (λ a d e one two. (
+                      one.0 ++ (steps ++ swap),
+                      two ∙ ap (λ (l : List Answer). l ++ (steps ++ swap)) one.1 ∙ append_assoc a one.0 (steps ++ swap),
+                      content,
+                      record {
+                        whole = c.whole;
+                        last = c.last;
+                        are_whole = c.are_whole;
+                        short = c.short;
+                        gave = filter-append (is_piece_of input) one.0 (steps ++ swap) ∙ ap₂ (λ (l m : List Answer). l ++ m) one.2 none ∙ append-nil (piece_answers input 0 Given);
+                        content_is = sym c.together;
+                      },
+                      record {
+                        base = c.sheet;
+                        tree = whole.tree;
+                        linked = c.stands.linked;
+                        backs = c.stands.backed.backs;
+                        nonce = nonce;
+                        keys = keys;
+                        before = more;
+                        words_came = subst (λ (o : Option (List ℕ)). WordsCame o (length whole.tree.dirty) nonce keys more random') c.stands.drawn_is came;
+                        next = next;
+                        is_next = subst (λ (p : List ℕ). NextSheet c.sheet whole.tree p nonce keys next) c.stands.path_is is_next;
+                        content_is = content_is;
+                        sealed = sealed_tree;
+                        shape = done.shape;
+                        front = one.0;
+                        last_calls = refl;
+                      },
+                    ));
               }
 
 no_flush : {A E : Type 0} (value : A) (fault : E) → ◌≡◌ {A = Result A E} (Ok value) (Err fault) → ⊥

@@ -130,4 +130,3 @@ write_grows w at bytes old new before after random random' (flushed_and_changed 
     let f = flush_keeps old mid before between random _ flush in
     let k = step_keeps at bytes mid new between after (subst (λ (r : Result (Unit {0}) TreeFault). StepGoes r (Write at bytes) mid new between after) (step_was_made true one is) goes) in
     record { fit = is_fit at (length bytes) old.tree.size never; keeps = keeps_then old mid new f.0 k.0; size = k.1 ∙ ap (λ (n : ℕ). max n (at + length bytes)) f.1 }
-

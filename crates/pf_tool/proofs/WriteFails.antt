@@ -103,7 +103,7 @@ module _ (input user : List ℕ) (output : Name) (sheet : Sheet) (content : List
         let r = refused_as (length content) (length bytes) old.tree.size other fault rule (subst (λ (w : WriteFault). IsPieceFault w fault) e says) in
         (still_fails input output fault before after random random' (inl r.0) still words, inr r)
     write_fails why fault says (unchanged never none same still words is) = absurd (no_write why _ is)
-    write_fails why fault says (changed one never some room goes words is) = 
+    write_fails why fault says (changed one never some room goes words is) =
         let step = step_fails input user output sheet content false one why fault bytes old new before after random random' stands goes words is says in
         (step.0, inl (fits never, memory_other fault step.1))
     write_fails why fault says (not_flushed other never some many flush undamaged is) =

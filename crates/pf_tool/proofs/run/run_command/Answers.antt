@@ -31,7 +31,7 @@ returns-in-Encrypt g c input =
     let r1 = g.R.Words.state c.encrypt.new.random in
     let command = c.in-Encrypt.command in
     let runs : RunsSealing command.key.now command.input.now command.output.now (world_of h0 input o0 l0 r0) (world_of h1 input o0 l1 r1) c.conclude-in-Encrypt.result =
-        record { ended = c.encrypt.result; goes = c.encrypt.ensures (world_of h0 input o0 l0 r0); concludes = c.conclude-in-Encrypt.ensures } in
+    record { ended = c.encrypt.result; goes = c.encrypt.ensures (world_of h0 input o0 l0 r0); concludes = c.conclude-in-Encrypt.ensures } in
     subst (λ (x : Command). Runs (request_of x) (world_of h0 input o0 l0 r0) (world_of h1 input o0 l1 r1) c.conclude-in-Encrypt.result) (sym c.in-Encrypt.is) runs
 
 pub returns-in-Manifest : goal.returns-in-Manifest
