@@ -1,5 +1,5 @@
 -- What a run of `encrypt` that found its input comes to: by the answers that were told, by files, and on a disk.
-use Rattle.std.proofs.Common.{◌≡◌, ◌≢◌, ◌⊎◌, inl, inr, ⊎_elim, ℕ, ◌+◌, ◌<◌, ◌≤◌, Bool, true, false, cond, List, [], ◌∷◌, ◌++◌, length, take, drop, filter, refl, sym, ap, subst, ◌∙◌, arith, append_assoc, Option, Some, None, IfSome, Result, Ok, Err}
+use Rattle.std.proofs.Common.{◌≡◌, ◌⊎◌, inl, inr, ⊎_elim, ℕ, ◌+◌, ◌<◌, ◌≤◌, Bool, true, false, cond, List, [], ◌∷◌, ◌++◌, length, take, filter, refl, sym, ap, subst, ◌∙◌, arith, append_assoc, Option, Some, None, IfSome, Result, Ok}
 use Rattle.std.specs.Prelude.{Contains, ◌&&◌, bytes_eq, option_map}
 use Rattle.std.specs.List.{AllByRecursion, concat}
 use Rattle.std.proofs.lemmas.List.{append-nil, append_cancel_left}
@@ -8,23 +8,17 @@ use Rattle.node_layout.specs.Metadata.{MOST_SIZE}
 use Rattle.pf_io.specs.Counts.{counted}
 use Rattle.pf_io.specs.Answered.{IsAnswerOf, WereTold}
 use Rattle.pf_io.specs.Disk.{Name, File, Disk, Image, IsImage, Files, reading}
-use Rattle.pf_io.specs.Host.{Answer, LengthWas, Gave, Swapped, HostState, Both, IsMore, OnHonest, files_of, contents}
+use Rattle.pf_io.specs.Host.{Answer, LengthWas, Gave, HostState, Both, IsMore, files_of, contents}
 use Rattle.pf_io.specs.Moments.{Honest, Ran}
-use Rattle.pf_io.specs.Names.{side_of}
 use Rattle.pf_io.specs.Steps.{Stays}
 use Rattle.pf_io.specs.Streams.{SinkState, TakesFront}
-use Rattle.pf_io.specs.Unchanged.{KeepsDisk}
 use Rattle.pf_io.proofs.Runs.{goes_on_ran}
 use Rattle.pf_io.proofs.Telling.{both_then, both_weaker, both_same}
-use Rattle.node_tree.specs.Parts.{PIECE}
-use Rattle.pf_session.specs.Restored.{KeepsBeside}
-use Rattle.pf_session.specs.Steps.{seal_steps}
 use Rattle.pf_tool.specs.World.{World, with_log, with_host, with_random}
 use Rattle.pf_tool.specs.Events.{Event, Answers, answers_in}
-use Rattle.pf_tool.specs.Endings.{Ending, Done, Refused, TooLarge, AtEnd, ending_status, ending_line, memory_line}
-use Rattle.pf_tool.specs.Faults.{fault_line, fault_status}
-use Rattle.pf_tool.specs.Keys.{KeyRefused, key_unnamed, key_absent, key_length, key_short, key_events, KeyOver}
-use Rattle.pf_tool.specs.Encrypting.{EncryptRefused, no_key, names_unfit, input_absent, InputFound, EncryptOver, over_large, over_done, user_on, content_on, IsVersion}
+use Rattle.pf_tool.specs.Endings.{Ending, Done, Refused, TooLarge, AtEnd}
+use Rattle.pf_tool.specs.Keys.{key_unnamed, key_absent, key_length, key_short, key_events, KeyOver}
+use Rattle.pf_tool.specs.Encrypting.{EncryptRefused, no_key, names_unfit, input_absent, InputFound, over_large, over_done, user_on, content_on, IsVersion}
 use Rattle.pf_tool.specs.Outcomes.{Concludes}
 use Rattle.pf_tool.specs.Reports.{WroteAll, Reports}
 use Rattle.pf_tool.specs.Requests.{Encrypt}
@@ -33,9 +27,6 @@ use Rattle.pf_tool.specs.SealedContents.{is_piece_of, piece_answers, GavePieces,
 use Rattle.pf_tool.specs.SealingInput.{SealsInput}
 use Rattle.pf_tool.specs.SideFiles.{IsNewFile}
 use Rattle.pf_tool.specs.declared.fault.Fault.{Fault}
-use Rattle.pf_tool.specs.declared.fault.Fault.TheVariants as faults
-use Rattle.pf_tool.specs.declared.why.Why.TheVariants as whys
-use Rattle.pf_tool.proofs.ContentRuns.{these_told}
 use Rattle.pf_tool.proofs.DecryptLaws.{key_apart}
 use Rattle.pf_tool.proofs.KeyOver.{there_of, key_read_over}
 use Rattle.pf_tool.proofs.NodeReading.{kept_files}

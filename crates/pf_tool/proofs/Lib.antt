@@ -9,7 +9,6 @@ pub mod InputLaws
 pub mod PageReading
 pub mod LayoutReading
 mod Lists
-mod Drawing
 mod HeldTree
 mod SessionWrites
 mod PieceGiving

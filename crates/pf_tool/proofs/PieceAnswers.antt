@@ -1,12 +1,12 @@
 -- The answers of pieces among all answers.
-use Rattle.std.proofs.Common.{◌≡◌, ℕ, ◌+◌, Bool, true, false, cond, List, [], ◌∷◌, ◌++◌, length, filter, refl, sym, ap, subst, ◌∙◌, arith, append_assoc, length-append, Option}
+use Rattle.std.proofs.Common.{◌≡◌, ℕ, ◌+◌, Bool, true, cond, List, [], ◌∷◌, ◌++◌, length, filter, refl, sym, ap, subst, ◌∙◌, arith, append_assoc, length-append, Option}
 use Rattle.std.proofs.lemmas.List.{append-nil}
 use Rattle.std.specs.Prelude.{bytes_eq, ◌&&◌}
 use Rattle.std.specs.List.{concat}
 use Rattle.std.proofs.lemmas.List.Elements.{filter-append}
 use Rattle.std.proofs.lemmas.Slice.Eq.{bytes_eq-Decides}
 use Rattle.pf_io.specs.Disk.{Name}
-use Rattle.pf_io.specs.Host.{Answer, Gave, Wrote, Synced, Made, HostState, Both, IsMore}
+use Rattle.pf_io.specs.Host.{Answer, Gave, HostState, Both, IsMore}
 use Rattle.pf_io.specs.Names.{side_of}
 use Rattle.pf_io.proofs.Telling.{both_then, both_weaker, both_same}
 use Rattle.node_tree.specs.Parts.{PIECE}

@@ -1,19 +1,18 @@
 -- What a sealing leaves at the output, and that all other names stay.
-use Rattle.std.proofs.Common.{◌≡◌, ◌≢◌, ◌⊎◌, inl, inr, ⊎_elim, ℕ, ◌≤◌, Bool, true, false, List, [], ◌∷◌, length, refl, sym, ap, subst, ◌∙◌, Option, Some, None, Result, Ok, Err}
+use Rattle.std.proofs.Common.{◌≡◌, ◌≢◌, inl, inr, ⊎_elim, ℕ, Bool, true, false, List, refl, sym, subst, ◌∙◌, Option, Some, None}
 use Rattle.node_tree.specs.Sheet.{Sheet, Stands}
-use Rattle.pf_io.specs.Disk.{Name, File, Disk, Image, IsImage, IsImageAt, IsSettledFile}
+use Rattle.pf_io.specs.Disk.{Name, File, Disk, Image, IsImageAt}
 use Rattle.pf_io.specs.Host.{HostState, Both, OnDisk}
-use Rattle.pf_io.specs.Moments.{Honest, Leaves, Ran, Where, Ends}
+use Rattle.pf_io.specs.Moments.{Honest, Ran, Where, Ends}
 use Rattle.pf_io.specs.Names.{side_of}
 use Rattle.pf_io.specs.Steps.{KeepsOthers}
 use Rattle.pf_io.proofs.Runs.{goes_on_ran}
-use Rattle.pf_io.proofs.Telling.{both_then, both_weaker}
+use Rattle.pf_io.proofs.Telling.{both_weaker}
 use Rattle.pf_session.specs.Aside.{LeavesOthers, LeavesAllBut, KeepsAllBut, ChangesTwo}
 use Rattle.pf_session.specs.Ending.{KeptOr, PublishedIf, Publishes}
 use Rattle.pf_session.specs.Reopening.{HasSheet}
 use Rattle.pf_session.specs.Restored.{KeepsBeside}
 use Rattle.pf_session.specs.State.{SessionState}
-use Rattle.pf_session.proofs.Disks.{leaves_others}
 use Rattle.pf_tool.specs.Encrypting.{StandsFor}
 use Rattle.pf_tool.specs.Runs.{OutputLeft, OutputEnds}
 use Rattle.pf_tool.specs.SideFiles.{IsNewFile}

@@ -1,15 +1,15 @@
 -- What a sealing comes to, however it ends.
-use Rattle.std.proofs.Common.{◌≡◌, ◌≢◌, ◌⊎◌, inl, inr, ⊎_elim, ℕ, ◌+◌, ◌^◌, ◌<◌, ◌≤◌, Bool, true, false, List, [], ◌∷◌, ◌++◌, length, filter, refl, sym, ap, ap₂, subst, ◌∙◌, arith, append_assoc, length-append, Option, Some, None, IfSome, Result, Ok, Err}
+use Rattle.std.proofs.Common.{◌≡◌, ◌≢◌, ◌⊎◌, inl, inr, ⊎_elim, ℕ, ◌+◌, ◌<◌, ◌≤◌, Bool, true, false, List, [], ◌∷◌, ◌++◌, length, filter, refl, sym, ap, ap₂, subst, ◌∙◌, arith, append_assoc, length-append, Option, Some, None, IfSome, Result, Ok, Err}
 use Rattle.std.specs.List.{concat}
 use Rattle.std.proofs.lemmas.List.{append-nil}
 use Rattle.std.proofs.lemmas.List.Elements.{filter-append}
 use Rattle.std.proofs.lemmas.Option.{IfSome_then}
 use Rattle.node_layout.specs.Metadata.{MOST_SIZE}
 use Rattle.node_tree.specs.Next.{NextSheet}
-use Rattle.node_tree.specs.Sheet.{Sheet, IsLinked}
+use Rattle.node_tree.specs.Sheet.{Sheet}
 use Rattle.node_tree.specs.State.{TreeState}
 use Rattle.pf_io.specs.Counts.{counted}
-use Rattle.pf_io.specs.Disk.{Name, Disk, Files}
+use Rattle.pf_io.specs.Disk.{Name, Files}
 use Rattle.pf_io.specs.Host.{Answer, Swapped, HostState, Both, IsMore, OnDisk, OnHonest, files_of, contents}
 use Rattle.pf_io.specs.Moments.{Ran, Ends, Where}
 use Rattle.pf_io.specs.Names.{side_of}
@@ -18,7 +18,7 @@ use Rattle.pf_io.proofs.Telling.{both_then, both_weaker, told_on}
 use Rattle.pf_io.proofs.Writing.{once_after}
 use Rattle.pf_session.specs.Asking.{NoCall, AnotherCall, Asked}
 use Rattle.pf_session.specs.Aside.{ChangesTwo}
-use Rattle.pf_session.specs.Creating.{BesideGoes, Begins, BeginsOn, empty_sheet, empty_node}
+use Rattle.pf_session.specs.Creating.{BeginsOn, empty_sheet, empty_node}
 use Rattle.pf_session.specs.Drawing.{WordsCame}
 use Rattle.pf_session.specs.Ending.{PublishGoes, Publishes, PublishesEach, not_named, published}
 use Rattle.pf_session.specs.Ending as ending
@@ -35,20 +35,18 @@ use Rattle.pf_session.specs.declared.fault.FlushFault.TheVariants as flushes
 use Rattle.pf_tool.specs.Faults.{beside_fault, flush_fault}
 use Rattle.pf_tool.specs.Runs.{OutputLeft, OutputEnds}
 use Rattle.pf_tool.specs.SealedContents.{is_piece_of, piece_answers, TakenInPieces, SealedLast}
-use Rattle.pf_tool.specs.SealingInput.{InputWritten, InputStops, SealsInput, not_begun, not_copied, not_published, sealed}
+use Rattle.pf_tool.specs.SealingInput.{InputWritten, SealsInput, not_begun, not_copied, not_published, sealed}
 use Rattle.pf_tool.specs.declared.fault.Fault.{Fault}
 use Rattle.pf_tool.specs.declared.fault.Fault.TheVariants as faults
 use Rattle.pf_tool.specs.declared.why.Why.TheVariants as whys
-use Rattle.pf_tool.proofs.HeldTree.{HoldsAll}
 use Rattle.pf_tool.proofs.PieceAnswers.{TellsPieces, tells_none, tells_then, none_of_flush, none_of_make}
 use Rattle.pf_tool.proofs.SessionBegun.{Begun, has_begun}
 use Rattle.pf_tool.proofs.SessionWrites.{write_grows}
-use Rattle.pf_tool.proofs.SheetWrites.{Standing, Went, alone_then}
+use Rattle.pf_tool.proofs.SheetWrites.{Standing, alone_then}
 use Rattle.pf_tool.proofs.InputStands.{IsCopied, is_copied, begun_stands, input_of, alone_read}
 use Rattle.pf_tool.proofs.SealCounts.{CountsFault, counts_after, Fails, beside_fails, flush_fails}
-use Rattle.pf_tool.proofs.WriteFails.{FitsOr}
 use Rattle.pf_tool.proofs.SealStops.{TellsUpTo, IsLargeIf, Stops, stops_so}
-use Rattle.pf_tool.proofs.SealDisks.{HasVersion, alone_left, done_left, tried_left}
+use Rattle.pf_tool.proofs.SealDisks.{HasVersion, done_left, tried_left}
 
 abbrev pub Large : Result (Unit {0}) Fault
 Large = Err (faults.Refused whys.TooLarge)

@@ -1,36 +1,30 @@
 -- Behind the pieces that were written a session made beside a name stands on a sheet, holds all nodes and has the pieces as content. What this takes of the host and of the words.
-use Rattle.std.proofs.Common.{◌≡◌, ◌≢◌, ℕ, ◌+◌, ◌-◌, suc, ◌≤◌, min, max, Bool, true, false, List, [], ◌∷◌, ◌++◌, length, take, drop, refl, sym, ap, subst, ◌∙◌, arith, append_assoc, length-append, length-take, length-drop, Option, Some, None, IfSome, Result, Ok, Err}
+use Rattle.std.proofs.Common.{◌≡◌, ℕ, ◌+◌, suc, ◌≤◌, max, true, false, List, [], ◌++◌, length, drop, refl, sym, ap, subst, ◌∙◌, arith, length-append, None, Result, Ok, Err}
 use Rattle.std.specs.List.{concat}
 use Rattle.std.proofs.lemmas.List.{append-nil, drop_all}
 use Rattle.std.proofs.Math.Seq.{take-length}
-use Rattle.std.proofs.lemmas.Option.{IfSome_then}
 use Rattle.node_layout.specs.Places.{node_count}
 use Rattle.node_tree.specs.Applying.{Write, applied}
 use Rattle.node_tree.specs.Backing.{now}
-use Rattle.node_tree.specs.Opened.{IsAt}
-use Rattle.node_tree.specs.Parts.{PIECE}
 use Rattle.node_tree.specs.Sheet.{Sheet, IsLinked}
-use Rattle.node_tree.specs.State.{TreeState, Held, held_at}
 use Rattle.node_tree.specs.declared.fault.TreeFault.{TreeFault}
-use Rattle.pf_io.specs.Disk.{Name, Disk, Files, reading, read_of}
-use Rattle.pf_io.specs.Host.{HostState, Answer, Gave, Both, OnDisk, OnHonest, files_of, contents}
-use Rattle.pf_io.specs.Moments.{Honest, Ran, Where, Ends}
+use Rattle.pf_io.specs.Disk.{Name, Disk}
+use Rattle.pf_io.specs.Host.{HostState, Both, OnDisk}
+use Rattle.pf_io.specs.Moments.{Ran, Where, Ends}
 use Rattle.pf_io.specs.Names.{side_of}
 use Rattle.pf_io.specs.Steps.{KeepsOthers}
-use Rattle.pf_io.specs.Unchanged.{KeepsDisk}
 use Rattle.pf_io.specs.Words.{WordsState}
 use Rattle.pf_io.proofs.Runs.{started, goes_on_ran}
 use Rattle.pf_io.proofs.Telling.{both_then, both_weaker, both_same}
-use Rattle.pf_session.specs.Aside.{LeavesOthers, ChangesAlone}
+use Rattle.pf_session.specs.Aside.{LeavesOthers}
 use Rattle.pf_session.specs.Backing.{IsBacked}
 use Rattle.pf_session.specs.Changing.{StepGoes, WriteGoes, refused, unchanged, changed, not_flushed, flushed_and_changed}
 use Rattle.pf_session.specs.Faults.{write_of_flush}
-use Rattle.pf_session.specs.Flushing.{FlushDone, SealGoes, node_short, call_failed, flushed, FlushGoes, no_words, had_words}
+use Rattle.pf_session.specs.Flushing.{SealGoes, node_short, call_failed, flushed, FlushGoes, no_words, had_words}
 use Rattle.pf_session.specs.Reopening.{HasSheet, ReadsAs}
 use Rattle.pf_session.specs.Restored.{KeepsBeside}
 use Rattle.pf_session.specs.Sealing.{StandsNext}
 use Rattle.pf_session.specs.State.{SessionState, file_of}
-use Rattle.pf_session.specs.declared.fault.FlushFault.{FlushFault}
 use Rattle.pf_session.specs.declared.fault.WriteFault.{WriteFault}
 use Rattle.pf_session.specs.declared.fault.Written.{Written}
 use Rattle.pf_session.proofs.Disks.{leaves_others}

@@ -1,8 +1,7 @@
-use Rattle.std.proofs.Common.{rules, ◌<◌, false, max, ◌≡◌, ℕ, ◌+◌, List, [], ◌++◌, length, take, refl, sym, subst, ap, ◌∙◌, arith, length-append, length-take, Result, Ok, Err}
+use Rattle.std.proofs.Common.{rules, ◌≡◌, ℕ, ◌+◌, List, [], ◌++◌, length, take, refl, sym, subst, ◌∙◌, arith, length-append, length-take, Ok, Err}
 use Rattle.std.proofs.lemmas.List.{length-take-le}
 use Rattle.std.proofs.lemmas.Result.{err_from_is_err_and}
 use Rattle.pf_session.specs.Changing.{WriteGoes}
-use Rattle.pf_session.specs.declared.fault.WriteFault.{WriteFault}
 use Rattle.pf_session.specs.declared.fault.Written.{Written}
 use Rattle.pf_tool.specs.SealingInput.{GavePiece, PieceWritten, none_yet, one_more, not_given, not_written}
 use Rattle.pf_tool.proofs.SessionWrites.{write_grows}

@@ -1,4 +1,4 @@
-use Rattle.std.proofs.Common.{◌≡◌, ℕ, List, Bool, false, cond, take, refl, ◌∙◌, sym, subst, arith, ap, rules, Result, Ok, Err}
+use Rattle.std.proofs.Common.{◌≡◌, ℕ, Bool, false, cond, take, refl, ◌∙◌, sym, subst, arith, ap, rules, Result, Ok, Err}
 use Rattle.node_tree.specs.Reading.{Reads}
 use Rattle.node_tree.specs.declared.fault.TreeFault.{TreeFault}
 use Rattle.pf_io.specs.Disk.{Name}

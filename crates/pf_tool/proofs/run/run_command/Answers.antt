@@ -1,7 +1,7 @@
 use Rattle.std.proofs.Common.{sym, subst}
 use Rattle.std.specs.Prelude.{option_map}
 use Rattle.pf_tool.specs.World.{world_of}
-use Rattle.pf_tool.specs.Requests.{Decrypt, Encrypt, Manifest, request_of, Sums, Measure}
+use Rattle.pf_tool.specs.Requests.{Decrypt, Manifest, request_of, Sums, Measure}
 use Rattle.pf_tool.specs.Runs.{Runs, RunsSealing}
 use Rattle.pf_tool.specs.declared.words.Command.{Command}
 use Rattle.pf_tool.proofs.RunClauses.{concluded}
