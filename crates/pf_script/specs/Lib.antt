@@ -4,10 +4,3 @@ pub mod Reading
 pub mod Lines
 pub mod LineReading
 pub mod Replies
-pub mod BookRules
-pub mod Book
-pub mod BookActs
-pub mod BookDebts
-pub mod BookSeats
-pub mod BookLaws
-pub mod BookExamples

@@ -1,5 +1,4 @@
-//! The script of a session: its lines, read from any source, the replies to them, and the book that says what a crash leaves
-//! of the names that it changes.
+//! The script of a session: its lines, read from any source, and the replies to them.
 #![tactic(auto)]
 
 mod buffer;
@@ -19,7 +18,7 @@ mod tests;
 mod words;
 
 pub use fault::LineFault;
-pub use laws::{definitions_on_examples, steps_keep_the_book, text_has_one_reading};
+pub use laws::{definitions_on_examples, text_has_one_reading};
 pub use line::ScriptLine;
 pub use line_reader::LineReader;
 pub use next_line::NextLine;

@@ -3,30 +3,18 @@
 #![tactic(auto)]
 
 mod changing;
-#[cfg(test)]
-mod changing_tests;
 mod copying;
 mod creating;
-#[cfg(test)]
-mod creating_tests;
 mod drawing;
 mod ending;
 mod fault;
 mod file_name;
-#[cfg(test)]
-mod fixtures;
 mod flushing;
-#[cfg(test)]
-mod flushing_tests;
 mod laws;
 mod moving;
-#[cfg(test)]
-mod moving_tests;
 mod node_zero;
 mod open_fault;
 mod opening;
-#[cfg(test)]
-mod opening_tests;
 mod reading;
 mod sealing;
 mod session;

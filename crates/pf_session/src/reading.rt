@@ -52,6 +52,13 @@ impl Session {
         self.broken
     }
 
+    /// Whether the file stands at the side name until it is published.
+    pub fn beside(&self) -> bool
+        ensures { result ≡ self.now.beside }
+    {
+        self.beside
+    }
+
     /// How many nodes were changed since the last sealing, at most 48.
     pub fn dirty(&self) -> usize
         ensures same { result ≡ length self.now.tree.dirty }

@@ -1,7 +1,7 @@
 //! Changes of a session's content.
 use crate::fixtures::{AT_ONCE, flush, new_file, reopened, words_of, write};
-use crate::{Session, SizeFault, WriteFault, Written};
 use pf_io::{ListWords, MemHost};
+use pf_session::{Session, SizeFault, WriteFault, Written};
 use std::process::Abort;
 use std::test::Fail;
 

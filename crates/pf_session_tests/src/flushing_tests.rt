@@ -2,9 +2,9 @@
 ghost use Rattle.std.specs.Prelude.{◌≡◌, true};
 
 use crate::fixtures::{AT_ONCE, EACH_TEAR, KEY, flush, new_file, reopened, words_of, write};
-use crate::{FlushFault, Session};
 use node_layout::{Damage, Kind};
 use pf_io::{Host, ListWords, MemHost, Tear};
+use pf_session::{FlushFault, Session};
 use std::alloc::Global;
 use std::process::Abort;
 use std::test::Fail;

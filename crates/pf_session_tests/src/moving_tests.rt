@@ -1,8 +1,8 @@
 //! Moves of protected files, and what a crash leaves of them.
 use crate::fixtures::{AT_ONCE, EACH_TEAR, KEY, flush, new_file, words_of, write};
-use crate::{MoveFault, OpenFault, Session};
 use node_layout::{Damage, Kind};
 use pf_io::{Host, ListWords, MemHost, Tear};
+use pf_session::{MoveFault, OpenFault, Session};
 use std::alloc::Global;
 use std::process::Abort;
 use std::test::Fail;
@@ -42,7 +42,7 @@ fn move_to(
     random: &mut ListWords,
     new: &str,
 ) -> Result<(), MoveFault> {
-    assert!(rt; !session.broken() && !session.beside);
+    assert!(rt; !session.broken() && !session.beside());
     session.move_to(alloc, host, random, new)
 }
 

@@ -1,7 +1,7 @@
 //! Creations of protected files, and what a crash leaves of them.
 use crate::fixtures::{EACH_TEAR, KEY, words_of};
-use crate::{BesideFault, CreateFault, OpenFault, Session};
 use pf_io::{Host, ListWords, MemHost, Tear};
+use pf_session::{BesideFault, CreateFault, OpenFault, Session};
 use std::alloc::Global;
 use std::process::Abort;
 use std::test::Fail;

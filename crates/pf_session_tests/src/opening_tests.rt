@@ -1,8 +1,8 @@
 //! Openings and reads of a file of three nodes.
-use crate::{OpenFault, Session};
 use aes_gcm::{Key, seal_in_place};
 use node_layout::{Damage, Kind, MetaSecret, PathText, seal_meta, set_entry};
 use pf_io::MemHost;
+use pf_session::{OpenFault, Session};
 use std::alloc::{AllocError, Global};
 use std::process::Abort;
 

@@ -1,6 +1,6 @@
 //! What the tests of sessions share.
-use crate::{Session, WriteFault, Written};
 use pf_io::{ListWords, MemHost, Tear};
+use pf_session::{Session, WriteFault, Written};
 use std::alloc::Global;
 use std::process::Abort;
 use std::test::Fail;
