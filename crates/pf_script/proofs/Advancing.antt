@@ -1,5 +1,5 @@
 -- The search for a line feed, read by read.
-use Rattle.std.proofs.Common.{◌≡◌, ◌≢◌, ◌∙◌, ℕ, ◌+◌, ◌<◌, ◌≤◌, Bool, true, false, List, [], ◌∷◌, ◌++◌, length, take, drop, get_or, refl, sym, ap, subst, arith, Option, Some, None, IfSome, Result, Ok, Err, inl, inr, append_assoc, length-append}
+use Rattle.std.proofs.Common.{◌≡◌, ◌≢◌, ◌∙◌, ℕ, ◌+◌, ◌<◌, ◌≤◌, Bool, true, false, List, [], ◌∷◌, ◌++◌, length, take, drop, get_or, refl, sym, ap, subst, arith, Option, Some, None, IfSome, Result, Ok, Err, inl, inr, append_assoc, length-append, length-drop}
 use Rattle.std.proofs.lemmas.List.{append-nil, take_all, take-append-le, length-take-le}
 use Rattle.std.proofs.Math.Seq.{take-add, drop-append_seam, drop-append-add}
 use Rattle.std.proofs.lemmas.List.Elements.{All-append, All-nil, All-drop}
@@ -12,7 +12,7 @@ use Rattle.pf_script.specs.declared.next_line.NextLine.{NextLine}
 use Rattle.pf_script.specs.declared.next_line.NextLine.TheVariants as nexts
 use Rattle.pf_script.specs.Lines.{LINE_FEED, HasNoFeed, lines_of}
 use Rattle.pf_script.specs.ScriptLines.{LONGEST_LINE}
-use Rattle.pf_script.specs.LineReading.{ReaderState, Took, HasNoMore, FailCause, FilledWith, FailedFill, MakesRoom, HadRoom, WasFull, CutsAt, Finishes, Dropped, Nothing, Given, AtEnd, Fed, Last, Cuts, IsPrompt, HasFailCause, BeginsWith, Advances, GoesOn, LinesGoOn}
+use Rattle.pf_script.specs.LineReading.{ReaderState, Took, HasNoMore, FailCause, FilledWith, FailedFill, MakesRoom, HadRoom, WasFull, CutsAt, Finishes, Dropped, Nothing, Given, AtEnd, Fed, Last, Cuts, IsPrompt, HasFailCause, IsBounded, MOST_READS, BeginsWith, Advances, GoesOn, LinesGoOn}
 use Rattle.pf_script.proofs.Cutting.{IsNoFeed, around, fed_line, last_line}
 
 -- The bytes taken so far, of which a front was dropped where the line is too long; none of them is a line feed.
@@ -28,6 +28,8 @@ pub record Looking (long : Bool) (old now : ReaderState) (from to : SourceState)
   pub faults : to.faults ≡ from.faults
   pub later : old.reads ≤ now.reads
   pub each_took : now.reads ≤ old.reads + length these
+  pub by_reads : these ≢ [] → old.reads < now.reads
+  pub within : old.reads ≤ MOST_READS → now.reads ≤ MOST_READS
 
 both_same : (o : Option (List ℕ)) → Both o o (λ before now. before ≡ [] ++ now)
 both_same None = tt
@@ -64,6 +66,8 @@ looking_first reader source stage none = record {
   faults = refl;
   later = omega arith;
   each_took = omega arith;
+  by_reads = λ some. absurd (some refl);
+  within = λ few. few;
 }
 
 pub room_few : (long result : Bool) (now mid : ReaderState) → MakesRoom long now mid result → length mid.pending ≤ LONGEST_LINE
@@ -86,6 +90,8 @@ room_made long result old now mid from to is (WasFull full same made) =
       faults = is.faults;
       later = is.later;
       each_took = is.each_took;
+      by_reads = is.by_reads;
+      within = is.within;
     } in
     subst (λ (b : Bool). Looking b old mid from to) (sym made) (subst (λ (s : ReaderState). Looking true old s from to) (sym same) made_room)
 
@@ -121,6 +127,8 @@ more_read long old mid new from to after more is fill some none =
       faults = fill.faults ∙ is.faults;
       later = omega (arith, read.1, is.later);
       each_took = omega (arith, read.1, is.each_took, length-append is.these more, some_bytes more some);
+      by_reads = λ any. omega (arith, read.1, is.later);
+      within = λ few. read.2;
     }
 
 prompt_after : (old mid new : ReaderState) (these more : List ℕ) → HasNoFeed these → mid.reads ≤ old.reads + length these → new.reads ≤ mid.reads + 1 → IsPrompt (these ++ more) old new
@@ -142,6 +150,21 @@ fed_whole dropped front more at inside here =
 
 fed_no_feed : (dropped front more : List ℕ) (at : ℕ) → HasNoFeed (dropped ++ front) → HasNoFeed (take at more) → HasNoFeed (dropped ++ (front ++ take at more))
 fed_no_feed dropped front more at none some = subst HasNoFeed (append_assoc dropped front (take at more)) (All-append IsNoFeed (dropped ++ front) (take at more) none some)
+
+dropped_bounded : (old new : ReaderState) (n : ℕ) → IsBounded old → new.reads ≡ old.reads → new.pending ≡ drop n old.pending → IsBounded new
+dropped_bounded old new n was reads pending = record { reads = let most = was.reads in omega (arith, reads, most); pending = let most = was.pending in omega (arith, ap (λ (t : List ℕ). length t) pending, length-drop n old.pending, most) }
+
+cut_bounded : (long : Bool) (result : NextLine) (at : ℕ) (old new : ReaderState) → IsBounded old → CutsAt at long result old new → IsBounded new
+cut_bounded true result at old new was cut = dropped_bounded old new (at + 1) was (ap (λ (s : ReaderState). s.reads) cut.1) (ap (λ (s : ReaderState). s.pending) cut.1)
+cut_bounded false result at old new was cut = dropped_bounded old new (at + 1) was (ap (λ (s : ReaderState). s.reads) cut.1) (ap (λ (s : ReaderState). s.pending) cut.1)
+
+emptied_bounded : (old new : ReaderState) → IsBounded old → new.reads ≡ old.reads → new.pending ≡ [] → IsBounded new
+emptied_bounded old new was reads pending = record { reads = let most = was.reads in omega (arith, reads, most); pending = omega (arith, ap (λ (t : List ℕ). length t) pending) }
+
+end_bounded : (long : Bool) (result : NextLine) (old new : ReaderState) → IsBounded old → Finishes long result old new → IsBounded new
+end_bounded long result old new was (Dropped is made same) = emptied_bounded old new was (ap (λ (s : ReaderState). s.reads) same) (ap (λ (s : ReaderState). s.pending) same)
+end_bounded long result old new was (Nothing is empty made same) = subst IsBounded (sym same) was
+end_bounded long result old new was (Given is some made same) = emptied_bounded old new was (ap (λ (s : ReaderState). s.reads) same) (ap (λ (s : ReaderState). s.pending) same)
 
 -- a line feed came with the last read
 pub found : (long : Bool) (result : NextLine) (old mid fill new : ReaderState) (from to after : SourceState) (more : List ℕ) (at : ℕ) → Looking long old mid from to → FilledWith more mid fill to after → more ≢ []
@@ -167,6 +190,8 @@ found long result old mid fill new from to after more at is filled some inside' 
       took = took_then is.these more from to after is.took filled.took;
       later = omega (arith, read.1, is.later, cuts.1);
       each_took = omega (arith, read.1, is.each_took, length-append is.these more, some_bytes more some, cuts.1);
+      by_reads = λ any. omega (arith, read.1, is.later, cuts.1);
+      bounded = λ was. cut_bounded long result (length mid.pending + at) fill new (record { reads = read.2; pending = filled.fits }) cut;
       prompt = prompt_after old mid new is.these more (behind_is old.pending is.these is.no_feed) is.each_took (omega (arith, read.1, cuts.1));
       cause = filled.faults ∙ is.faults;
       cuts = cuts.0;
@@ -215,6 +240,8 @@ finished long result old mid fill new from to after more is few filled none end 
       took = took_then is.these more from to after is.took filled.took;
       later = omega (arith, ended.1, is.later, cuts.1);
       each_took = omega (arith, ended.1, is.each_took, length-append is.these more, cuts.1);
+      by_reads = λ any. let risen = is.by_reads (λ e. any (ap (λ (t : List ℕ). t ++ more) e ∙ none)) in omega (arith, ended.1, cuts.1, risen);
+      bounded = λ was. let within = is.within was.reads in end_bounded long result fill new (record { reads = omega (arith, within, ended.1); pending = omega (arith, few, ap (λ (t : List ℕ). length t) same) }) end;
       prompt = prompt_after old mid new is.these more (behind_is old.pending is.these is.no_feed) is.each_took (omega (arith, ended.1, cuts.1));
       cause = filled.faults ∙ is.faults;
       cuts = cuts.0;
@@ -231,6 +258,8 @@ failed long fault old mid new from to after is fail = record {
   took = took_then is.these [] from to after is.took fail.took;
   later = omega (arith, fail.reads, is.later);
   each_took = omega (arith, fail.reads, is.each_took, length-append is.these []);
+  by_reads = λ any. let risen = is.by_reads (λ e. any (ap (λ (t : List ℕ). t ++ []) e)) in omega (arith, fail.reads, risen);
+  bounded = λ was. tt;
   prompt = prompt_after old mid new is.these [] (behind_is old.pending is.these is.no_feed) is.each_took (omega (arith, fail.reads));
   cause = cause_from new from to after is.faults fail.cause;
   cuts = fail.stage;
@@ -251,6 +280,8 @@ at_once result old new source at stage few inside none here cut =
       took = took_nothing source;
       later = omega (arith, reads);
       each_took = omega (arith, reads);
+      by_reads = λ any. absurd (any refl);
+      bounded = λ was. cut_bounded false result at old new was cut;
       prompt = record { early = []; late = []; whole = refl; no_feed = All-nil IsNoFeed; reads = omega (arith, reads) };
       cause = subst (λ (r : NextLine). HasFailCause (Ok r) new source source) (sym cut.0) refl;
       cuts = subst (λ (r : NextLine). Cuts (Ok r) (old.pending ++ []) new source) (sym cut.0) (subst HasNoFeed (sym given) none, fits, Fed whole (ap (λ (s : ReaderState). s.stage) cut.1 ∙ stage));

@@ -1,5 +1,5 @@
 -- What a reader of lines does with a source.
-use Rattle.std.specs.Prelude.{⊤, ◌≡◌, ◌≢◌, ◌⊎◌, ℕ, ◌+◌, ◌^◌, ◌<◌, ◌≤◌, Bool, true, false, List, [], ◌∷◌, ◌++◌, length, take, drop, IfSome, Result, Ok, Err}
+use Rattle.std.specs.Prelude.{⊤, ◌≡◌, ◌≢◌, ◌⊎◌, ℕ, ◌+◌, ◌^◌, ◌<◌, ◌≤◌, Bool, true, false, List, [], ◌∷◌, ◌++◌, length, take, drop, IfSome, OnOk, Result, Ok, Err}
 use Rattle.pf_io.specs.Counts.{counted, counted_by}
 use Rattle.pf_io.specs.Host.{Both}
 use Rattle.pf_io.specs.Streams.{SourceState}
@@ -121,12 +121,19 @@ pub record IsPrompt (these : List ℕ) (old new : ReaderState) : Type 0 where
   pub no_feed : HasNoFeed early
   pub reads : new.reads ≤ old.reads + length early + 1
 
+-- a reader does not go beyond its budget, nor beyond its buffer
+pub record IsBounded (reader : ReaderState) : Type 0 where
+  pub reads : reader.reads ≤ MOST_READS
+  pub pending : length reader.pending ≤ LONGEST_LINE + 1
+
 -- These bytes were taken; with what was pending they begin with the next line.
 pub record Advances (result : Result NextLine StreamFault) (old new : ReaderState) (from to : SourceState) : Type 0 where
   pub these : List ℕ
   pub took : Took these from to
   pub later : old.reads ≤ new.reads
   pub each_took : new.reads ≤ old.reads + length these
+  pub by_reads : these ≢ [] → old.reads < new.reads
+  pub bounded : IsBounded old → OnOk result (IsBounded new)
   pub prompt : IsPrompt these old new
   pub cause : HasFailCause result new from to
   pub cuts : Cuts result (old.pending ++ these) new to

@@ -41,6 +41,7 @@ why_words whys.BadPath = codes "refused bad path"
 why_words whys.NoHostFile = codes "refused no host file"
 why_words (whys.Exists name) = codes "refused exists " ++ name
 why_words (whys.NotFound name) = codes "refused not found " ++ name
+why_words whys.Unbuilt = codes "refused unbuilt"
 why_words (whys.BadVersion major minor) = codes "refused version " ++ decimal major ++ codes "." ++ decimal minor
 why_words (whys.WrongPath stored) = codes "refused wrong path " ++ stored
 why_words (whys.PastEnd size) = codes "refused past end " ++ decimal size

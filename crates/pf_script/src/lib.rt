@@ -1,24 +1,34 @@
-//! The script of a session: its lines, read from any source, and the replies to them.
+//! The script of a session: its lines, read from any source, the replies to them, and the book that says what a crash leaves
+//! of the names that it changes.
 #![tactic(auto)]
 
 mod buffer;
+mod changing;
 mod command;
+mod desk;
+#[cfg(test)]
+mod desk_tests;
 mod fault;
 mod fields;
 mod laws;
 mod line;
 mod line_reader;
+mod looking;
 mod next_line;
+mod opening;
 mod printing;
 mod reading;
+mod renaming;
 mod reply;
+mod sealing;
 mod stage;
 #[cfg(test)]
 mod tests;
 mod words;
 
+pub use desk::Desk;
 pub use fault::LineFault;
-pub use laws::{definitions_on_examples, text_has_one_reading};
+pub use laws::{definitions_on_examples, steps_keep_the_book, text_has_one_reading};
 pub use line::ScriptLine;
 pub use line_reader::LineReader;
 pub use next_line::NextLine;

@@ -121,6 +121,7 @@ fn write_refusal<K: Sink>(out: &mut K, why: &Why) -> Result<(), StreamFault>
         Why::NoHostFile => write_line(out, "refused no host file"),
         Why::Exists { name } => write_name(out, "refused exists ", name.as_str()),
         Why::NotFound { name } => write_name(out, "refused not found ", name.as_str()),
+        Why::Unbuilt => write_line(out, "refused unbuilt"),
         Why::BadVersion { major, minor } => write_version(out, *major, *minor),
         Why::WrongPath { stored } => write_name(out, "refused wrong path ", stored.as_str()),
         Why::PastEnd { size } => write_number(out, "refused past end ", *size),

@@ -69,6 +69,8 @@ pub enum Why {
     Exists { name: Text },
     /// The name has none.
     NotFound { name: Text },
+    /// An update of the file is pending.
+    Unbuilt,
     /// The file has another version than 1.0.
     BadVersion { major: u8, minor: u8 },
     /// The file is stored under another path.

@@ -14,7 +14,7 @@ use Rattle.pf_tool.specs.Encrypting.{EncryptRefused, InputFound}
 use Rattle.pf_tool.specs.Outcomes.{Falls, Concludes}
 use Rattle.pf_tool.specs.Reports.{WroteAll, Reported}
 use Rattle.pf_tool.specs.Requests.{Encrypt}
-use Rattle.pf_tool.specs.Runs.{RunsByEvents, Causes}
+use Rattle.pf_tool.specs.Runs.{RunsByEvents, CausedOnce}
 use Rattle.pf_tool.specs.SealingInput.{SealsInput}
 use Rattle.pf_tool.specs.declared.fault.Fault.{Fault}
 use Rattle.pf_tool.specs.declared.fault.Fault.TheVariants as faults
@@ -116,7 +116,7 @@ module _ (key input output : Name) (old new : World) (status : ℕ) (ended : Res
   status_known : (n : ℕ) → end_status ended ≡ n → (status ≡ n) ⊎ ((status ≡ 7) × (new.log.faults ≡ counted old.log.faults))
   status_known n is = ⊎_elim (λ both. inl (both.0 ∙ is)) (λ both. inr both) said
 
-  calm_causes : (n : ℕ) → (n ≤ 3) ⊎ (n ≡ 5) → end_status ended ≡ n → new.host.faults ≡ mid.host.faults → new.random.faults ≡ mid.random.faults → Causes old new status
+  calm_causes : (n : ℕ) → (n ≤ 3) ⊎ (n ≡ 5) → end_status ended ≡ n → new.host.faults ≡ mid.host.faults → new.random.faults ≡ mid.random.faults → CausedOnce old new status
   calm_causes n low is host random =
       let known = status_known n is in
       let not_four : (m : ℕ) → status ≡ m → (m ≡ 4) ⊎ (m ≡ 6) → ⊥ = λ m at which. ⊎_elim (λ s. ⊎_elim (λ f. ⊎_elim (λ le. omega (arith, s, at, f, le)) (λ five. omega (arith, s, at, f, five)) low) (λ x. ⊎_elim (λ le. omega (arith, s, at, x, le)) (λ five. omega (arith, s, at, x, five)) low) which) (λ seven. ⊎_elim (λ f. omega (arith, seven.0, at, f)) (λ x. omega (arith, seven.0, at, x)) which) known in
@@ -133,7 +133,7 @@ module _ (key input output : Name) (old new : World) (status : ℕ) (ended : Res
         most = ⊎_elim (λ s. ⊎_elim (λ le. omega (arith, s, le)) (λ five. omega (arith, s, five)) low) (λ both. omega (arith, both.0)) known;
       }
 
-  causes_by : SealEnd ended mid.host new.host mid.random new.random → Causes old new status
+  causes_by : SealEnd ended mid.host new.host mid.random new.random → CausedOnce old new status
   causes_by (was_done is host random) = calm_causes 0 (inl (omega arith)) (ap end_status is) host random
   causes_by (was_large is host random) = calm_causes 3 (inl (omega arith)) (ap end_status is) host random
   causes_by (was_starved is host random) = calm_causes 5 (inr refl) (ap end_status is) host random
@@ -156,7 +156,7 @@ module _ (key input output : Name) (old new : World) (status : ℕ) (ended : Res
         most = ⊎_elim (λ s. omega (arith, s)) (λ both. omega (arith, both.0)) known;
       }
 
-  pub found_causes : Causes old new status
+  pub found_causes : CausedOnce old new status
   found_causes = causes_by (seal_end ended mid.host new.host mid.random new.random sealing_of.counts)
 
   not_status : (n : ℕ) → (n ≡ 1) ⊎ (n ≡ 2) → SealEnd ended mid.host new.host mid.random new.random → status ≢ n

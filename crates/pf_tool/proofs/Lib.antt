@@ -9,6 +9,10 @@ pub mod InputLaws
 pub mod PageReading
 pub mod LayoutReading
 mod Lists
+mod Conversing
+mod LineCounting
+mod ScriptCounting
+mod ScriptStreams
 mod HeldTree
 mod SessionWrites
 mod PieceGiving
@@ -54,6 +58,16 @@ mod EntryReading
 mod SumsEnding
 mod RunLaws
 mod RunClauses
+mod ScriptCauses
+mod ScriptKey
+mod ScriptTurns
+mod ScriptSeen
+mod ScriptReading
+mod ScriptClosing
+mod ScriptParts
+mod ScriptText
+mod ScriptContent
+mod ScriptBooks
 mod EncryptRuns
 mod EncryptClauses
 mod RunChoices

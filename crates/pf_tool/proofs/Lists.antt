@@ -76,3 +76,11 @@ operand_told bytes (a ∷ b ∷ rest) same least =
   where
     the_first : (a b : ℕ) (rest : List ℕ) (c : ℕ) (more : List ℕ) → a ∷ b ∷ rest ≡ 45 ∷ c ∷ more → a ≡ 45
     the_first a b rest c more is = cc
+
+-- the items of a list of three
+pub three : {A : Type 0} → (xs : List A) (a b c : A) → 3 ≤ length xs → length xs < 4 → a ≡ slice_index_or xs 0 a → b ≡ slice_index_or xs 1 b → c ≡ slice_index_or xs 2 c → xs ≡ a ∷ b ∷ c ∷ []
+three [] a b c least most p q r = absurd (omega arith)
+three (v ∷ []) a b c least most p q r = absurd (omega arith)
+three (v ∷ w ∷ []) a b c least most p q r = absurd (omega arith)
+three (v ∷ w ∷ x ∷ []) a b c least most p q r = cc
+three (v ∷ w ∷ x ∷ y ∷ more) a b c least most p q r = absurd (omega arith)

@@ -16,9 +16,10 @@ use Rattle.pf_tool.specs.Keys.{key_unnamed, key_absent, key_length, key_short}
 use Rattle.pf_tool.specs.Encrypting.{EncryptRefused, no_key, names_unfit, input_absent, EncryptGoes, not_found, input_found, IsVersion}
 use Rattle.pf_tool.specs.Manifests.{out_pieces, TookText, ManifestLeads}
 use Rattle.pf_tool.specs.Outcomes.{Falls, Concludes, StopsAt}
-use Rattle.pf_tool.specs.Requests.{Request, Decrypt, Encrypt, Manifest, Sums, Measure}
-use Rattle.pf_tool.specs.Runs.{Leads, MayBeNew, RunsByEvents, Runs, Causes, ByWords, Content, Decided, DecidedSealing, Honest, LeavesOutput, Stays}
-use Rattle.pf_tool.specs.SealedContents.{is_piece_of, piece_answers, GavePieces}
+use Rattle.pf_tool.specs.Reports.{Reports}
+use Rattle.pf_tool.specs.Requests.{Request, Decrypt, Encrypt, Session, Manifest, Sums, Measure}
+use Rattle.pf_tool.specs.Runs.{Leads, MayBeNew, RunsByEvents, RunsSealing, Runs, CausedOnce, Causes, ByWords, Content, Decided, DecidedSealing, Honest, LeavesOutput, Stays}
+use Rattle.pf_tool.specs.SealedContents.{is_piece_of, piece_answers, GavePieces, GaveSealed}
 use Rattle.pf_tool.specs.Summing.{SumsLead, WroteSums}
 use Rattle.pf_tool.specs.Measuring.{MeasureLeads}
 use Rattle.pf_tool.specs.declared.fault.Fault.{Fault}
@@ -33,8 +34,12 @@ use Rattle.pf_tool.proofs.SealDisks.{alone_left}
 use Rattle.pf_tool.proofs.EncryptRuns.{made_nothing, out_kept, found_causes, found_not_one, found_not_two}
 use Rattle.pf_tool.proofs.ManifestLaws.{GivenText, manifest_given, manifest_undrawn, manifest_unput}
 use Rattle.pf_tool.proofs.MeasureLaws.{measure_undrawn, measure_put}
+use Rattle.pf_tool.proofs.PlainWriting.{ran_weaker}
+use Rattle.pf_tool.proofs.ScriptCauses.{run_script_causes}
+use Rattle.pf_tool.proofs.ScriptKey.{script_by_words, script_decided, script_honest}
+use Rattle.pf_tool.proofs.ScriptContent.{script_content}
 use Rattle.pf_tool.proofs.RunClauses.{events_causes, events_by_words, events_decided, events_honest, events_not_two}
-use Rattle.pf_tool.proofs.RunStops.{said, undrawn, unput, done_at_zero}
+use Rattle.pf_tool.proofs.RunStops.{said, status_of, input_kept, undrawn, unput, done_at_zero}
 use Rattle.pf_tool.proofs.SumsLaws.{sums_undrawn, put_lines, put_both}
 use Rattle.pf_tool.proofs.TextPutting.{concat_pieces}
 
@@ -105,7 +110,7 @@ module _ (key input output : Name) (old new : World) (status : ℕ) where
   abbrev Goes : Result (Unit {0}) Fault → Type 0
   Goes ended = EncryptGoes key input output ended old (with_log new old.log)
 
-  sealing_causes : (ended : Result (Unit {0}) Fault) → Goes ended → Ended ended → Causes old new status
+  sealing_causes : (ended : Result (Unit {0}) Fault) → Goes ended → Ended ended → CausedOnce old new status
   sealing_causes ended (not_found fault falls is) concludes = events_causes (Encrypt key input output) old new status (nothing ended fault falls is concludes)
   sealing_causes ended (input_found user mid found seals rest) concludes = found_causes key input output old new status ended concludes user mid found seals rest
 
@@ -139,18 +144,21 @@ module _ (key input output : Name) (old new : World) (status : ℕ) where
   sealing_not_two ended (not_found fault falls is) concludes = events_not_two (Encrypt key input output) old new status (nothing ended fault falls is concludes)
   sealing_not_two ended (input_found user mid found seals rest) concludes = found_not_two key input output old new status ended concludes user mid found seals rest
 
-  sealing_stays : (ended : Result (Unit {0}) Fault) → Goes ended → Ended ended → new.out ≡ old.out
-  sealing_stays ended (not_found fault falls is) concludes =
-      unput (EncryptRefused key input output) falls.outcome.events falls.stop old (with_log new old.log) (encrypt_unput key input output) falls.outcome.stands falls.outcome.happened
-  sealing_stays ended (input_found user mid found seals rest) concludes = out_kept key input output old new status ended concludes user mid found seals rest
+  sealing_stays : (ended : Result (Unit {0}) Fault) → Goes ended → Ended ended → (new.out ≡ old.out) × (new.input ≡ old.input)
+  sealing_stays ended (not_found fault falls is) concludes = (
+    unput (EncryptRefused key input output) falls.outcome.events falls.stop old (with_log new old.log) (encrypt_unput key input output) falls.outcome.stands falls.outcome.happened,
+    input_kept falls.outcome.events old (with_log new old.log) falls.stop falls.outcome.happened,
+  )
+  sealing_stays ended (input_found user mid found seals rest) concludes = (out_kept key input output old new status ended concludes user mid found seals rest, ap (λ (w : World). w.input) rest ∙ found.passed.input)
 
   pub sealing_disk : (ended : Result (Unit {0}) Fault) → Goes ended → Ended ended → LeavesOutput output (IsVersion key input output) old new status
   sealing_disk ended (not_found fault falls is) concludes = kept_disk (nothing ended fault falls is concludes)
   sealing_disk ended (input_found user mid found seals rest) concludes = found_disk key input output old new status ended concludes user mid found seals rest
 
-pub run_causes : (request : Request) (old new : World) (status : ℕ) → Runs request old new status → Causes old new status
+pub run_causes : (request : Request) (old new : World) (status : ℕ) → Runs request old new status → Causes request old new status
 run_causes (Decrypt key input) old new status run = events_causes (Decrypt key input) old new status run
 run_causes (Encrypt key input output) old new status run = sealing_causes key input output old new status run.ended run.goes run.concludes
+run_causes (Session key) old new status run = run_script_causes key old new status run
 run_causes (Manifest values template output) old new status run = events_causes (Manifest values template output) old new status run
 run_causes (Sums manifest output) old new status run = events_causes (Sums manifest output) old new status run
 run_causes (Measure layout) old new status run = events_causes (Measure layout) old new status run
@@ -158,6 +166,7 @@ run_causes (Measure layout) old new status run = events_causes (Measure layout) 
 pub run_by_words : (request : Request) (old new : World) (status : ℕ) → Runs request old new status → ByWords request old new status
 run_by_words (Decrypt key input) old new status run = events_by_words (Decrypt key input) old new status run
 run_by_words (Encrypt key input output) old new status run = sealing_by_words key input output old new status run.ended run.goes run.concludes
+run_by_words (Session key) old new status run = script_by_words key old new status run.ending run.goes run.says
 run_by_words (Manifest values template output) old new status run = events_by_words (Manifest values template output) old new status run
 run_by_words (Sums manifest output) old new status run = events_by_words (Sums manifest output) old new status run
 run_by_words (Measure layout) old new status run = events_by_words (Measure layout) old new status run
@@ -165,6 +174,7 @@ run_by_words (Measure layout) old new status run = events_by_words (Measure layo
 pub run_decided : (request : Request) (old new : World) (status : ℕ) → Runs request old new status → Decided request old new status
 run_decided (Decrypt key input) old new status run = events_decided (Decrypt key input) old new status run
 run_decided (Encrypt key input output) old new status run = sealing_decided key input output old new status run.ended run.goes run.concludes
+run_decided (Session key) old new status run = script_decided key old new status run.ending run.goes run.says
 run_decided (Manifest values template output) old new status run = events_decided (Manifest values template output) old new status run
 run_decided (Sums manifest output) old new status run = events_decided (Sums manifest output) old new status run
 run_decided (Measure layout) old new status run = events_decided (Measure layout) old new status run
@@ -172,6 +182,7 @@ run_decided (Measure layout) old new status run = events_decided (Measure layout
 pub run_honest : (request : Request) (old new : World) (status : ℕ) → Runs request old new status → Honest request old new status
 run_honest (Decrypt key input) old new status run = events_honest (Decrypt key input) old new status run
 run_honest (Encrypt key input output) old new status run = sealing_honest key input output old new status run.ended run.goes run.concludes
+run_honest (Session key) old new status run = script_honest key old new status run.ending run.goes run.says
 run_honest (Manifest values template output) old new status run = events_honest (Manifest values template output) old new status run
 run_honest (Sums manifest output) old new status run = events_honest (Sums manifest output) old new status run
 run_honest (Measure layout) old new status run = events_honest (Measure layout) old new status run
@@ -179,6 +190,7 @@ run_honest (Measure layout) old new status run = events_honest (Measure layout) 
 pub run_not_two : (request : Request) (old new : World) (status : ℕ) → Runs request old new status → status ≡ 2 → ⊥
 run_not_two (Decrypt key input) old new status run = events_not_two (Decrypt key input) old new status run
 run_not_two (Encrypt key input output) old new status run = sealing_not_two key input output old new status run.ended run.goes run.concludes
+run_not_two (Session key) old new status run = (run_script_causes key old new status run).no_usage
 run_not_two (Manifest values template output) old new status run = events_not_two (Manifest values template output) old new status run
 run_not_two (Sums manifest output) old new status run = events_not_two (Sums manifest output) old new status run
 run_not_two (Measure layout) old new status run = events_not_two (Measure layout) old new status run
@@ -193,6 +205,7 @@ done_rendered values template output es stop is stands = manifest_given values t
 pub run_content : (request : Request) (old new : World) (status : ℕ) → Runs request old new status → Content request old new status
 run_content (Decrypt key input) old new status run = took_content key input old new status run
 run_content (Encrypt key input output) old new status run = sealing_content key input output old new status run.ended run.goes run.concludes
+run_content (Session key) old new status run = script_content (λ line none d0 d1 h0 h1 r0 r1 goes. goes.wants.told) key old new status run
 run_content (Manifest values template output) old new status run = λ these told zero_is.
     let es = run.outcome.events in
     let done = done_at_zero run.stop old.log new.log status run.reports zero_is in
@@ -229,13 +242,26 @@ run_content (Measure layout) old new status run = λ these told zero_is.
     measure_put layout es Done these old new (subst (λ (s : Stop). StopsAt (MeasureLeads layout) es s) done run.outcome.stands) refl same passed.out.told
 
 pub run_stays : (request : Request) (old new : World) (status : ℕ) → Runs request old new status → Stays request old new
-run_stays (Decrypt key input) old new status run = undrawn (Leads (Decrypt key input)) run.outcome.events run.stop old (with_log new old.log) (decrypt_undrawn key input) run.outcome.stands run.outcome.happened
+run_stays (Decrypt key input) old new status run = (
+  undrawn (Leads (Decrypt key input)) run.outcome.events run.stop old (with_log new old.log) (decrypt_undrawn key input) run.outcome.stands run.outcome.happened,
+  input_kept run.outcome.events old (with_log new old.log) run.stop run.outcome.happened,
+)
 run_stays (Encrypt key input output) old new status run = sealing_stays key input output old new status run.ended run.goes run.concludes
-run_stays (Manifest values template None) old new status run =
-    undrawn (Leads (Manifest values template None)) run.outcome.events run.stop old (with_log new old.log) (manifest_undrawn values template None) run.outcome.stands run.outcome.happened
+run_stays (Session key) old new status run = tt
+run_stays (Manifest values template None) old new status run = (
+  undrawn (Leads (Manifest values template None)) run.outcome.events run.stop old (with_log new old.log) (manifest_undrawn values template None) run.outcome.stands run.outcome.happened,
+  input_kept run.outcome.events old (with_log new old.log) run.stop run.outcome.happened,
+)
 run_stays (Manifest values template (Some output)) old new status run = (
   undrawn (Leads (Manifest values template (Some output))) run.outcome.events run.stop old (with_log new old.log) (manifest_undrawn values template (Some output)) run.outcome.stands run.outcome.happened,
   unput (Leads (Manifest values template (Some output))) run.outcome.events run.stop old (with_log new old.log) (manifest_unput values template output) run.outcome.stands run.outcome.happened,
+  input_kept run.outcome.events old (with_log new old.log) run.stop run.outcome.happened,
 )
-run_stays (Sums manifest output) old new status run = undrawn (Leads (Sums manifest output)) run.outcome.events run.stop old (with_log new old.log) (sums_undrawn manifest output) run.outcome.stands run.outcome.happened
-run_stays (Measure layout) old new status run = undrawn (Leads (Measure layout)) run.outcome.events run.stop old (with_log new old.log) (measure_undrawn layout) run.outcome.stands run.outcome.happened
+run_stays (Sums manifest output) old new status run = (
+  undrawn (Leads (Sums manifest output)) run.outcome.events run.stop old (with_log new old.log) (sums_undrawn manifest output) run.outcome.stands run.outcome.happened,
+  input_kept run.outcome.events old (with_log new old.log) run.stop run.outcome.happened,
+)
+run_stays (Measure layout) old new status run = (
+  undrawn (Leads (Measure layout)) run.outcome.events run.stop old (with_log new old.log) (measure_undrawn layout) run.outcome.stands run.outcome.happened,
+  input_kept run.outcome.events old (with_log new old.log) run.stop run.outcome.happened,
+)

@@ -18,7 +18,7 @@ use Rattle.pf_tool.specs.Faults.{fault_status}
 use Rattle.pf_tool.specs.Outcomes.{IsAhead, StopsAt, ComesOut, Concludes}
 use Rattle.pf_tool.specs.Reports.{Reported, Reports}
 use Rattle.pf_tool.specs.Requests.{Request}
-use Rattle.pf_tool.specs.Runs.{Leads, LeavesHost, RunsByEvents, Usage, Causes, ByWords, DecidedByEvents, NoneCounted, Honestly, as_files_give, starved, Honest}
+use Rattle.pf_tool.specs.Runs.{Leads, LeavesHost, RunsByEvents, Usage, CausedOnce, ByWords, DecidedByEvents, NoneCounted, Honestly, as_files_give, starved, Honest}
 use Rattle.pf_tool.proofs.RunStops.{not_two, reports_of, stop_low, reported_said, said, status_of, host_counted, random_counted, out_counted, all_passed, none_failed}
 use Rattle.pf_tool.proofs.RunLaws.{silent, spoken, decided, none_left, over, over_front}
 use Rattle.pf_tool.proofs.ContentRuns.{told_of, these_told, front_taken}
@@ -47,7 +47,7 @@ nothing_passed es old new none passed =
     same_world old.host new.host old.input new.input old.out new.out old.log new.log old.random new.random (passed.host.untouched (ap (λ (l : List Event). answers_in l) none)) passed.input
     (passed.out.untouched (ap (λ (l : List Event). pieces_in l) none)) passed.log (passed.random.untouched (ap (λ (l : List Event). words_in l) none))
 
-all_of : (files : Files) (o : Option Files) (these : List Answer) → o ≡ Some files → IfSome o (λ f. AllByRecursion (IsAnswerOf f) these) → AllByRecursion (IsAnswerOf files) these
+pub all_of : (files : Files) (o : Option Files) (these : List Answer) → o ≡ Some files → IfSome o (λ f. AllByRecursion (IsAnswerOf f) these) → AllByRecursion (IsAnswerOf files) these
 all_of files o these is honest = subst (λ (x : Option Files). IfSome x (λ f. AllByRecursion (IsAnswerOf f) these)) is honest
 
 -- a list with an event in it
@@ -61,30 +61,11 @@ failed_high (Answers answer) = omega arith
 failed_high (Draws word) = omega arith
 failed_high (Puts bytes) = omega arith
 
--- words that are no command
-pub usage_causes : (old new : World) (status : ℕ) → Usage old new status → Causes old new status
-usage_causes old new status usage =
-    let what = reported_said no_command_line 2 old.log new.log status usage.said in
-    let two_or_seven : (status ≡ 2) ⊎ (status ≡ 7) = ⊎_elim (λ both. inl both.0) (λ both. inr both.0) what in
-    let same = usage.untouched in
-    record {
-      host_fault = λ is. absurd (⊎_elim (λ e. omega (arith, e, is)) (λ e. omega (arith, e, is)) two_or_seven);
-      random_fault = λ is. absurd (⊎_elim (λ e. omega (arith, e, is)) (λ e. omega (arith, e, is)) two_or_seven);
-      stream_fault = λ is. inr (⊎_elim (λ both. absurd (omega (arith, both.0, is))) (λ both. both.1) what);
-      calm = λ low. record {
-        host = ap (λ (w : World). w.host.faults) same;
-        out = ap (λ (w : World). w.out.faults) same;
-        log = ⊎_elim (λ both. both.1.calm) (λ both. absurd (⊎_elim (λ le. omega (arith, le, both.0)) (λ e. omega (arith, e, both.0)) low)) what;
-        random = ap (λ (w : World). w.random.faults) same;
-      };
-      most = ⊎_elim (λ e. omega (arith, e)) (λ e. omega (arith, e)) two_or_seven;
-    }
-
 module _ (request : Request) (old new : World) (status : ℕ) (run : RunsByEvents request old new status) where
   abbrev Now : World
   Now = with_log new old.log
 
-  pub events_causes : Causes old new status
+  pub events_causes : CausedOnce old new status
   events_causes =
       let what = said run.stop old.log new.log status run.reports in
       let es = run.outcome.events in
@@ -152,7 +133,7 @@ module _ (request : Request) (old new : World) (status : ℕ) (run : RunsByEvent
       both_weaker (IsMore (bytes_in es)) (TakesFront (concat pieces)) old.out.bytes new.out.bytes happened.out.told (λ before now more. front_taken (bytes_in es) front.0 (concat pieces) before now front.1 more)) both.0 both.1)
       (λ both. absurd (none.log both.1)) (said Starved old.log new.log status reports)
 
-  pub events_honest : Honest request old new status
+  pub events_honest : (files : Files) → files_of old.host ≡ Some files → NoneCounted old new → Honestly request files old new status
   events_honest files is none = honest_at run.stop run.outcome.events files is none run.outcome.stands run.outcome.happened run.reports
 
   pub events_not_two : status ≡ 2 → ⊥

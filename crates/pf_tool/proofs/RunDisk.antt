@@ -4,7 +4,7 @@ use Rattle.std.specs.Prelude.{Contains}
 use Rattle.std.proofs.lemmas.List.{append-nil}
 use Rattle.std.proofs.lemmas.List.Elements.{Contains-append_cases}
 use Rattle.pf_io.specs.Disk.{Name, File, Disk, Image}
-use Rattle.pf_io.specs.Host.{Answer, LengthWas, Gave, Wrote, WasCut, Synced, Made, Swapped, Removed}
+use Rattle.pf_io.specs.Host.{Answer, LengthWas, Gave, Wrote, WasCut, Synced, Made, Swapped, Removed, ReadsAsImage}
 use Rattle.pf_io.specs.SideFile.{PIECE, pieces, wrote_pieces, side_steps}
 use Rattle.pf_io.specs.Slices.{given_in_turn}
 use Rattle.pf_io.specs.Names.{side_of}
@@ -14,7 +14,7 @@ use Rattle.pf_tool.specs.Endings.{Ending, Done, MayStarve, Stop, AtEnd, Failed, 
 use Rattle.pf_tool.specs.Happened.{Happened}
 use Rattle.pf_tool.specs.Outcomes.{IsAhead, StopsAt}
 use Rattle.pf_tool.specs.Reports.{Reports}
-use Rattle.pf_tool.specs.Requests.{Request, Decrypt, Encrypt, Manifest, Sums, Measure}
+use Rattle.pf_tool.specs.Requests.{Request, Decrypt, Encrypt, Session, Manifest, Sums, Measure}
 use Rattle.pf_tool.specs.SideFiles.{IsSwapped, SideLeaves, SideEnds, IsNewFile, LeavesBySide}
 use Rattle.template_text.specs.Rendering.{Values}
 use Rattle.pf_tool.specs.InputFiles.{asked, InputReads, file_unnamed, file_absent, file_large, file_taken}
@@ -27,6 +27,7 @@ use Rattle.manifest_model.specs.Listed.{Seen}
 use Rattle.pf_tool.specs.ManifestFiles.{ManifestReads, manifest_unread, no_manifest, manifest_seen}
 use Rattle.pf_tool.specs.Summing as sums
 use Rattle.pf_tool.specs.Summing.{line_pieces, FilesLead, file_absent, files_summed, SumsLead, manifest_fails, manifest_there, IsSummed}
+use Rattle.pf_tool.proofs.ScriptBooks.{script_books}
 use Rattle.pf_tool.proofs.Asking.{asked_then}
 use Rattle.pf_tool.proofs.EntryReading.{IsAsk, gives_asks, end_asks}
 use Rattle.pf_tool.proofs.PlainWriting.{ran_weaker}
@@ -217,15 +218,16 @@ module _ (output : Name) (Leading : List Event → Ending → Type 0) (swaps : (
           ran_weaker (λ disk image. SideLeaves Tried output (IsNew disk Tried) disk image) (OutputLeft output IsVersion (MayBeNew old new status))
           (λ before now. SideEnds Tried stop output (IsNew before Tried) before now) (OutputEnds output IsVersion (MayBeNew old new status) (status ≡ 0)) old.host.honest new.host.honest leaves left ends
 
-pub run_disk : (request : Request) (old new : World) (status : ℕ) → Runs request old new status → OnDisks request old new status
-run_disk (Decrypt key input) old new status run = run.outcome.leaves
-run_disk (Encrypt key input output) old new status run = sealing_disk key input output old new status run.ended run.goes run.concludes
-run_disk (Manifest values template None) old new status run = run.outcome.leaves
-run_disk (Manifest values template (Some output)) old new status run =
+pub run_disk : (request : Request) (old new : World) (status : ℕ) → ReadsAsImage old.host → Runs request old new status → OnDisks request old new status
+run_disk (Decrypt key input) old new status image run = run.outcome.leaves
+run_disk (Encrypt key input output) old new status image run = sealing_disk key input output old new status run.ended run.goes run.concludes
+run_disk (Session key) old new status image run = script_books key old new status image run
+run_disk (Manifest values template None) old new status image run = run.outcome.leaves
+run_disk (Manifest values template (Some output)) old new status image run =
     side_disk output (ManifestLeads values template (Some output)) (manifest_swaps values template output) old new status run.outcome.events run.stop run.outcome.stands run.outcome.happened run.reports
     (λ disk _. IsRendered values template disk) (IsRendered values template) (λ d file rendered. rendered) run.outcome.leaves
-run_disk (Sums manifest None) old new status run = run.outcome.leaves
-run_disk (Sums manifest (Some output)) old new status run =
+run_disk (Sums manifest None) old new status image run = run.outcome.leaves
+run_disk (Sums manifest (Some output)) old new status image run =
     side_disk output (SumsLead manifest (Some output)) (sums_swaps manifest output) old new status run.outcome.events run.stop run.outcome.stands run.outcome.happened run.reports
     (λ disk _. IsSummed manifest disk) (IsSummed manifest) (λ d file summed. summed) run.outcome.leaves.disk
-run_disk (Measure layout) old new status run = run.outcome.leaves
+run_disk (Measure layout) old new status image run = run.outcome.leaves

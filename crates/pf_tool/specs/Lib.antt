@@ -24,5 +24,8 @@ pub mod Unsealing
 pub mod Measuring
 pub mod ManifestFiles
 pub mod Summing
+pub mod Replying
+pub mod Scripting
+pub mod Transcripts
 pub mod Contents
 pub mod Runs

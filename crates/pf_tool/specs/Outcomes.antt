@@ -51,3 +51,8 @@ ComesOut Leads Leaves (Err fault) old new = Falls Leads Leaves fault old new
 abbrev pub Concludes : {T : Type 0} → Result T Fault → SinkState → SinkState → ℕ → Type 0
 Concludes (Ok value) old new status = (status ≡ 0) × (new ≡ old)
 Concludes (Err fault) old new status = Reported (fault_line fault) (fault_status fault) old new status
+
+-- what is said of how a session ended: nothing where it has a status
+abbrev pub SaysScript : Result ℕ Fault → SinkState → SinkState → ℕ → Type 0
+SaysScript (Ok value) old new status = (status ≡ value) × (new ≡ old)
+SaysScript (Err fault) old new status = Reported (fault_line fault) (fault_status fault) old new status

@@ -11,6 +11,7 @@ pub use Rattle.pf_tool.specs.Texts.{texts}
 pub data Request : Type 0 where
   Decrypt : (key input : Name) → Request
   Encrypt : (key input output : Name) → Request
+  Session : (key : Name) → Request
   Manifest : (values : Values) → (template : Name) → (output : Option Name) → Request
   Sums : (manifest : Name) → (output : Option Name) → Request
   Measure : (layout : Name) → Request
@@ -22,6 +23,10 @@ decrypt_words key input = codes "decrypt" ∷ codes "-w" ∷ key ∷ codes "-i" 
 -- `encrypt -w KEY -i IN -o OUT`
 abbrev pub encrypt_words : Name → Name → Name → List (List ℕ)
 encrypt_words key input output = codes "encrypt" ∷ codes "-w" ∷ key ∷ codes "-i" ∷ input ∷ codes "-o" ∷ output ∷ []
+
+-- `session -w KEY`
+abbrev pub session_words : Name → List (List ℕ)
+session_words key = codes "session" ∷ codes "-w" ∷ key ∷ []
 
 -- a word that is no option: it does not begin with `-`, or is `-` alone
 abbrev pub IsOperand : List ℕ → Type 0
@@ -55,6 +60,7 @@ measure_words layout = codes "measure" ∷ layout ∷ []
 abbrev pub AskFor : List (List ℕ) → Request → Type 0
 AskFor words (Decrypt key input) = words ≡ decrypt_words key input
 AskFor words (Encrypt key input output) = words ≡ encrypt_words key input output
+AskFor words (Session key) = words ≡ session_words key
 AskFor words (Manifest values template output) = AsksManifest words values template output
 AskFor words (Sums manifest output) = (words ≡ sums_words manifest output) × IsOperand manifest
 AskFor words (Measure layout) = (words ≡ measure_words layout) × IsOperand layout
@@ -67,6 +73,7 @@ AskForNothing words = (request : Request) → ¬ (AskFor words request)
 abbrev pub request_of : Command → Request
 request_of (commands.Decrypt command) = Decrypt command.key.now command.input.now
 request_of (commands.Encrypt command) = Encrypt command.key.now command.input.now command.output.now
+request_of (commands.Session command) = Session command.key.now
 request_of (commands.Manifest command) = Manifest command.values command.template.now (option_map (λ name. name.now) command.output)
 request_of (commands.Sums command) = Sums command.manifest.now (option_map (λ name. name.now) command.output)
 request_of (commands.Measure command) = Measure command.layout.now

@@ -23,6 +23,10 @@ mod pieces;
 mod plain_file;
 mod rendering;
 mod run;
+mod script;
+mod script_lines;
+#[cfg(test)]
+mod script_tests;
 mod session_faults;
 mod sum_files;
 mod sums;
@@ -35,7 +39,7 @@ mod text_refusals;
 mod why;
 mod words;
 
-use pf_io::{Bytes, DeviceWords, DiskHost, MemSource, StdSink};
+use pf_io::{DeviceWords, DiskHost, StdSink, StdSource};
 use run::run;
 use std::env;
 use std::io::{self, ErrorKind};
@@ -57,7 +61,7 @@ fn main(rt: HostRuntime) -> ExitCode {
     };
     let mut out = StdSink::new(rt.stdout());
     let mut log = StdSink::new(rt.stderr());
-    let mut input = MemSource::new(Bytes::from(Vec::new(alloc)));
+    let mut input = StdSource::new(rt.stdin());
     let Ok(system) = rt.clone() else {
         return ExitCode::from(5);
     };

@@ -1,9 +1,8 @@
 // A run of the program.
 ghost use Rattle.std.specs.Prelude.{◌≡◌};
-ghost use Rattle.pf_io.specs.Streams.{SourceState};
 ghost use Rattle.pf_tool.specs.Requests.{Request, texts, AskFor, AskForNothing, request_of};
 ghost use Rattle.pf_tool.specs.World.{world_of};
-ghost use Rattle.pf_tool.specs.Outcomes.{Concludes};
+ghost use Rattle.pf_tool.specs.Outcomes.{Concludes, SaysScript};
 ghost use Rattle.pf_tool.specs.Runs.{Runs, Usage, Causes, ByWords, Content, Decided, Honest, OneOver, OnDisks, Stays};
 
 use crate::decrypt::decrypt;
@@ -11,6 +10,7 @@ use crate::encrypt::encrypt;
 use crate::fault::Fault;
 use crate::manifest::write_manifest;
 use crate::measuring::measure_layout;
+use crate::script::run_script;
 use crate::sums::write_sums;
 use crate::words::{Command, command_of};
 use pf_io::{Host, Sink, Source, Words};
@@ -26,21 +26,35 @@ fn conclude<L: Sink>(ended: Result<(), Fault<'_>>, log: &mut L) -> u8
     }
 }
 
+// So of a session, which has a status.
+fn conclude_script<L: Sink>(ended: Result<u8, Fault<'_>>, log: &mut L) -> u8
+    ensures { SaysScript ended.entry (L.state log.old) (L.state log.new) result }
+{
+    match ended {
+        Ok(status) => status,
+        Err(fault) => fault.report(log),
+    }
+}
+
 // Runs a command, and says how it ended.
-fn run_command<H: Host, K: Sink, L: Sink, R: Words>(
+fn run_command<H: Host, S: Source, K: Sink, L: Sink, R: Words>(
     alloc: Global,
     command: &Command<'_>,
     host: &mut H,
+    input: &mut S,
     out: &mut K,
     log: &mut L,
     random: &mut R,
 ) -> u8
-    ensures { (input : SourceState) → Runs (request_of command.now) (world_of (H.state host.old) input (K.state out.old) (L.state log.old) (R.state random.old))
-        (world_of (H.state host.new) input (K.state out.new) (L.state log.new) (R.state random.new)) result }
+    ensures { Runs (request_of command.now) (world_of (H.state host.old) (S.state input.old) (K.state out.old) (L.state log.old) (R.state random.old))
+        (world_of (H.state host.new) (S.state input.new) (K.state out.new) (L.state log.new) (R.state random.new)) result }
 {
     match command {
         Command::Decrypt(command) => conclude(decrypt(alloc, host, command, out), log),
         Command::Encrypt(command) => conclude(encrypt(alloc, host, random, command), log),
+        Command::Session(command) => {
+            conclude_script(run_script(alloc, host, input, out, random, command), log)
+        }
         Command::Manifest(command) => conclude(write_manifest(alloc, host, command, out), log),
         Command::Sums(command) => conclude(write_sums(alloc, host, command, out), log),
         Command::Measure(command) => conclude(measure_layout(alloc, host, command, out), log),
@@ -66,8 +80,8 @@ pub fn run<H: Host, S: Source, K: Sink, L: Sink, R: Words>(
     // then what had happened is a front of a run that comes to an ending.
     ensures runs { (request : Request) → AskFor (texts words.now) request → Runs request (world_of (H.state host.old) (S.state input.old) (K.state out.old) (L.state log.old) (R.state random.old)) (world_of (H.state host.new) (S.state input.new) (K.state out.new) (L.state log.new) (R.state random.new)) result }
 
-    // Statuses 4, 6 and 7 come only where a count of faults rose. At 5 and at most 3 none did.
-    ensures causes { Causes (world_of (H.state host.old) (S.state input.old) (K.state out.old) (L.state log.old) (R.state random.old)) (world_of (H.state host.new) (S.state input.new) (K.state out.new) (L.state log.new) (R.state random.new)) result }
+    // Statuses 4, 6 and 7 come only where a count of faults rose. At 0 none did, and of a command with one ending none at 5 and at most 3.
+    ensures causes { (request : Request) → AskFor (texts words.now) request → Causes request (world_of (H.state host.old) (S.state input.old) (K.state out.old) (L.state log.old) (R.state random.old)) (world_of (H.state host.new) (S.state input.new) (K.state out.new) (L.state log.new) (R.state random.new)) result }
 
     // Where the words alone are refused, nothing is asked.
     ensures by_words { (request : Request) → AskFor (texts words.now) request → ByWords request (world_of (H.state host.old) (S.state input.old) (K.state out.old) (L.state log.old) (R.state random.old)) (world_of (H.state host.new) (S.state input.new) (K.state out.new) (L.state log.new) (R.state random.new)) result }
@@ -87,10 +101,9 @@ pub fn run<H: Host, S: Source, K: Sink, L: Sink, R: Words>(
 
     // What stays.
     ensures stays { (request : Request) → AskFor (texts words.now) request → Stays request (world_of (H.state host.old) (S.state input.old) (K.state out.old) (L.state log.old) (R.state random.old)) (world_of (H.state host.new) (S.state input.new) (K.state out.new) (L.state log.new) (R.state random.new)) }
-    ensures unread { S.state input.new ≡ S.state input.old }
 {
     match command_of(words) {
-        Some(command) => run_command(alloc, &command, host, out, log, random),
+        Some(command) => run_command(alloc, &command, host, input, out, log, random),
         None => Fault::NoCommand.report(log),
     }
 }

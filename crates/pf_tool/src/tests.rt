@@ -29,8 +29,21 @@ pub(crate) fn ran_with<H: Host, R: Words>(
     output: MemSink,
     random: &mut R,
 ) -> Result<Outcome, AllocError> {
+    let input = MemSource::new(Bytes::from(Vec::new(alloc)));
+    ran_on(alloc, host, line, input, output, random)
+}
+
+// So on an input.
+pub(crate) fn ran_on<H: Host, R: Words>(
+    alloc: Global,
+    host: &mut H,
+    line: &str,
+    source: MemSource,
+    output: MemSink,
+    random: &mut R,
+) -> Result<Outcome, AllocError> {
     let words = words_of(alloc, line)?;
-    let mut input = MemSource::new(Bytes::from(Vec::new(alloc)));
+    let mut input = source;
     let mut out = output;
     let mut log = MemSink::new(alloc);
     let status = run(alloc, &words, host, &mut input, &mut out, &mut log, random);

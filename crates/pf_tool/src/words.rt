@@ -1,6 +1,6 @@
 // The words of the command line.
 ghost use Rattle.std.specs.Prelude.{◌≡◌, ◌↔◌, IsTrue, IfSome, IfNone, Option, Some, None, List, ℕ, codes, option_map};
-ghost use Rattle.pf_tool.specs.Requests.{texts, decrypt_words, encrypt_words, IsOperand, Sums as SumsOf, Measure as MeasureOf, AskFor, AskForNothing, request_of};
+ghost use Rattle.pf_tool.specs.Requests.{texts, decrypt_words, encrypt_words, session_words, IsOperand, Sums as SumsOf, Measure as MeasureOf, AskFor, AskForNothing, request_of};
 
 use crate::manifest_words::{Manifest, manifest_of};
 
@@ -22,6 +22,13 @@ pub struct Encrypt<'a> {
     pub input: &'a str,
     /// The name of the protected file that is made.
     pub output: &'a str,
+}
+
+/// The words `session -w KEY`.
+#[derive(Drop)]
+pub struct Session<'a> {
+    /// The name of the key file.
+    pub key: &'a str,
 }
 
 /// The words `sums MANIFEST` and `sums -o OUT MANIFEST`.
@@ -47,6 +54,8 @@ pub enum Command<'a> {
     Decrypt(Decrypt<'a>),
     /// Makes a protected file of a plain one.
     Encrypt(Encrypt<'a>),
+    /// Answers the script that the input is.
+    Session(Session<'a>),
     /// Renders a template to the text of a manifest.
     Manifest(Manifest<'a>),
     /// Sums the files that a manifest trusts.
@@ -110,6 +119,20 @@ fn encrypt_of(words: &[String]) -> Option<Encrypt<'_>>
         input: input.as_str(),
         output: output.as_str(),
     })
+}
+
+fn session_of(words: &[String]) -> Option<Session<'_>>
+    ensures found { IfSome result (λ command. texts words.now ≡ session_words command.key.now) }
+    ensures none { IfNone result ((key : List ℕ) → texts words.now ≡ session_words key → ⊥) }
+{
+    let [command, key_option, key] = words else {
+        return None;
+    };
+    if command.as_str() == "session" && key_option.as_str() == "-w" {
+        Some(Session { key: key.as_str() })
+    } else {
+        None
+    }
 }
 
 /// Whether a word is no option: it does not begin with `-`, or is `-` alone.
@@ -194,6 +217,9 @@ pub fn command_of(words: &[String]) -> Option<Command<'_>>
     }
     if let Some(command) = encrypt_of(words) {
         return Some(Command::Encrypt(command));
+    }
+    if let Some(command) = session_of(words) {
+        return Some(Command::Session(command));
     }
     if let Some(command) = manifest_of(words) {
         return Some(Command::Manifest(command));

@@ -23,3 +23,15 @@ returns-clause-line c = record {
 
 pub returns-clause-reply : goal.returns-clause-reply
 returns-clause-reply c = ap (λ (d : List ℕ). ended (codes "ok write " ++ d ++ codes " flushed")) (decimal_digit 5 (omega arith))
+
+pub returns-clause-flushes : goal.returns-clause-flushes
+returns-clause-flushes c = refl
+
+pub returns-clause-old_name : goal.returns-clause-old_name
+returns-clause-old_name c = refl
+
+pub returns-clause-new_name : goal.returns-clause-new_name
+returns-clause-new_name c = refl
+
+pub returns-clause-freed : goal.returns-clause-freed
+returns-clause-freed c = refl

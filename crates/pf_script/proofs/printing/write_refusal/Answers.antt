@@ -58,3 +58,7 @@ returns-in-Denied g c =
 pub returns-in-WrongSum : goal.returns-in-WrongSum
 returns-in-WrongSum g c =
     rw c.in-WrongSum.is c.write_digits.ensures
+
+pub returns-in-Unbuilt : goal.returns-in-Unbuilt
+returns-in-Unbuilt g c =
+    rw c.in-Unbuilt.is c.write_line-in-Unbuilt.ensures

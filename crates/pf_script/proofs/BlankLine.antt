@@ -1,0 +1,26 @@
+-- A blank line on a desk.
+use Rattle.std.proofs.Common.{◌≡◌, refl, [], Ok}
+use Rattle.pf_io.specs.Host.{HostState}
+use Rattle.pf_io.specs.Words.{WordsState}
+use Rattle.pf_io.proofs.Telling.{told_by, told_none, both_same}
+use Rattle.pf_script.specs.BookSeats.{KeepsUnder}
+use Rattle.pf_script.specs.Desk.{DeskState}
+use Rattle.pf_script.specs.DeskSteps.{Asks, CoversDesk, AnyName, DeskGoes}
+use Rattle.pf_script.specs.Turns.{silent}
+use Rattle.pf_script.specs.declared.line.ScriptLine.TheVariants as lines
+use Rattle.pf_script.specs.declared.reply.Reply.TheVariants as replies
+use Rattle.pf_script.proofs.Refusing.{idle_seen, none_taken, same_keeps, at_last}
+
+pub blank_goes : (desk : DeskState) (host : HostState) (words : WordsState) → DeskGoes lines.Blank (Ok replies.None) desk desk host host words words
+blank_goes desk host words = record {
+  key_is = refl;
+  asks = told_by (λ given. Asks lines.Blank replies.None desk desk given host host words words) [] host host (told_none host host refl)
+      (record {
+        seen = idle_seen;
+        was_seen = record { answers = refl; words = none_taken words; of_host = refl; of_words = refl };
+        turns = λ state is_state. at_last [] (λ unforged. (state, silent refl refl refl refl refl, is_state));
+      });
+  books = both_same (KeepsUnder (CoversDesk desk) (CoversDesk desk) AnyName) host.honest host.honest refl (same_keeps (CoversDesk desk) AnyName);
+  counts = (refl, refl);
+  wants = tt;
+}

@@ -1,0 +1,193 @@
+-- A line on a seat that is one change of its session.
+use Rattle.std.proofs.Common.{◌≡◌, inl, inr, Bool, true, false, List, [], ◌∷◌, ◌++◌, ℕ, refl, sym, ◌∙◌, ap, subst, Option, Some, None, Result, Ok, Err, length}
+use Rattle.std.specs.Prelude.{Contains}
+use Rattle.std.proofs.lemmas.List.{append-nil}
+use Rattle.node_tree.specs.Applying.{Step}
+use Rattle.node_tree.specs.Sheet.{Sheet, IsLinked}
+use Rattle.node_tree.specs.declared.fault.TreeFault.{TreeFault}
+use Rattle.pf_io.specs.Host.{Answer, HostState, OnDisk}
+use Rattle.pf_io.specs.Words.{WordsState}
+use Rattle.pf_io.specs.declared.faults.Memory.{Memory}
+use Rattle.pf_io.proofs.Telling.{told_weaker}
+use Rattle.pf_session.specs.Moving.{IsKeptOn}
+use Rattle.pf_session.specs.Changing.{ChangeGoes, refused, unchanged, changed, not_flushed, flushed_and_changed, StepState}
+use Rattle.pf_session.specs.State.{SessionState}
+use Rattle.pf_session.specs.declared.fault.FlushFault.{FlushFault}
+use Rattle.pf_session.specs.declared.fault.Written.{Written}
+use Rattle.pf_script.specs.BookSeats.{Covers, KeepsUnder}
+use Rattle.pf_script.specs.Desk.{IsSeated, seat_on}
+use Rattle.pf_script.specs.DeskSteps.{Unfolds, in_the_end, CountsFault, SeatAsks, IsChange, TakesNone, SeatGoes, is_host_fault, is_words_fault}
+use Rattle.pf_script.specs.Rules.{NoneRefuses, rules}
+use Rattle.pf_script.specs.Script.{OwnSeat, Own}
+use Rattle.pf_script.specs.SeatReplies.{flush_reply}
+use Rattle.pf_script.specs.SeatSteps.{AsksFor, none_left}
+use Rattle.pf_script.specs.Turns.{Blame, IsChangeReply, flushes}
+use Rattle.pf_script.specs.declared.line.ScriptLine.{ScriptLine}
+use Rattle.pf_script.specs.declared.reply.Reply.{Reply}
+use Rattle.pf_script.specs.declared.reply.Reply.TheVariants as replies
+use Rattle.pf_script.proofs.ChangeEnds.{Continues, change_ends}
+use Rattle.pf_script.proofs.ChangeTold.{Grew, Outcome, Went, Broke, Lacked, Wanted, host_in, words_in, ChangeTold, ChangeSeen}
+use Rattle.pf_script.proofs.Flushed.{FlushCase, lacked, failed, done, flush_case, host_blamed, fault_of}
+use Rattle.pf_script.proofs.OfScript.{of_changed}
+use Rattle.pf_script.proofs.SeatCalls.{seen_by, SheetTurns, whole_turns, host_reply, words_reply, false_true, goes_told, goes_wanting}
+use Rattle.pf_script.proofs.StepTurns.{Made, LineEnds, all_made}
+
+-- the reply by the outcome
+abbrev pub outcome_reply : (Bool → Reply) → Outcome → Result Reply Memory
+outcome_reply reply (Went flushed) = Ok (reply flushed)
+outcome_reply reply (Broke blame) = Ok (flush_reply (fault_of blame))
+outcome_reply reply Lacked = Ok replies.WordsFault
+outcome_reply reply Wanted = Err (record {})
+
+-- the session after a change
+pub record After (old new : SessionState) : Type 0 where
+  pub key_is : new.key ≡ old.key
+  pub name_is : new.name ≡ old.name
+  pub clean : new.broken ≡ false → new.changed ≡ false → new.tree.dirty ≡ []
+
+module _ (key : List ℕ) (old : SessionState) (seated : IsSeated key old) (whole : old.broken ≡ false) where
+  same_after : (new : SessionState) → new ≡ old → After old new
+  same_after new same = record {
+    key_is = ap (λ (s : SessionState). s.key) same;
+    name_is = ap (λ (s : SessionState). s.name) same;
+    clean = λ also unchanged. ap (λ (s : SessionState). s.tree.dirty) same ∙ seated.clean whole (sym (ap (λ (s : SessionState). s.changed) same) ∙ unchanged);
+  }
+
+  step_after : (mid new : SessionState) (one : Result (Unit {0}) TreeFault) → mid.key ≡ old.key → mid.name ≡ old.name → StepState one mid new → After old new
+  step_after mid new (Ok ok) key_is name_is state = record {
+    key_is = ap (λ (s : SessionState). s.key) state ∙ key_is;
+    name_is = ap (λ (s : SessionState). s.name) state ∙ name_is;
+    clean = λ also unchanged. absurd (false_true new.changed (ap (λ (s : SessionState). s.changed) state) unchanged);
+  }
+  step_after mid new (Err fault) key_is name_is state = record {
+    key_is = ap (λ (s : SessionState). s.key) state ∙ key_is;
+    name_is = ap (λ (s : SessionState). s.name) state ∙ name_is;
+    clean = λ also unchanged. absurd (false_true new.broken (ap (λ (s : SessionState). s.broken) state) also);
+  }
+
+  flush_after : (new : SessionState) (result : Result (Unit {0}) FlushFault) (before after : HostState) (random random' : WordsState) → FlushCase result old new before after random random' → After old new
+  flush_after new result before after random random' (lacked words seen same stays said) = same_after new same
+  flush_after new result before after random random' (failed blame these words seen blames seals key_is name_is broken said) =
+      record { key_is = key_is; name_is = name_is; clean = λ also unchanged. absurd (false_true new.broken broken also) }
+  flush_after new result before after random random' (done these words seen seals same dirty said) =
+      record { key_is = ap (λ (s : SessionState). s.key) same; name_is = ap (λ (s : SessionState). s.name) same; clean = λ also unchanged. dirty }
+
+  change_after : (E : Type 0) (Refused : E → Type 0) (IsNone : Type 0) (of_flush : FlushFault → E) (of_tree : TreeFault → E) (step : Step) (result : Result Written E) (new : SessionState) (before after : HostState) (random random' : WordsState)
+      → ChangeGoes E Refused IsNone of_flush of_tree step result old new before after random random' → After old new
+  change_after E Refused IsNone of_flush of_tree step result new before after random random' (refused fault why same stays words said) = same_after new same
+  change_after E Refused IsNone of_flush of_tree step result new before after random random' (unchanged free none same stays words said) = same_after new same
+  change_after E Refused IsNone of_flush of_tree step result new before after random random' (changed one free some roomy steps words said) = step_after old new one refl refl steps.state
+  change_after E Refused IsNone of_flush of_tree step result new before after random random' (not_flushed fault free some first flush undamaged said) =
+      flush_after new (Err fault) before after random random' (flush_case old seated.of_script new before after random random' (Err fault) flush)
+  change_after E Refused IsNone of_flush of_tree step result new before after random random' (flushed_and_changed mid between one free some first flush steps said) =
+      let flushed = flush_after mid (Ok tt) before between random random' (flush_case old seated.of_script mid before between random random' (Ok tt) flush) in
+      step_after mid new one flushed.key_is flushed.name_is steps.state
+
+  pub change_seated : (E : Type 0) (Refused : E → Type 0) (IsNone : Type 0) (of_flush : FlushFault → E) (of_tree : TreeFault → E) (step : Step) (result : Result Written E) (new : SessionState) (before after : HostState) (random random' : WordsState)
+      → ChangeGoes E Refused IsNone of_flush of_tree step result old new before after random random' → IsSeated key new × (new.name ≡ old.name)
+  change_seated E Refused IsNone of_flush of_tree step result new before after random random' goes =
+      let is = change_after E Refused IsNone of_flush of_tree step result new before after random random' goes in (
+        record {
+          of_script = of_changed old new seated.of_script E Refused IsNone of_flush of_tree step result before after random random' goes;
+          key_is = is.key_is ∙ seated.key_is;
+          clean = is.clean;
+        },
+        is.name_is,
+      )
+
+-- the first step of a line
+pub none_made : (sealed : List Sheet) (base : Sheet) (old : SessionState) → Contains sealed base → IsLinked base → IsKeptOn base old → old.broken ≡ false → Made sealed (seat_on base old) old [] [] [] base
+none_made sealed base old among linked kept whole = record {
+  makes = none_left (seat_on base old);
+  among = subst (λ (l : List Sheet). Contains l base) (sym (append-nil sealed)) among;
+  linked = linked;
+  kept = kept;
+  whole = whole;
+  key_is = refl;
+  name_is = refl;
+}
+
+-- A line that is one change. `replied` is the reply to it, by whether it was flushed before.
+module _ (key : List ℕ) (line : ScriptLine) (old new : SessionState) (whole : old.broken ≡ false) (step : Step) (replied : Bool → Reply) (asks : (size : ℕ) → AsksFor line size (step ∷ []))
+    (replies_to : (flushed : Bool) (sheets : List Sheet) → Grew flushed [] sheets → IsChangeReply sheets line (replied flushed)) (passes : (base : Sheet) (given : List Answer) → NoneRefuses (rules key false (Own (seat_on base old)) line given)) where
+  module _ (given : List Answer) (words : List (List ℕ)) where
+    split : given ≡ [] ++ given ++ []
+    split = sym (append-nil given)
+
+    went_turns : (flushed : Bool) → ChangeTold step old new given words (Went flushed) → SheetTurns key false line (seen_by given words false false) (replied flushed) old (Some new) given
+    went_turns flushed told sealed base among linked kept =
+        let own = seat_on base old in
+        change_ends key sealed own line given [] given [] split (LineEnds key sealed own line given words false false (replied flushed) new) old [] [] [] base (none_made sealed base old among linked kept whole) step [] (asks (length own.content)) new words
+        (Went flushed)
+        (record {
+          went = λ f is sheets' base' grew made.
+              in_the_end (flushes own sheets')
+              (λ unforged. all_made key sealed own line given new (step ∷ []) words sheets' base' made (asks (length own.content)) (replied flushed)
+                  (replies_to flushed sheets' (subst (λ (b : Bool). Grew b [] sheets') (sym (same_flag flushed f is)) grew)) (passes base given));
+          broke = λ blame is acts ends. absurd (cc);
+          lack = λ is acts ends. absurd (cc);
+          memory = λ is. absurd (cc);
+        }) told
+      where
+        same_flag : (f g : Bool) → Went f ≡ Went g → f ≡ g
+        same_flag f g is = cc
+
+    broke_turns : (blame : Blame) → ChangeTold step old new given words (Broke blame) → SheetTurns key false line (seen_by given words (host_blamed blame) false) (flush_reply (fault_of blame)) old (Some new) given
+    broke_turns blame told sealed base among linked kept =
+        let own = seat_on base old in
+        change_ends key sealed own line given [] given [] split (LineEnds key sealed own line given words (host_blamed blame) false (flush_reply (fault_of blame)) new) old [] [] [] base
+        (none_made sealed base old among linked kept whole) step [] (asks (length own.content)) new words (Broke blame)
+        (record {
+          went = λ f is sheets' base' grew made. absurd (cc);
+          broke = λ other is acts ends.
+              subst (λ (b : Blame). LineEnds key sealed own line given words (host_blamed b) false (flush_reply (fault_of b)) new acts) (sym (same_blame blame other is)) ends;
+          lack = λ is acts ends. absurd (cc);
+          memory = λ is. absurd (cc);
+        }) told
+      where
+        same_blame : (b other : Blame) → Broke b ≡ Broke other → b ≡ other
+        same_blame b other is = cc
+
+    lacked_turns : ChangeTold step old new given words Lacked → SheetTurns key false line (seen_by given words false true) replies.WordsFault old (Some new) given
+    lacked_turns told sealed base among linked kept =
+        let own = seat_on base old in
+        change_ends key sealed own line given [] given [] split (LineEnds key sealed own line given words false true replies.WordsFault new) old [] [] [] base (none_made sealed base old among linked kept whole) step [] (asks (length own.content)) new words
+        Lacked
+        (record {
+          went = λ f is sheets' base' grew made. absurd (cc);
+          broke = λ blame is acts ends. absurd (cc);
+          lack = λ is acts ends. ends;
+          memory = λ is. absurd (cc);
+        }) told
+
+  module _ (before after : HostState) (random random' : WordsState) (books : OnDisk before after (KeepsUnder (Covers old) (Covers new) (λ name. name ≡ old.name))) (seated : IsSeated key new) (name_is : new.name ≡ old.name)
+      (takes : ¬ (TakesNone line)) (changes : IsChange line) (calm : (flushed : Bool) → (is_host_fault (replied flushed) ≡ false) × (is_words_fault (replied flushed) ≡ false)) where
+    pub line_goes : (outcome : Outcome) → ChangeSeen step old new outcome before after random random' → (outcome ≡ Wanted → new.broken ≡ true) → SeatGoes key false line (outcome_reply replied outcome) (Some old) (Some new) before after random random'
+    line_goes (Went flushed) seen breaks =
+        goes_told key false line old before after random random' (replied flushed)
+        (subst (λ b. CountsFault b before.faults after.faults) (sym (calm flushed).0) seen.on_host, subst (λ b. CountsFault b random.faults random'.faults) (sym (calm flushed).1) seen.on_words) new
+        (told_weaker (λ given. ChangeTold step old new given seen.words (Went flushed)) (λ given. SeatAsks key false line (replied flushed) (Some old) (Some new) given before after random random') before after seen.told
+            (λ given told. record {
+              seen = seen_by given seen.words false false;
+              was_seen = record { answers = refl; words = seen.taken; of_host = seen.on_host; of_words = seen.on_words };
+              turns = whole_turns key false line (seen_by given seen.words false false) (replied flushed) old (Some new) given whole (went_turns given seen.words flushed told);
+            })) books seated name_is
+    line_goes (Broke blame) seen breaks =
+        goes_told key false line old before after random random' (flush_reply (fault_of blame))
+        (subst (λ b. CountsFault b before.faults after.faults) (sym (host_reply blame)) seen.on_host, subst (λ b. CountsFault b random.faults random'.faults) (sym (words_reply blame)) seen.on_words) new
+        (told_weaker (λ given. ChangeTold step old new given seen.words (Broke blame)) (λ given. SeatAsks key false line (flush_reply (fault_of blame)) (Some old) (Some new) given before after random random') before after seen.told
+            (λ given told. record {
+              seen = seen_by given seen.words (host_blamed blame) false;
+              was_seen = record { answers = refl; words = seen.taken; of_host = seen.on_host; of_words = seen.on_words };
+              turns = whole_turns key false line (seen_by given seen.words (host_blamed blame) false) (flush_reply (fault_of blame)) old (Some new) given whole (broke_turns given seen.words blame told);
+            })) books seated name_is
+    line_goes Lacked seen breaks =
+        goes_told key false line old before after random random' replies.WordsFault (seen.on_host, seen.on_words) new
+        (told_weaker (λ given. ChangeTold step old new given seen.words Lacked) (λ given. SeatAsks key false line replies.WordsFault (Some old) (Some new) given before after random random') before after seen.told
+            (λ given told. record {
+              seen = seen_by given seen.words false true;
+              was_seen = record { answers = refl; words = seen.taken; of_host = seen.on_host; of_words = seen.on_words };
+              turns = whole_turns key false line (seen_by given seen.words false true) replies.WordsFault old (Some new) given whole (lacked_turns given seen.words told);
+            })) books seated name_is
+    line_goes Wanted seen breaks =
+        goes_wanting key false line old before after random random' (record {}) new (record { takes = takes; told = told_weaker (λ given. ChangeTold step old new given seen.words Wanted) (λ given. Unit {0}) before after seen.told (λ given facts. tt); ends = inr (changes, breaks refl) }) books seated name_is seen.on_host seen.on_words

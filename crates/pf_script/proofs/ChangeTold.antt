@@ -1,0 +1,183 @@
+-- What is told of a change of a session, and how a line goes on by it.
+use Rattle.std.proofs.Common.{◌≡◌, inl, inr, ⊎_elim, Bool, true, false, List, [], ◌∷◌, ◌++◌, ℕ, ◌*◌, refl, sym, ◌∙◌, ap, subst, Option, Some, None, Result, Ok, Err, length}
+use Rattle.std.specs.Prelude.{Contains}
+use Rattle.std.proofs.lemmas.List.{append-nil, append_assoc}
+use Rattle.std.proofs.lemmas.List.Elements.{Contains-append_left, Contains-append_right, Contains-push}
+use Rattle.node_layout.specs.declared.damage.Damage.{Damage}
+use Rattle.node_tree.specs.Applying.{Step}
+use Rattle.node_tree.specs.Opened.{Given}
+use Rattle.node_tree.specs.Sheet.{Sheet}
+use Rattle.node_tree.specs.State.{TreeState}
+use Rattle.node_tree.specs.declared.fault.TreeFault.{TreeFault}
+use Rattle.node_tree.specs.declared.fault.TreeFault.TheVariants as trees
+use Rattle.node_tree.specs.Unforged.{Unforged}
+use Rattle.pf_io.specs.Disk.{Name}
+use Rattle.pf_io.specs.Host.{Answer, Gave, HostState, Both, WhereTold}
+use Rattle.pf_io.specs.Words.{WordsState}
+use Rattle.pf_io.proofs.Telling.{told_by, told_then, told_weaker, told_none}
+use Rattle.pf_session.specs.Asking.{IsTaken as AreTaken}
+use Rattle.pf_session.specs.Backing.{StandsOn}
+use Rattle.pf_session.specs.Changing.{IsFlushedFirst, IsRoomy, StepGoes, StepState}
+use Rattle.pf_session.specs.Flushing.{FlushGoes}
+use Rattle.pf_session.specs.State.{SessionState}
+use Rattle.pf_session.specs.declared.fault.FlushFault.{FlushFault}
+use Rattle.pf_session.specs.declared.fault.FlushFault.TheVariants as faults
+use Rattle.pf_script.specs.BookActs.{Flush, Act}
+use Rattle.pf_script.specs.BookDebts.{seat_of}
+use Rattle.pf_script.specs.BookSeats.{IsOfScript}
+use Rattle.pf_script.specs.DeskSteps.{CountsFault, Unfolds, in_the_end, then_more}
+use Rattle.pf_script.specs.Script.{OwnSeat, sheets_of}
+use Rattle.pf_script.specs.SeatReplies.{flush_reply}
+use Rattle.pf_script.specs.SeatSteps.{AsksFor}
+use Rattle.pf_script.specs.Turns.{Blame, ByHost, ByDamage, flushes, BlamesFlush, BlamesFetch, IsShort, IsOther}
+use Rattle.pf_script.specs.declared.line.ScriptLine.{ScriptLine}
+use Rattle.pf_script.specs.declared.reply.Reply.TheVariants as replies
+use Rattle.pf_script.proofs.Flushed.{SeenOf, SealsOwn, FlushCase, lacked, failed, done, flush_case, host_blamed, fault_of}
+use Rattle.pf_script.proofs.Refusing.{none_taken}
+use Rattle.pf_script.proofs.StepFacts.{StepFacts, host_of, counts_of, step_told, flushes_first, fits_at}
+use Rattle.pf_script.proofs.StepTurns.{flushes_on, Made, LineEnds, gives, fetch_failed, no_word, flush_failed, fetch_failed_after, made_more, made_after}
+
+-- how a change ended: it was made, after a flush or without one; it failed; a word was wanting; or memory was
+pub data Outcome : Type 0 where
+  Went : (flushed : Bool) → Outcome
+  Broke : (blame : Blame) → Outcome
+  Lacked : Outcome
+  Wanted : Outcome
+
+abbrev pub outcome_of : Bool → Result (Unit {0}) TreeFault → Outcome
+outcome_of flushed (Ok ok) = Went flushed
+outcome_of flushed (Err (trees.Damaged damage)) = Broke (ByDamage damage)
+outcome_of flushed (Err trees.Host) = Broke ByHost
+outcome_of flushed (Err trees.Memory) = Wanted
+
+abbrev pub host_in : Outcome → Bool
+host_in (Went flushed) = false
+host_in (Broke blame) = host_blamed blame
+host_in Lacked = false
+host_in Wanted = false
+
+abbrev pub words_in : Outcome → Bool
+words_in (Went flushed) = false
+words_in (Broke blame) = false
+words_in Lacked = true
+words_in Wanted = false
+
+-- a change, by what came
+pub data ChangeTold (step : Step) (old new : SessionState) (given : List Answer) (words : List (List ℕ)) : Outcome → Type 0 where
+  told_once : (one : Result (Unit {0}) TreeFault) → IsRoomy step old.tree → words ≡ [] → StepFacts one step old new given → StepState one old new → ChangeTold step old new given words (outcome_of false one)
+  told_lacked : IsFlushedFirst step old.tree → new ≡ old → ChangeTold step old new given words Lacked
+  told_unflushed : (blame : Blame) → IsFlushedFirst step old.tree → BlamesFlush old.name given blame → SealsOwn old words (λ next. Unit {0}) → new.key ≡ old.key → new.name ≡ old.name → new.broken ≡ true
+      → ChangeTold step old new given words (Broke blame)
+  told_after : (mid : SessionState) (one : Result (Unit {0}) TreeFault) (these those : List Answer) → given ≡ these ++ those → IsFlushedFirst step old.tree → SealsOwn old words (λ next. StandsOn next mid) → {nonce : List ℕ} {tree : TreeState}
+      → mid ≡ record old { nonce = nonce; drawn = None; tree = tree; changed = false } → mid.tree.dirty ≡ [] → StepFacts one step mid new those → StepState one mid new → ChangeTold step old new given words (outcome_of true one)
+
+-- what is seen of it
+pub record ChangeSeen (step : Step) (old new : SessionState) (outcome : Outcome) (before after : HostState) (random random' : WordsState) : Type 0 where
+  pub words : List (List ℕ)
+  pub taken : Both random.left random'.left (AreTaken words)
+  pub on_host : CountsFault (host_in outcome) before.faults after.faults
+  pub on_words : CountsFault (words_in outcome) random.faults random'.faults
+  pub told : WhereTold before after (λ given. ChangeTold step old new given words outcome)
+
+pub host_same : (flushed : Bool) (one : Result (Unit {0}) TreeFault) → host_of one ≡ host_in (outcome_of flushed one)
+host_same flushed (Ok ok) = refl
+host_same flushed (Err (trees.Damaged damage)) = refl
+host_same flushed (Err trees.Host) = refl
+host_same flushed (Err trees.Memory) = refl
+
+pub calm_words : (flushed : Bool) (one : Result (Unit {0}) TreeFault) → words_in (outcome_of flushed one) ≡ false
+calm_words flushed (Ok ok) = refl
+calm_words flushed (Err (trees.Damaged damage)) = refl
+calm_words flushed (Err trees.Host) = refl
+calm_words flushed (Err trees.Memory) = refl
+
+-- the outcome of a flush that failed
+abbrev pub flush_outcome : FlushFault → Outcome
+flush_outcome faults.Words = Lacked
+flush_outcome (faults.Damaged damage) = Broke (ByDamage damage)
+flush_outcome faults.Host = Broke ByHost
+
+pub outcome_is : (blame : Blame) → flush_outcome (fault_of blame) ≡ Broke blame
+outcome_is ByHost = refl
+outcome_is (ByDamage damage) = refl
+
+pub same_fault : (fault other : FlushFault) → ◌≡◌ {A = Result (Unit {0}) FlushFault} (Err fault) (Err other) → other ≡ fault
+same_fault fault other same = cc
+
+module _ (old : SessionState) (mine : IsOfScript old) (step : Step) (before after : HostState) (random random' : WordsState) where
+  pub seen_once : (new : SessionState) (one : Result (Unit {0}) TreeFault) → IsRoomy step old.tree → StepGoes one step old new before after → random' ≡ random → ChangeSeen step old new (outcome_of false one) before after random random'
+  seen_once new one roomy goes same = record {
+    words = [];
+    taken = subst (λ (w : WordsState). Both random.left w.left (AreTaken [])) (sym same) (none_taken random);
+    on_host = subst (λ b. CountsFault b before.faults after.faults) (host_same false one) (counts_of one before.faults after.faults goes.cause);
+    on_words = subst (λ b. CountsFault b random.faults random'.faults) (sym (calm_words false one)) (ap (λ (w : WordsState). w.faults) same);
+    told = told_weaker (StepFacts one step old new) (λ given. ChangeTold step old new given [] (outcome_of false one)) before after (step_told old mine new one step before after goes one refl) (λ given facts. told_once one roomy refl facts goes.state);
+  }
+
+  pub seen_unflushed : (new : SessionState) (fault : FlushFault) → IsFlushedFirst step old.tree → FlushCase (Err fault) old new before after random random' → ChangeSeen step old new (flush_outcome fault) before after random random'
+  seen_unflushed new fault first (lacked words seen same stays said) =
+      subst (λ (f : FlushFault). ChangeSeen step old new (flush_outcome f) before after random random') (same_fault fault faults.Words said)
+      (record {
+        words = words;
+        taken = seen.taken;
+        on_host = seen.on_host;
+        on_words = seen.on_words;
+        told = told_by (λ given. ChangeTold step old new given words Lacked) [] before after seen.told (told_lacked first same);
+      })
+  seen_unflushed new fault first (failed blame these words seen blames seals key_is name_is broken said) =
+      subst (λ (f : FlushFault). ChangeSeen step old new (flush_outcome f) before after random random') (same_fault fault (fault_of blame) said)
+      (subst (λ (o : Outcome). ChangeSeen step old new o before after random random') (sym (outcome_is blame))
+      (record {
+        words = words;
+        taken = seen.taken;
+        on_host = seen.on_host;
+        on_words = seen.on_words;
+        told = told_by (λ given. ChangeTold step old new given words (Broke blame)) these before after seen.told (told_unflushed blame first blames seals key_is name_is broken);
+      }))
+  seen_unflushed new fault first (done these words seen seals same dirty said) = absurd (cc)
+
+  pub seen_after : (mid new : SessionState) (between : HostState) (one : Result (Unit {0}) TreeFault) → IsOfScript mid → IsFlushedFirst step old.tree → FlushCase (Ok tt) old mid before between random random' → StepGoes one step mid new between after
+      → ChangeSeen step old new (outcome_of true one) before after random random'
+  seen_after mid new between one of_mid first (lacked words seen same stays said) goes = absurd (cc)
+  seen_after mid new between one of_mid first (failed blame these words seen blames seals key_is name_is broken said) goes = absurd (cc)
+  seen_after mid new between one of_mid first (done these words seen seals same dirty said) goes = record {
+    words = words;
+    taken = seen.taken;
+    on_host = subst (λ b. CountsFault b before.faults after.faults) (host_same true one) (subst (λ n. CountsFault (host_of one) n after.faults) seen.on_host (counts_of one between.faults after.faults goes.cause));
+    on_words = subst (λ b. CountsFault b random.faults random'.faults) (sym (calm_words true one)) seen.on_words;
+    told = told_then (λ given. given ≡ these) (StepFacts one step mid new) (λ given. ChangeTold step old new given words (outcome_of true one)) before between after
+        (told_by (λ given. given ≡ these) these before between seen.told refl) (step_told mid of_mid new one step between after goes one refl)
+        (λ first_ones those is facts. told_after mid one these those (ap (λ (l : List Answer). l ++ those) is) first seals same dirty facts goes.state);
+  }
+
+-- the sheets after a change: one more, where it flushed
+abbrev pub Grew : Bool → List Sheet → List Sheet → Type 0
+Grew false sheets now = now ≡ sheets
+Grew true sheets now = (next : Sheet) × (now ≡ sheets ++ next ∷ [])
+
+-- a cause among some answers is one among more
+short_more : (name : Name) (these those rest : List Answer) (damage : Damage) → IsShort name those damage → IsShort name (these ++ those ++ rest) damage
+short_more name these those rest damage short = record {
+  block = short.block;
+  gave = Contains-append_left (these ++ those) rest (Gave name (4096 * damage.node) 4096 short.block) (Contains-append_right these those (Gave name (4096 * damage.node) 4096 short.block) short.gave);
+  short = short.short;
+  kind_is = short.kind_is;
+}
+
+pub flush_more : (name : Name) (these those rest : List Answer) (blame : Blame) → BlamesFlush name those blame → BlamesFlush name (these ++ those ++ rest) blame
+flush_more name these those rest ByHost blames = tt
+flush_more name these those rest (ByDamage damage) blames = short_more name these those rest damage blames
+
+pub fetch_more : (sheet : Sheet) (name : Name) (these those rest : List Answer) (blame : Blame) → BlamesFetch sheet name those blame → BlamesFetch sheet name (these ++ those ++ rest) blame
+fetch_more sheet name these those rest ByHost blames = tt
+fetch_more sheet name these those rest (ByDamage damage) (inl short) = inl (short_more name these those rest damage short)
+fetch_more sheet name these those rest (ByDamage damage) (inr other) = inr (record {
+  foreign = record {
+    node = other.foreign.node;
+    there = other.foreign.there;
+    block = other.foreign.block;
+    gave = Contains-append_left (these ++ those) rest (Gave name (4096 * damage.node) 4096 other.foreign.block) (Contains-append_right these those (Gave name (4096 * damage.node) 4096 other.foreign.block) other.foreign.gave);
+    other = other.foreign.other;
+  };
+  kind_is = other.kind_is;
+})

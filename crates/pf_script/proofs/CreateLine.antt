@@ -1,0 +1,216 @@
+-- The line `create`, from the contract of a creation.
+use Rattle.std.proofs.Common.{◌≡◌, inl, inr, Bool, true, false, List, [], ◌∷◌, ℕ, refl, sym, ◌∙◌, ap, subst, Option, Some, None, Result, Ok, Err, arith}
+use Rattle.std.proofs.lemmas.List.Elements.{Contains-push}
+use Rattle.std.specs.Prelude.{Contains}
+use Rattle.std.specs.Str.{IsUtf8}
+use Rattle.node_tree.specs.Backing.{now}
+use Rattle.node_tree.specs.Sheet.{Sheet, IsLinked}
+use Rattle.pf_io.specs.Counts.{counted}
+use Rattle.pf_io.specs.Disk.{Name}
+use Rattle.pf_io.specs.Host.{Answer, LengthWas, Wrote, Synced, Made, Swapped, HostState, Both as BothAre, OnDisk, ReadsAsImage}
+use Rattle.pf_io.specs.Moments.{Ran}
+use Rattle.pf_io.specs.Names.{IsTarget, recovery_of, side_of}
+use Rattle.pf_io.specs.Words.{WordsState}
+use Rattle.pf_io.specs.declared.faults.Memory.{Memory}
+use Rattle.pf_io.proofs.Telling.{told_by, told_none, told_on, both_same, both_weaker}
+use Rattle.pf_session.specs.Aside.{Aside, LeavesApart, KeepsApart}
+use Rattle.pf_session.specs.Asking.{IsTaken as AreTaken}
+use Rattle.pf_session.specs.Creating.{CreateGoes, misnamed, no_memory, look_up_failed, was_there, no_words, create_stopped, created, CreatesOn, AreNamed, empty_sheet, empty_node, fresh}
+use Rattle.pf_session.specs.Drawing.{IsDrawn}
+use Rattle.pf_session.specs.Placing.{place_steps}
+use Rattle.pf_session.specs.State.{SessionState}
+use Rattle.pf_session.specs.declared.fault.CreateFault.{CreateFault}
+use Rattle.pf_script.specs.Book.{Book, Seal}
+use Rattle.pf_script.specs.BookActs.{Creation, Act, Among}
+use Rattle.pf_script.specs.BookDebts.{Unchanged, seat_of}
+use Rattle.pf_script.specs.BookSeats.{CoversNone, CoversMade, KeepsUnder}
+use Rattle.pf_script.specs.BookTurns.{ShowsUnder, no_file, of_book, SeatUnder}
+use Rattle.pf_script.specs.Desk.{no_file as no_seat, whole_file, seat_on}
+use Rattle.pf_script.specs.DeskSteps.{Concerns}
+use Rattle.pf_script.specs.Rules.{Rule, refuses}
+use Rattle.pf_script.specs.Script.{Seat, Empty, Own}
+use Rattle.pf_script.specs.SeatReplies.{create_reply}
+use Rattle.pf_script.specs.SeatSteps.{SealsEmpty}
+use Rattle.pf_script.specs.Turns.{Seen, Standing, SeatTurn, refused, accepted, host_failed, words_failed, created as creates_file, not_asked, not_created, no_creation, new_seat}
+use Rattle.pf_script.specs.declared.line.ScriptLine.{ScriptLine}
+use Rattle.pf_script.specs.declared.line.ScriptLine.TheVariants as lines
+use Rattle.pf_script.specs.declared.reply.Reply.{Reply}
+use Rattle.pf_script.specs.declared.reply.Reply.TheVariants as replies
+use Rattle.pf_script.specs.declared.reply.Why.TheVariants as whys
+use Rattle.pf_script.proofs.ActKeeping.{one_act, one_spares, only_reads, unchanged_now}
+use Rattle.pf_script.proofs.CallKeeping.{at_both, both_with, read_image}
+use Rattle.pf_script.proofs.CreateKeeping.{create_keeps}
+use Rattle.pf_script.proofs.Flushed.{SeenOf, counted_kind}
+use Rattle.pf_script.proofs.FlushUnder.{seen_in}
+use Rattle.pf_script.proofs.OfScript.{of_created}
+use Rattle.pf_script.proofs.OnEmpty.{not_of, made_seat, BothHalves, empty_idle, concerns, empty_goes, empty_wants, empty_under, empty_turns, seat_first, seat_none}
+use Rattle.pf_script.proofs.Refusing.{none_taken}
+use Rattle.pf_script.proofs.SeatCalls.{seen_by, own_same}
+use Rattle.pf_script.proofs.Seats.{seats_after, seat_is_left}
+
+-- the reply to a creation, and the seat after it
+abbrev pub create_result : Name → Result SessionState CreateFault → Result Reply Memory
+create_result name (Ok session) = Ok replies.Created
+create_result name (Err fault) = create_reply name fault
+
+-- the rules of a new name, and that an absent one is not refused
+abbrev pub naming_rules : Name → List Answer → List Rule
+naming_rules name given = refuses whys.BadName (¬ (IsTarget name)) ∷ refuses (whys.Exists name) ((size : ℕ) × Contains given (LengthWas name (Some size))) ∷ []
+
+was_absent : (name : Name) (node : List ℕ) (size : ℕ) → Contains (LengthWas name None ∷ place_steps name node) (LengthWas name (Some size)) → ⊥
+was_absent name node size =
+    let other = LengthWas name (Some size) in
+    not_of (LengthWas name None) other (place_steps name node) (λ same. absurd (cc))
+    (not_of (Synced (recovery_of name)) other (Made (side_of name) ∷ Wrote (side_of name) 0 node ∷ Synced (side_of name) ∷ Swapped (side_of name) name ∷ []) (λ same. absurd (cc))
+    (not_of (Made (side_of name)) other (Wrote (side_of name) 0 node ∷ Synced (side_of name) ∷ Swapped (side_of name) name ∷ []) (λ same. absurd (cc))
+    (not_of (Wrote (side_of name) 0 node) other (Synced (side_of name) ∷ Swapped (side_of name) name ∷ []) (λ same. absurd (cc))
+    (not_of (Synced (side_of name)) other (Swapped (side_of name) name ∷ []) (λ same. absurd (cc))
+    (not_of (Swapped (side_of name) name) other [] (λ same. absurd (cc)) (λ none. absurd (omega (arith, none.1))))))))
+
+-- a target that is a text may be a path too
+pub named_target : (name : Name) → IsUtf8 name → IsTarget name → AreNamed name name
+named_target name utf8 target = record {
+  is_target = target;
+  path_is = record { not_empty = target.is_name.not_empty; not_long = let long = target.is_name.not_long in omega (arith, long); no_zero = target.is_name.no_zero; utf8 = utf8 };
+}
+
+module _ (key : List ℕ) (k : ℕ) (name : Name) (utf8 : IsUtf8 name) (before after : HostState) (random random' : WordsState) where
+  abbrev line : ScriptLine
+  line = lines.Create k name
+
+  abbrev Both : Result Reply Memory → Option SessionState → Type 0
+  Both result new = BothHalves key line result new before after random random'
+
+  -- nothing was asked
+  stays_so : after ≡ before → OnDisk before after Unchanged
+  stays_so stays = both_same Unchanged before.honest after.honest (ap (λ (h : HostState). h.honest) stays) (λ a. unchanged_now a)
+
+  none_taken_now : random' ≡ random → BothAre random.left random'.left (AreTaken [])
+  none_taken_now same = subst (λ (w : WordsState). BothAre random.left w.left (AreTaken [])) (sym same) (none_taken random)
+
+  -- a creation that had its words
+  module _ (nonce : List ℕ) (these : List Answer) (drawn : IsDrawn nonce random random') where
+    abbrev sheet : Sheet
+    sheet = empty_sheet name nonce
+
+    abbrev act : Bool → Act
+    act done = record { deed = Creation (seat_of key name sheet); done = done }
+
+    abbrev words : List (List ℕ)
+    words = drawn.first ∷ drawn.second ∷ []
+
+    seals_empty : IsLinked sheet → SealsEmpty name words sheet
+    seals_empty linked = record { first = drawn.first; second = drawn.second; words_are = refl; sheet_is = ap (λ (n : List ℕ). empty_sheet name n) drawn.is; linked = linked }
+
+    only_it : (done : Bool) (n : Name) → Among (act done ∷ []) n → Concerns false line None n
+    only_it done n (inl same) = concerns key line name refl n same
+    only_it done n (inr none) = absurd none
+
+    under : (done : Bool) (seen : Seen) (reply : Reply) (new : Option SessionState) (after_seat : Seat) → Aside name before after → ReadsAsImage after → OnDisk before after (CreatesOn done key name sheet) → IsTarget name
+        → ((book : Book) (seats : List Seal) → ShowsUnder book (seats_after (Creation (seat_of key name sheet)) done seats) after_seat new) → ((standing : Standing) → SeatTurn standing key false Empty line seen reply (act done ∷ []) after_seat)
+        → OnDisk before after (SeatUnder key false line seen reply None new)
+    under done seen reply new after_seat aside reads creates target shows turn =
+        both_with (Ran (LeavesApart name) (KeepsApart name)) (SeatUnder key false line seen reply None new) before.honest after.honest aside
+        (λ a b is is2 ran. empty_under key line name refl seen reply new a b
+        (λ book seats agrees was_image. record {
+          acts = act done ∷ [];
+          left = seats_after (Creation (seat_of key name sheet)) done seats;
+          after = after_seat;
+          did = one_act book seats (Creation (seat_of key name sheet)) done a b (record { targets = target; others = ran; reads = read_image after.honest b is2 reads })
+              (record { path_is = refl; creates = at_both (CreatesOn done key name sheet) before.honest after.honest a b is is2 creates });
+          shows = shows _ seats;
+          spares = one_spares seats (Creation (seat_of key name sheet)) done;
+          concerned = only_it done;
+          turn = λ _. turn _;
+        }))
+
+  by_case : (result : Result SessionState CreateFault) → Aside name before after → ReadsAsImage after → (IsTarget name → OnDisk before after (KeepsUnder CoversNone (CoversMade result) (λ n. n ≡ name))) → CreateGoes key name name before after random random' result
+      → Both (create_result name result) (made_seat result)
+  by_case result aside reads keeps (misnamed bad stays same said) =
+      subst (λ (r : Result SessionState CreateFault). Both (create_result name r) (made_seat r)) (sym said)
+      (empty_idle key line name refl before after random random' (replies.Refused whys.BadName) [] [] false false (stays_so stays)
+          (record { told = told_none before after (ap (λ (h : HostState). h.given) stays); taken = none_taken_now same; on_host = ap (λ (h : HostState). h.faults) stays; on_words = ap (λ (w : WordsState). w.faults) same }) refl refl
+          (λ standing. refused whys.BadName (seat_first (naming_rules name []) whys.BadName (inl (refl, λ target. bad (named_target name utf8 target)))) (record { host = refl; random = refl }) refl refl refl refl))
+  by_case result aside reads keeps (no_memory good stays same said) =
+      subst (λ (r : Result SessionState CreateFault). Both (create_result name r) (made_seat r)) (sym said)
+      (record {
+        goes = empty_wants key line name refl None before after random random'
+            (both_weaker Unchanged (KeepsUnder CoversNone CoversNone (λ n. n ≡ name)) before.honest after.honest (stays_so stays) (λ a b only. only_reads CoversNone a b (λ n. n ≡ name) only)) tt (λ n none. absurd none)
+            (λ takes. takes) refl (stays_so stays) (ap (λ (h : HostState). h.faults) stays) same (told_by (λ given. Unit {0}) [] before after (told_none before after (ap (λ (h : HostState). h.given) stays)) tt);
+        booked = tt;
+      })
+  by_case result aside reads keeps (look_up_failed good fails same said) =
+      subst (λ (r : Result SessionState CreateFault). Both (create_result name r) (made_seat r)) (sym said)
+      (empty_idle key line name refl before after random random' replies.HostFault [] [] true false fails.disk
+          (record { told = fails.asked.asked.told; taken = none_taken_now same; on_host = fails.asked.asked.faults; on_words = ap (λ (w : WordsState). w.faults) same }) refl refl
+          (λ standing. host_failed (record { host = refl; random = refl }) (not_asked k name refl) refl))
+  by_case result aside reads keeps (was_there size good looks same said) =
+      let given = LengthWas name (Some size) ∷ [] in
+      subst (λ (r : Result SessionState CreateFault). Both (create_result name r) (made_seat r)) (sym said)
+      (empty_idle key line name refl before after random random' (replies.Refused (whys.Exists name)) given [] false false looks.disk
+          (record { told = looks.asked.asked.told; taken = none_taken_now same; on_host = looks.asked.asked.faults; on_words = ap (λ (w : WordsState). w.faults) same }) refl refl
+          (λ standing. refused (whys.Exists name)
+          (seat_first (naming_rules name given) (whys.Exists name) (inr ((λ other refuses. refuses.1 good.is_target), inl (refl, (size, Contains-push [] (LengthWas name (Some size))))))) (record { host = refl; random = refl }) refl refl refl refl))
+  by_case result aside reads keeps (no_words good looks fewer said) =
+      subst (λ (r : Result SessionState CreateFault). Both (create_result name r) (made_seat r)) (sym said)
+      (empty_idle key line name refl before after random random' replies.WordsFault (LengthWas name None ∷ []) fewer.words false true looks.disk
+          (record { told = looks.asked.asked.told; taken = fewer.told; on_host = looks.asked.asked.faults; on_words = fewer.once }) refl refl
+          (λ standing. words_failed (record { host = refl; random = refl }) (no_creation k name) refl))
+  by_case result aside reads keeps (create_stopped nonce between good looks drawn stopped said) =
+      let those = stopped.stopped.answered in
+      let these = LengthWas name None ∷ those in
+      let words = drawn.first ∷ drawn.second ∷ [] in
+      let seen : SeenOf these words true false before after random random' = record {
+        told = told_on (LengthWas name None ∷ []) those before between after looks.asked.asked.told stopped.stopped.asked.told;
+        taken = drawn.took.told;
+        on_host = counted_kind stopped.stopped.failed between.faults after.faults stopped.stopped.asked.faults ∙ ap counted looks.asked.asked.faults;
+        on_words = drawn.took.calm;
+      } in
+      let turn : (standing : Standing) → SeatTurn standing key false Empty line (seen_by these words true false) replies.HostFault (act nonce these drawn false ∷ []) Empty = λ standing.
+          host_failed (record { host = refl; random = refl }) (not_created k name (empty_sheet name nonce) (seals_empty nonce these drawn stopped.linked)) refl in
+      subst (λ (r : Result SessionState CreateFault). Both (create_result name r) (made_seat r)) (sym said)
+      (record {
+        goes = empty_goes key line name refl None before after random random' (subst (λ (r : Result SessionState CreateFault). OnDisk before after (KeepsUnder CoversNone (CoversMade r) (λ n. n ≡ name))) said (keeps good.is_target)) tt (λ n none. absurd none)
+            replies.HostFault these words true false seen refl refl
+            (empty_turns key line name refl (seen_by these words true false) replies.HostFault None these (act nonce these drawn false ∷ []) Empty turn (λ sealed. no_seat refl refl));
+        booked = record {
+          seen = seen_by these words true false;
+          was_seen = seen_in these words true false before after random random' seen;
+          under = under nonce these drawn false (seen_by these words true false) replies.HostFault None Empty aside reads stopped.creates good.is_target (λ book seats. no_file refl refl) turn;
+        };
+      })
+  by_case result aside reads keeps (created nonce between good looks drawn asked creates is_fresh said) =
+      let those = place_steps name (empty_node key name nonce) in
+      let these = LengthWas name None ∷ those in
+      let words = drawn.first ∷ drawn.second ∷ [] in
+      let sheet = empty_sheet name nonce in
+      let made = fresh key name name nonce false in
+      let seen : SeenOf these words false false before after random random' = record {
+        told = told_on (LengthWas name None ∷ []) those before between after looks.asked.asked.told asked.told;
+        taken = drawn.took.told;
+        on_host = asked.faults ∙ looks.asked.asked.faults;
+        on_words = drawn.took.calm;
+      } in
+      let turn : (standing : Standing) → SeatTurn standing key false Empty line (seen_by these words false false) replies.Created (act nonce these drawn true ∷ []) (Own (new_seat key name sheet)) = λ standing.
+          accepted (seat_none (naming_rules name these) ((λ other refuses. refuses.1 good.is_target), ((λ other refuses. was_absent name (empty_node key name nonce) refuses.1.0 refuses.1.1), tt))) (record { host = refl; random = refl })
+          (creates_file k name sheet (seals_empty nonce these drawn is_fresh.linked)) in
+      let same : new_seat key name sheet ≡ seat_on sheet made = own_same sheet key key name name [] (now sheet made.tree) [] [] false false None None false false refl refl (sym is_fresh.stands.now_is) refl refl refl refl in
+      subst (λ (r : Result SessionState CreateFault). Both (create_result name r) (made_seat r)) (sym said)
+      (record {
+        goes = empty_goes key line name refl (Some made) before after random random' (subst (λ (r : Result SessionState CreateFault). OnDisk before after (KeepsUnder CoversNone (CoversMade r) (λ n. n ≡ name))) said (keeps good.is_target))
+            (record { of_script = of_created key name nonce good; key_is = refl; clean = λ whole calm. refl }) (λ n has. has)
+            replies.Created these words false false seen refl refl
+            (empty_turns key line name refl (seen_by these words false false) replies.Created (Some made) these (act nonce these drawn true ∷ []) (Own (new_seat key name sheet)) turn
+                (λ sealed. whole_file sheet made refl (Contains-push sealed sheet) is_fresh.linked (record { backed = is_fresh.stands.backed; rests = λ calm. record { stands = is_fresh.stands; clean = refl } }) (ap Own same) refl));
+        booked = record {
+          seen = seen_by these words false false;
+          was_seen = seen_in these words false false before after random random' seen;
+          under = under nonce these drawn true (seen_by these words false false) replies.Created (Some made) (Own (new_seat key name sheet)) aside reads creates good.is_target
+              (λ book seats. of_book sheet made refl (seat_is_left (Creation (seat_of key name sheet)) seats) (record { backed = is_fresh.stands.backed; rests = λ calm. record { stands = is_fresh.stands; clean = refl } }) (ap Own same) refl) turn;
+        };
+      })
+
+pub create_line : (key : List ℕ) (k : ℕ) (name : Name) (result : Result SessionState CreateFault) (before after : HostState) (random random' : WordsState) → IsUtf8 name → CreateGoes key name name before after random random' result → Aside name before after → ReadsAsImage after
+    → BothHalves key (lines.Create k name) (create_result name result) (made_seat result) before after random random'
+create_line key k name result before after random random' utf8 goes aside reads =
+    by_case key k name utf8 before after random random' result aside reads (λ target. create_keeps key name target before after random random' result goes aside reads) goes

@@ -1,0 +1,111 @@
+-- A line on one seat of a desk under a book, as one on the desk.
+use Rattle.std.proofs.Common.{◌≡◌, ◌≢◌, inl, inr, ⊎_elim, Bool, List, ℕ, ◌<◌, refl, sym, ◌∙◌, subst, Option, Some, None, Result, Ok, Err, length}
+use Rattle.std.specs.Prelude.{◌↔◌, IfSome}
+use Rattle.std.proofs.lemmas.List.{get_or-set_same, get_or-set_other, length-set}
+use Rattle.std.proofs.lemmas.Option.{IfSome_then}
+use Rattle.pf_io.specs.Disk.{Name, reading}
+use Rattle.pf_io.specs.Host.{HostState}
+use Rattle.pf_io.specs.Moments.{Honest}
+use Rattle.pf_io.specs.Words.{WordsState}
+use Rattle.pf_io.specs.declared.faults.Memory.{Memory}
+use Rattle.pf_io.proofs.Telling.{both_weaker}
+use Rattle.pf_session.specs.State.{SessionState}
+use Rattle.pf_script.specs.Book.{Book, Seal}
+use Rattle.pf_script.specs.BookActs.{Act, Among, booked_all}
+use Rattle.pf_script.specs.BookDebts.{seat_of}
+use Rattle.pf_script.specs.BookSeats.{SparesSeats}
+use Rattle.pf_script.specs.BookTurns.{stands_on, ShowsUnder, no_file, of_book, other_file, Knows, LineUnder, SeatUnder, SeatAgrees, SeatBooked, IsStateUnder, TurnUnder, DeskUnder, DeskAgrees, DeskBooked}
+use Rattle.pf_script.specs.Desk.{DeskState, session_at, IsDesk}
+use Rattle.pf_script.specs.DeskSteps.{OtherHas, HasItsName}
+use Rattle.pf_script.specs.Script.{Seat, Empty, ScriptState, seat_at, HasThisName, IsTaken, state_with, seat_of_line, name_of_line}
+use Rattle.pf_script.specs.Turns.{Seen, SeatTurn, on_seat, SaysTaken}
+use Rattle.pf_script.specs.Words.{SEATS}
+use Rattle.pf_script.specs.declared.line.ScriptLine.{ScriptLine}
+use Rattle.pf_script.specs.declared.reply.Reply.{Reply}
+use Rattle.pf_script.proofs.Desking.{SaysOther, same_or_not, others_apart}
+use Rattle.pf_script.proofs.Desking as desking
+use Rattle.pf_script.proofs.Seats.{booked_all_none}
+use Rattle.pf_script.proofs.Under.{LooksLike, looks_like}
+
+-- a seat on whose name nothing was done
+other_shows : (acts : List Act) (left : List Seal) (book : Book) (seats : List Seal) (seat : Seat) (session : Option SessionState) → ((own : SessionState) → session ≡ Some own → ¬ (Among acts own.name)) → SparesSeats acts seats left
+    → ShowsUnder book seats seat session → ShowsUnder (booked_all acts book) left seat session
+other_shows acts left book seats seat session apart spares (no_file is none) = no_file is none
+other_shows acts left book seats seat session apart spares (of_book sheet own whole seated kept is some) = of_book sheet own whole (spares (seat_of own.key own.name sheet) seated (apart own some)) kept is some
+other_shows acts left book seats seat session apart spares (other_file shown own (inl broken) key_is name_is broken_is is some) = other_file shown own (inl broken) key_is name_is broken_is is some
+other_shows acts left book seats seat session apart spares (other_file shown own (inr none) key_is name_is broken_is is some) =
+    other_file shown own (inr (booked_all_none acts book own.name (apart own some) none)) key_is name_is broken_is is some
+
+-- the name of a session, and that of a seat that shows it
+looks_named : (seat : Seat) (session : Option SessionState) (name : Name) → LooksLike session seat → HasItsName session name ↔ HasThisName name seat
+looks_named seat None name is = (λ none. absurd none, λ has. absurd (subst (HasThisName name) is has))
+looks_named seat (Some s) name looks = (
+  λ has. subst (HasThisName name) (sym looks.seat_is) (looks.name_is ∙ sym has),
+  λ has. sym (sym looks.name_is ∙ subst (HasThisName name) looks.seat_is has),
+)
+
+module _ (old : DeskState) (desk : IsDesk old) (k : ℕ) (below : k < SEATS) (taken : Bool) (line : ScriptLine) (names : seat_of_line line ≡ Some k) (says : SaysOther old k (name_of_line line) taken) (left : Option SessionState) where
+  abbrev new : DeskState
+  new = desking.new old desk k below taken line names says left
+
+  module _ (book : Book) (seats : List Seal) (state : ScriptState) (is_state : IsStateUnder book seats state old) where
+    looks : (j : ℕ) → LooksLike (session_at old j) (seat_at state j)
+    looks j = looks_like book seats (seat_at state j) (session_at old j) (is_state.shows j)
+
+    state_says : SaysTaken state k (name_of_line line) taken
+    state_says =
+        IfSome_then (name_of_line line) says
+        (λ name tells.
+        let to : OtherHas old k name → IsTaken state k name = λ other. (other.0, other.1, (looks_named (seat_at state other.0) (session_at old other.0) name (looks other.0)).0 other.2) in
+        let back : IsTaken state k name → OtherHas old k name = λ other. (other.0, other.1, (looks_named (seat_at state other.0) (session_at old other.0) name (looks other.0)).1 other.2) in
+        (λ is. to (tells.0 is), λ is. tells.1 (back is)))
+
+    module _ (seen : Seen) (reply : Reply) (a b : Honest) (under : LineUnder old.key taken line seen reply (session_at old k) left book seats (seat_at state k) a b) where
+      abbrev then_state : ScriptState
+      then_state = state_with state k under.after under.acts
+
+      room : k < length state.seats
+      room = subst (λ n. k < n) (sym is_state.eight) below
+
+      on_it : (j : ℕ) → j ≡ k → ShowsUnder (booked_all under.acts book) under.left (seat_at then_state j) (session_at new j)
+      on_it j same =
+          subst (λ i. ShowsUnder (booked_all under.acts book) under.left (seat_at then_state i) (session_at new i)) (sym same)
+          (subst (λ (x : Seat). ShowsUnder (booked_all under.acts book) under.left x (session_at new k)) (sym (get_or-set_same state.seats k under.after Empty room))
+          (subst (λ (o : Option SessionState). ShowsUnder (booked_all under.acts book) under.left under.after o) (sym (desking.here old desk k below taken line names says left)) under.shows))
+
+      off_it : (j : ℕ) → j ≢ k → ShowsUnder (booked_all under.acts book) under.left (seat_at then_state j) (session_at new j)
+      off_it j apart =
+          subst (λ (x : Seat). ShowsUnder (booked_all under.acts book) under.left x (session_at new j)) (sym (get_or-set_other state.seats k j under.after Empty apart))
+          (subst (λ (o : Option SessionState). ShowsUnder (booked_all under.acts book) under.left (seat_at state j) o) (sym (desking.there old desk k below taken line names says left j apart))
+          (other_shows under.acts under.left book seats (seat_at state j) (session_at old j)
+              (λ own is among. others_apart old desk k below taken line names says left j own apart is (under.concerned own.name among)) under.spares (is_state.shows j)))
+
+      turn_of : Knows book state.key (seat_at state k) line reply → SeatTurn (stands_on state.key (reading a.now)) state.key taken (seat_at state k) line seen reply under.acts under.after
+      turn_of knows =
+          subst (λ (x : List ℕ). Knows book x (seat_at state k) line reply → SeatTurn (stands_on x (reading a.now)) x taken (seat_at state k) line seen reply under.acts under.after) (sym is_state.key_is) under.turn knows
+
+      turn_under : TurnUnder line seen reply new book seats state a b
+      turn_under = record {
+        acts = under.acts;
+        left = under.left;
+        after = then_state;
+        did = under.did;
+        is_state = record {
+          key_is = is_state.key_is;
+          eight = length-set state.seats k under.after ∙ is_state.eight;
+          shows = λ j. ⊎_elim (λ same. on_it j same) (λ apart. off_it j apart) (same_or_not j k);
+        };
+        turn = λ knows. on_seat k taken under.after names state_says (turn_of (subst (λ (o : Option ℕ). IfSome o (λ i. Knows book state.key (seat_at state i) line reply)) names knows)) refl;
+      }
+
+  desk_agrees : (reply : Reply) (before after : HostState) (random random' : WordsState) → SeatAgrees old.key taken line reply (session_at old k) left before after random random' → DeskAgrees line reply old new before after random random'
+  desk_agrees reply before after random random' agrees = record {
+    seen = agrees.seen;
+    was_seen = agrees.was_seen;
+    under = both_weaker (SeatUnder old.key taken line agrees.seen reply (session_at old k) left) (DeskUnder line agrees.seen reply old new) before.honest after.honest agrees.under
+        (λ a b under book seats state agree reads is_state. turn_under book seats state is_state agrees.seen reply a b (under book seats (seat_at state k) agree reads (is_state.shows k)));
+  }
+
+  pub desk_booked : (result : Result Reply Memory) (before after : HostState) (random random' : WordsState) → SeatBooked old.key taken line result (session_at old k) left before after random random' → DeskBooked line result old new before after random random'
+  desk_booked (Ok reply) before after random random' booked = desk_agrees reply before after random random' booked
+  desk_booked (Err fault) before after random random' booked = tt

@@ -1,0 +1,115 @@
+-- The line `flush` under a book, from the contract of a flush.
+use Rattle.std.proofs.Common.{◌≡◌, inl, Bool, true, false, List, [], ◌∷◌, ℕ, refl, sym, ◌∙◌, ap, subst, Some, Result}
+use Rattle.node_tree.specs.Sheet.{Sheet}
+use Rattle.pf_io.specs.Disk.{reading}
+use Rattle.pf_io.specs.Host.{Answer, HostState, OnDisk, ReadsAsImage}
+use Rattle.pf_io.specs.Moments.{Honest, Ran, Where}
+use Rattle.pf_io.specs.Words.{WordsState}
+use Rattle.pf_session.specs.Aside.{Aside, LeavesApart, KeepsApart}
+use Rattle.pf_session.specs.Flushing.{FlushGoes}
+use Rattle.pf_session.specs.Reopening.{AsEither, Stood}
+use Rattle.pf_session.specs.Sealing.{StoodIf}
+use Rattle.pf_session.specs.State.{SessionState}
+use Rattle.pf_session.specs.declared.fault.FlushFault.{FlushFault}
+use Rattle.pf_script.specs.BookActs.{Flush}
+use Rattle.pf_script.specs.BookDebts.{seat_of}
+use Rattle.pf_script.specs.BookSeats.{Covers, KeepsUnder}
+use Rattle.pf_script.specs.BookTurns.{stands_on, ShowsUnder, of_book, other_file, SeatUnder, SeatAgrees, SeenIn}
+use Rattle.pf_script.specs.Desk.{IsSeated, seat_on}
+use Rattle.pf_script.specs.Script.{OwnSeat, Own}
+use Rattle.pf_script.specs.SeatReplies.{flush_reply}
+use Rattle.pf_script.specs.SeatSteps.{Seals as SealsOwn, resealed, broken_seat}
+use Rattle.pf_script.specs.Turns.{Seen, Standing, SeatTurn, Blame, ByHost, ByDamage, accepted, host_failed, was_damaged, words_failed, not_sealed, of_flush, no_flush, flushed as flushed_line, BlamesFlush}
+use Rattle.pf_script.specs.declared.line.ScriptLine.TheVariants as lines
+use Rattle.pf_script.specs.declared.reply.Reply.{Reply}
+use Rattle.pf_script.specs.declared.reply.Reply.TheVariants as replies
+use Rattle.pf_script.proofs.ActKeeping.{one_spares}
+use Rattle.pf_script.proofs.CallKeeping.{at_both, read_image, same_disk, flush_keeps}
+use Rattle.pf_script.proofs.FlushLine.{flush_result, flush_act, resealed_own}
+use Rattle.pf_script.proofs.Flushed.{SeenOf, FlushEnds, not_begun, not_ended, was_ended, flush_ends, host_blamed, fault_of}
+use Rattle.pf_script.proofs.Refusing.{none_then}
+use Rattle.pf_script.proofs.SeatCalls.{seen_by}
+use Rattle.pf_script.proofs.Seats.{seats_after}
+use Rattle.pf_script.proofs.Under.{KnownUnder, on_disk, none_concerned, one_concerned, flush_did, left_seat}
+
+-- what was seen, whether the host tells it or not
+pub seen_in : (these : List Answer) (words : List (List ℕ)) (of_host of_words : Bool) (before after : HostState) (random random' : WordsState) → SeenOf these words of_host of_words before after random random' → SeenIn (seen_by these words of_host of_words) before after random random'
+seen_in these words of_host of_words before after random random' seen = record { answers = seen.told; words = seen.taken; of_host = seen.on_host; of_words = seen.on_words }
+
+-- a turn of a flush that failed after its words
+failed_turn : (standing : Standing) (key : List ℕ) (k : ℕ) (own : OwnSeat) (next : Sheet) (these : List Answer) (words : List (List ℕ)) (blame : Blame) → SealsOwn own words next → BlamesFlush own.name these blame
+    → SeatTurn standing key false (Own own) (lines.Flush k) (seen_by these words (host_blamed blame) false) (flush_reply (fault_of blame)) (record { deed = Flush (seat_of own.key own.name next); done = false } ∷ []) (Own (broken_seat own))
+failed_turn standing key k own next these words ByHost seals blames = host_failed (record { host = refl; random = refl }) (not_sealed own (lines.Flush k) next ByHost (Own (broken_seat own)) seals blames (of_flush k)) refl
+failed_turn standing key k own next these words (ByDamage damage) seals blames = was_damaged damage (record { host = refl; random = refl }) (not_sealed own (lines.Flush k) next (ByDamage damage) (Own (broken_seat own)) seals blames (of_flush k)) refl
+
+module _ (key : List ℕ) (k : ℕ) (old : SessionState) (seated : IsSeated key old) (whole : old.broken ≡ false) (new : SessionState) (before after : HostState) (random random' : WordsState)
+    (keeps : OnDisk before after (KeepsUnder (Covers old) (Covers new) (λ name. name ≡ old.name))) (aside : Aside old.name before after) (reads : ReadsAsImage after) where
+  abbrev line_under : (seen : Seen) (reply : Reply) → ((a b : Honest) → before.honest ≡ Some a → after.honest ≡ Some b → Ran (LeavesApart old.name) (KeepsApart old.name) a b → KnownUnder key false (lines.Flush k) seen reply old whole (Some new) a b)
+      → OnDisk before after (SeatUnder key false (lines.Flush k) seen reply (Some old) (Some new))
+  line_under seen reply known = on_disk key false (lines.Flush k) seen reply old whole (Some new) before after keeps aside known
+
+  by_end : (result : Result (Unit {0}) FlushFault) → FlushEnds result old new before after random random' → SeatAgrees key false (lines.Flush k) (flush_result result) (Some old) (Some new) before after random random'
+  by_end result (not_begun words seen same stays said) =
+      subst (λ (r : Result (Unit {0}) FlushFault). SeatAgrees key false (lines.Flush k) (flush_result r) (Some old) (Some new) before after random random') (sym said)
+      (record {
+        seen = seen_by [] words false true;
+        was_seen = seen_in [] words false true before after random random' seen;
+        under = line_under (seen_by [] words false true) replies.WordsFault
+            (λ a b is is2 ran book seats agrees base on. record {
+              acts = [];
+              left = seats;
+              after = Own (seat_on base old);
+              did = (same_disk before after a b is is2 stays, λ s has. has);
+              shows = subst (λ (s : SessionState). ShowsUnder book seats (Own (seat_on base old)) (Some s)) (sym same) (of_book base old whole on.seated on.kept refl refl);
+              spares = λ s has apart. has;
+              concerned = none_concerned false (lines.Flush k) (Some old);
+              turn = λ _. words_failed (record { host = refl; random = refl }) (no_flush k (seat_on base old)) refl;
+            });
+      })
+  by_end result (not_ended blame these words seen blames seals key_is name_is broken said) =
+      subst (λ (r : Result (Unit {0}) FlushFault). SeatAgrees key false (lines.Flush k) (flush_result r) (Some old) (Some new) before after random random') (sym said)
+      (record {
+        seen = seen_by these words (host_blamed blame) false;
+        was_seen = seen_in these words (host_blamed blame) false before after random random' seen;
+        under = line_under (seen_by these words (host_blamed blame) false) (flush_reply (fault_of blame))
+            (λ a b is is2 ran book seats agrees base on.
+            let next = seals base on.stood.as_sheet.stands.linked on.kept.backed in record {
+              acts = flush_act old next.0 false ∷ [];
+              left = seats_after (Flush (seat_of old.key old.name next.0)) false seats;
+              after = Own (broken_seat (seat_on base old));
+              did = flush_did book seats false old.key old.name base next.0 a b on.entry seated.of_script.is_target ran (read_image after.honest b is2 reads) on.was on.seated
+                  (record { path_is = next.1.next.path_is; sealed = at_both (Where (Stood old.key old.name base) (Ran (AsEither old.key old.name base next.0) (StoodIf false old.key old.name next.0))) before.honest after.honest a b is is2 next.2 });
+              shows = other_file (broken_seat (seat_on base old)) new (inl broken) (sym key_is) (sym name_is) (sym broken) refl refl;
+              spares = one_spares seats (Flush (seat_of old.key old.name next.0)) false;
+              concerned = one_concerned false (lines.Flush k) old false next.0;
+              turn = λ _. failed_turn (stands_on key (reading a.now)) key k (seat_on base old) next.0 these words blame next.1 blames;
+            });
+      })
+  by_end result (was_ended these words seen seals same dirty said) =
+      subst (λ (r : Result (Unit {0}) FlushFault). SeatAgrees key false (lines.Flush k) (flush_result r) (Some old) (Some new) before after random random') (sym said)
+      (record {
+        seen = seen_by these words false false;
+        was_seen = seen_in these words false false before after random random' seen;
+        under = line_under (seen_by these words false false) replies.Flushed
+            (λ a b is is2 ran book seats agrees base on.
+            let next = seals base on.stood.as_sheet.stands.linked on.kept.backed in
+            let own = seat_on base old in record {
+              acts = flush_act old next.0 true ∷ [];
+              left = seats_after (Flush (seat_of old.key old.name next.0)) true seats;
+              after = Own (resealed own next.0);
+              did = flush_did book seats true old.key old.name base next.0 a b on.entry seated.of_script.is_target ran (read_image after.honest b is2 reads) on.was on.seated
+                  (record { path_is = next.1.next.path_is; sealed = at_both (Where (Stood old.key old.name base) (Ran (AsEither old.key old.name base next.0) (StoodIf true old.key old.name next.0))) before.honest after.honest a b is is2 next.2.1 });
+              shows = of_book next.0 new (ap (λ (s : SessionState). s.broken) same ∙ whole)
+                  (left_seat (Flush (seat_of old.key old.name next.0)) seats new (ap (λ (s : SessionState). s.key) same) (ap (λ (s : SessionState). s.name) same))
+                  (record { backed = next.2.0.backed; rests = λ _. record { stands = next.2.0; clean = dirty } }) (ap Own (resealed_own base old new words next.0 next.1 next.2.0 same dirty)) refl;
+              spares = one_spares seats (Flush (seat_of old.key old.name next.0)) true;
+              concerned = one_concerned false (lines.Flush k) old true next.0;
+              turn = λ _. accepted (none_then [] (Own own) own refl whole tt) (record { host = refl; random = refl }) (flushed_line k own next.0 next.1);
+            });
+      })
+
+pub flush_under : (key : List ℕ) (k : ℕ) (old new : SessionState) (result : Result (Unit {0}) FlushFault) (before after : HostState) (random random' : WordsState) → IsSeated key old → old.broken ≡ false
+    → FlushGoes result old new before after random random' → Aside old.name before after → ReadsAsImage after → SeatAgrees key false (lines.Flush k) (flush_result result) (Some old) (Some new) before after random random'
+flush_under key k old new result before after random random' seated whole goes aside reads =
+    by_end key k old seated whole new before after random random' (flush_keeps old seated.of_script result new before after random random' whole goes aside reads) aside reads result
+    (flush_ends old seated.of_script new before after random random' result goes)

@@ -1,0 +1,174 @@
+-- The line `move` under a book, from the contract of a move.
+use Rattle.std.proofs.Common.{◌≡◌, ◌≢◌, ◌⊎◌, inl, inr, Bool, true, false, List, [], ◌∷◌, ◌++◌, ℕ, refl, sym, ◌∙◌, ap, subst, Option, Some, None, Result, Ok, Err}
+use Rattle.std.proofs.lemmas.List.{append-nil}
+use Rattle.std.proofs.lemmas.List.Elements.{Contains-push}
+use Rattle.std.specs.Prelude.{Contains, IfSome, option_map}
+use Rattle.node_tree.specs.Backing.{now}
+use Rattle.node_tree.specs.Sheet.{Sheet, Stands}
+use Rattle.node_tree.specs.State.{TreeState}
+use Rattle.pf_io.specs.Counts.{counted}
+use Rattle.pf_io.specs.Disk.{Name, Disk, File, IsImage, reading, read_of}
+use Rattle.pf_io.specs.Host.{Answer, LengthWas, HostState, Both, IsMore, OnDisk, ReadsAsImage, contents}
+use Rattle.pf_io.specs.Moments.{Honest, Ran, Where}
+use Rattle.pf_io.specs.Names.{IsTarget, recovery_of}
+use Rattle.pf_io.specs.Words.{WordsState}
+use Rattle.pf_io.specs.declared.faults.Memory.{Memory}
+use Rattle.pf_io.proofs.Telling.{told_none, told_on, both_same, both_then, both_weaker}
+use Rattle.pf_session.specs.Aside.{Aside, LeavesApart, KeepsApart, LeavesApartBoth, KeepsApartBoth, AsideBoth}
+use Rattle.pf_session.specs.Asking.{IsTaken as AreTaken}
+use Rattle.pf_session.specs.Backing.{StandsOn, RestsOn}
+use Rattle.pf_session.specs.Drawing.{IsDrawn}
+use Rattle.pf_session.specs.Moving.{MoveGoes, FlushesFirst, as_it_is, flushed, Moves, Carries, IsKeptOn, renamed, MovedAs, MovedIf, IsFree, UndamagedMove, IsUndamagedMove}
+use Rattle.pf_session.specs.Reopening.{AsEither, Stood}
+use Rattle.pf_session.specs.Sealing.{StoodIf, Replaces}
+use Rattle.pf_session.specs.State.{SessionState, file_of}
+use Rattle.pf_script.specs.Book.{Book, Entry, Seal, Agrees}
+use Rattle.pf_script.specs.BookActs.{Flush, Move, Act, Among, booked_all, flushed as flushed_book, sealed_entry}
+use Rattle.pf_script.specs.BookDebts.{Unchanged, DidAll, Owes, seat_of}
+use Rattle.pf_script.specs.BookSeats.{SparesSeats}
+use Rattle.pf_script.specs.Desk.{IsSeated, seat_on}
+use Rattle.pf_script.specs.Script.{OwnSeat, Own}
+use Rattle.pf_script.specs.SeatSteps.{SealsMoved, IsNextSheet}
+use Rattle.pf_script.specs.Turns.{FlushedToMove, as_it_was, was_changed, flushes}
+use Rattle.pf_script.proofs.ActKeeping.{one_act, one_spares, unchanged_now}
+use Rattle.pf_script.proofs.CallKeeping.{at_both, on_to, read_image}
+use Rattle.pf_script.proofs.Composing.{all_agrees, did_on, booked_on}
+use Rattle.pf_script.proofs.During.{leaves_more}
+use Rattle.pf_script.proofs.Flushed.{SealsWith, FlushEnds, not_begun, not_ended, was_ended, seal_ends, next_of}
+use Rattle.pf_script.proofs.FlushLine.{flush_act, resealed_own}
+use Rattle.pf_script.proofs.NameMaps.{set_at-same}
+use Rattle.pf_script.proofs.Refusing.{none_taken}
+use Rattle.pf_script.proofs.SeatCalls.{own_same}
+use Rattle.pf_script.proofs.Seats.{seats_after, seat_is_left}
+use Rattle.pf_script.proofs.Under.{flush_did}
+
+module _ (key : List ℕ) (old : SessionState) (seated : IsSeated key old) (whole : old.broken ≡ false) where
+  -- what comes before the move itself
+  pub data FirstLeft (mid : SessionState) (start between : HostState) (words : List (List ℕ)) : Type 0 where
+    no_flush : old.changed ≡ false → mid ≡ old → between ≡ start → words ≡ [] → FirstLeft mid start between words
+    one_flush : old.changed ≡ true → SealsWith old words (λ base next. StandsOn next mid × Replaces true old.key old.name base next start between) → {nonce : List ℕ} {tree : TreeState}
+        → mid ≡ record old { nonce = nonce; drawn = None; tree = tree; changed = false } → mid.tree.dirty ≡ [] → Aside old.name start between → ReadsAsImage between → FirstLeft mid start between words
+
+  pub record FirstIn (mid : SessionState) (nonce : List ℕ) (start between : HostState) (random random' : WordsState) : Type 0 where
+    pub these : List Answer
+    pub words : List (List ℕ)
+    pub words_mid : WordsState
+    pub drawn : IsDrawn nonce words_mid random'
+    pub told : Both start.given between.given (IsMore these)
+    pub taken : Both random.left words_mid.left (AreTaken words)
+    pub on_host : between.faults ≡ start.faults
+    pub on_words : words_mid.faults ≡ random.faults
+    pub left : FirstLeft mid start between words
+
+  pub first_in : (mid : SessionState) (nonce : List ℕ) (start between : HostState) (random random' : WordsState) → FlushesFirst old mid nonce start between random random' → FirstIn mid nonce start between random random'
+  first_in mid nonce start between random random' (as_it_is calm same stays drawn) = record {
+    these = [];
+    words = [];
+    words_mid = random;
+    drawn = drawn;
+    told = told_none start between (ap (λ (h : HostState). h.given) stays);
+    taken = none_taken random;
+    on_host = ap (λ (h : HostState). h.faults) stays;
+    on_words = refl;
+    left = no_flush calm same stays refl;
+  }
+  first_in mid nonce start between random random' (flushed sealed keys words_mid changed came drawn goes aside reads) = by_end (seal_ends old seated.of_script mid start between random words_mid (Ok tt) sealed keys came goes)
+    where
+      by_end : FlushEnds (Ok tt) old mid start between random words_mid → FirstIn mid nonce start between random random'
+      by_end (not_begun words seen same stays said) = absurd (cc)
+      by_end (not_ended blame these words seen blames seals key_is name_is broken said) = absurd (cc)
+      by_end (was_ended these words seen seals same dirty said) = record {
+        these = these;
+        words = words;
+        words_mid = words_mid;
+        drawn = drawn;
+        told = seen.told;
+        taken = seen.taken;
+        on_host = seen.on_host;
+        on_words = seen.on_words;
+        left = one_flush changed seals same dirty aside reads;
+      }
+
+  -- on a base that the file stands for
+  module _ (book : Book) (seats : List Seal) (m : Honest) (agrees : Agrees book seats m.now) (image : IsImage m.now (reading m.now)) (base : Sheet) (entry : Entry) (was : book old.name ≡ Some entry) (there : Contains seats (seat_of old.key old.name base))
+      (kept : IsKeptOn base old) (stood : Stood old.key old.name base m.now) where
+    abbrev own : OwnSeat
+    own = seat_on base old
+
+    pub record FirstKnown (mid : SessionState) (words : List (List ℕ)) (t : Honest) : Type 0 where
+      pub sheets : List Sheet
+      pub base_now : Sheet
+      pub first : FlushedToMove own words sheets (seat_on base_now mid)
+      pub left : List Seal
+      pub did : DidAll book seats (flushes own sheets) left m t
+      pub spares : SparesSeats (flushes own sheets) seats left
+      pub only : (n : Name) → Among (flushes own sheets) n → n ≡ old.name
+      pub entry_now : Entry
+      pub in_book : booked_all (flushes own sheets) book old.name ≡ Some entry_now
+      pub there_now : Contains left (seat_of old.key old.name base_now)
+      pub stood_now : Stood old.key old.name base_now t.now
+      pub rests : RestsOn base_now mid
+      pub key_is : mid.key ≡ old.key
+      pub name_is : mid.name ≡ old.name
+      pub whole_mid : mid.broken ≡ false
+      pub calm : mid.changed ≡ false
+      pub image_now : IsImage t.now (reading t.now)
+
+    one_name : (next : Sheet) (n : Name) → Among (flush_act old next true ∷ []) n → n ≡ old.name
+    one_name next n (inl is) = is
+    one_name next n (inr none) = absurd none
+
+    pub first_known : (mid : SessionState) (words : List (List ℕ)) (start between : HostState) → start.honest ≡ Some m → FirstLeft mid start between words → (t : Honest) × (between.honest ≡ Some t) × FirstKnown mid words t
+    first_known mid words start between is_m (no_flush calm same stays none) =
+        (
+          m,
+          ap (λ (h : HostState). h.honest) stays ∙ is_m,
+          record {
+            sheets = [];
+            base_now = base;
+            first = subst (λ (w : List (List ℕ)). FlushedToMove own w [] (seat_on base mid)) (sym none) (subst (λ (s : SessionState). FlushedToMove own [] [] (seat_on base s)) (sym same) (as_it_was calm));
+            left = seats;
+            did = (unchanged_now m, λ s has. has);
+            spares = λ s has apart. has;
+            only = λ n none. absurd none;
+            entry_now = entry;
+            in_book = was;
+            there_now = there;
+            stood_now = stood;
+            rests = subst (λ (s : SessionState). RestsOn base s) (sym same) (kept.rests calm);
+            key_is = ap (λ (s : SessionState). s.key) same;
+            name_is = ap (λ (s : SessionState). s.name) same;
+            whole_mid = ap (λ (s : SessionState). s.broken) same ∙ whole;
+            calm = ap (λ (s : SessionState). s.changed) same ∙ calm;
+            image_now = image;
+          },
+        )
+    first_known mid words start between is_m (one_flush changed seals same dirty aside reads) =
+        let t = on_to (Ran (LeavesApart old.name) (KeepsApart old.name)) start.honest between.honest m is_m aside in
+        let next = seals base stood.as_sheet.stands.linked kept.backed in
+        let ran = at_both (Where (Stood old.key old.name base) (Ran (AsEither old.key old.name base next.0) (StoodIf true old.key old.name next.0))) start.honest between.honest m t.0 is_m t.1 next.2.1 stood in
+        let entry_is = (agrees.stand (seat_of old.key old.name base) entry there was).entry_is in
+        let now_entry = sealed_entry old.key next.0.content (Some base.content) true in
+        (
+          t.0,
+          t.1,
+          record {
+            sheets = next.0 ∷ [];
+            base_now = next.0;
+            first = subst (λ (x : OwnSeat). FlushedToMove own words (next.0 ∷ []) x) (resealed_own base old mid words next.0 next.1 next.2.0 same dirty) (was_changed words next.0 changed next.1);
+            left = seats_after (Flush (seat_of old.key old.name next.0)) true seats;
+            did = flush_did book seats true old.key old.name base next.0 m t.0 entry seated.of_script.is_target t.2 (read_image between.honest t.0 t.1 reads) was there (record { path_is = next.1.next.path_is; sealed = λ stood. ran });
+            spares = one_spares seats (Flush (seat_of old.key old.name next.0)) true;
+            only = one_name next.0;
+            entry_now = now_entry;
+            in_book = ap (λ (o : Option Entry). flushed_book (seat_of old.key old.name next.0) true o book old.name) (was ∙ ap (λ (e : Entry). Some e) entry_is) ∙ set_at-same old.name (Some now_entry) book;
+            there_now = seat_is_left (Flush (seat_of old.key old.name next.0)) seats;
+            stood_now = ran.ends;
+            rests = record { stands = next.2.0; clean = dirty };
+            key_is = ap (λ (s : SessionState). s.key) same;
+            name_is = ap (λ (s : SessionState). s.name) same;
+            whole_mid = ap (λ (s : SessionState). s.broken) same ∙ whole;
+            calm = ap (λ (s : SessionState). s.changed) same;
+            image_now = read_image between.honest t.0 t.1 reads;
+          },
+        )

@@ -1,0 +1,177 @@
+-- A line that puts a file on an empty seat.
+use Rattle.std.proofs.Common.{◌≡◌, ◌≢◌, ⊎_elim, inl, inr, Bool, true, false, List, [], ◌∷◌, ◌++◌, ℕ, refl, sym, ◌∙◌, ap, subst, Option, Some, None, Result, Ok, Err, arith}
+use Rattle.std.specs.Prelude.{Contains}
+use Rattle.std.specs.Option.{is_some}
+use Rattle.std.proofs.lemmas.List.Elements.{Contains-push_cases, Contains-append_cases}
+use Rattle.node_tree.specs.Sheet.{Sheet}
+use Rattle.pf_io.specs.Disk.{Name, IsImage, reading}
+use Rattle.pf_io.specs.Host.{Answer, HostState, OnDisk, WhereTold}
+use Rattle.pf_io.specs.Moments.{Honest}
+use Rattle.pf_io.specs.Unchanged.{KeepsDisk}
+use Rattle.pf_io.specs.Words.{WordsState}
+use Rattle.pf_io.specs.declared.faults.Memory.{Memory}
+use Rattle.pf_io.proofs.Telling.{told_by, told_none, both_same, both_weaker}
+use Rattle.pf_session.specs.State.{SessionState}
+use Rattle.pf_script.specs.Book.{Book, Seal, Agrees}
+use Rattle.pf_script.specs.BookActs.{Act}
+use Rattle.pf_script.specs.BookDebts.{Unchanged}
+use Rattle.pf_script.specs.BookSeats.{CoversNone, KeepsUnder}
+use Rattle.pf_script.specs.BookTurns.{stands_on, no_file, LineUnder, SeatUnder, SeatBooked}
+use Rattle.pf_script.specs.Desk.{IsSeatOf, Shows, no_file as no_file_now}
+use Rattle.pf_script.specs.DeskSteps.{Unfolds, SeatTurns, SeatAsks, CountsFault, CoversSome, Concerns, HasItsName, SeatGoes, TakesNone, is_host_fault, is_words_fault}
+use Rattle.pf_script.specs.Rules.{Rule, IsFirst, NoneRefuses, seating_rules}
+use Rattle.pf_script.specs.Script.{Seat, Empty, name_of_line, sheets_of}
+use Rattle.pf_script.specs.Turns.{Seen, Standing, SeatTurn, on_carried}
+use Rattle.pf_script.specs.declared.line.ScriptLine.{ScriptLine}
+use Rattle.pf_script.specs.declared.reply.Reply.{Reply}
+use Rattle.pf_script.specs.declared.reply.Why.{Why}
+use Rattle.pf_script.specs.declared.reply.Why.TheVariants as whys
+use Rattle.pf_script.proofs.ActKeeping.{only_reads, unchanged_now}
+use Rattle.pf_script.proofs.FlushUnder.{seen_in}
+use Rattle.pf_script.proofs.Flushed.{SeenOf}
+use Rattle.pf_script.proofs.Refusing.{at_last, not_empty}
+use Rattle.pf_script.proofs.SeatCalls.{seen_by}
+use Rattle.pf_script.proofs.Showing.{shows_none, shows_some}
+use Rattle.pf_script.proofs.StepKeeping.{keeps_more}
+use Rattle.pf_script.proofs.Under.{LooksLike, looks_like}
+
+-- the rules of a new file on a free seat, where no other seat has the name
+pub seat_first : (rest : List Rule) (why : Why) → IsFirst rest why → IsFirst (seating_rules false Empty ++ rest) why
+seat_first rest why first = inr ((λ other refuses. refuses.1 refl), inr ((λ other refuses. let e : false ≡ true = refuses.1 in absurd (cc)), first))
+
+pub seat_none : (rest : List Rule) → NoneRefuses rest → NoneRefuses (seating_rules false Empty ++ rest)
+seat_none rest none = ((λ other refuses. refuses.1 refl), ((λ other refuses. let e : false ≡ true = refuses.1 in absurd (cc)), none))
+
+-- an answer that is another one than the first
+pub not_of : (answer other : Answer) (rest : List Answer) → answer ≢ other → ¬ (Contains rest other) → ¬ (Contains (answer ∷ rest) other)
+not_of answer other rest apart not_in is =
+    ⊎_elim (λ here. apart (⊎_elim (λ none. absurd (omega (arith, none.1))) (λ same. same) (Contains-push_cases [] answer other here))) (λ there. not_in there) (Contains-append_cases (answer ∷ []) rest other is)
+
+-- the seat after a call that was to open or to make a session
+abbrev pub made_seat : {E : Type 0} → Result SessionState E → Option SessionState
+made_seat (Ok session) = Some session
+made_seat (Err fault) = None
+
+-- a line on an empty seat, as any host sees it and under a book
+pub record BothHalves (key : List ℕ) (line : ScriptLine) (result : Result Reply Memory) (new : Option SessionState) (before after : HostState) (random random' : WordsState) : Type 0 where
+  pub goes : SeatGoes key false line result None new before after random random'
+  pub booked : SeatBooked key false line result None new before after random random'
+
+-- a seat that is not free, and a name that another seat has
+pub busy_first : (rest : List Rule) (taken : Bool) (seat : Seat) → seat ≢ Empty → IsFirst (seating_rules taken seat ++ rest) whys.SeatBusy
+busy_first rest taken seat busy = inl (refl, busy)
+
+pub taken_first : (rest : List Rule) (taken : Bool) (seat : Seat) → seat ≡ Empty → taken ≡ true → IsFirst (seating_rules taken seat ++ rest) whys.NameBusy
+taken_first rest taken seat is of_another = inr ((λ why refuses. refuses.1 is), inl (refl, of_another))
+
+pub looks_busy : (o : Option SessionState) → o ≢ None → (seat : Seat) → LooksLike o seat → seat ≢ Empty
+looks_busy None some seat looks is = some refl
+looks_busy (Some s) some seat looks is = not_empty seat looks.shown looks.seat_is is
+
+pub shows_busy : (sealed : List Sheet) (o : Option SessionState) → o ≢ None → (seat : Seat) → Shows sealed seat o → seat ≢ Empty
+shows_busy sealed None some seat shows is = some refl
+shows_busy sealed (Some s) some seat shows is = let shown = shows_some sealed seat s shows in not_empty seat shown.shown shown.seat_is is
+
+-- what a test of the seat says
+pub some_there : (o : Option SessionState) → is_some o ≡ true → o ≢ None
+some_there o is none = let e : false ≡ true = sym (ap (λ (x : Option SessionState). is_some x) none) ∙ is in absurd (cc)
+
+pub none_there : (o : Option SessionState) → is_some o ≡ false → o ≡ None
+none_there None is = refl
+none_there (Some s) is = absurd (cc)
+
+-- on a seat that was found to be free
+pub goes_at : (key : List ℕ) (taken : Bool) (line : ScriptLine) (result : Result Reply Memory) (old new : Option SessionState) (before after : HostState) (random random' : WordsState) → old ≡ None → taken ≡ false
+    → SeatGoes key false line result None new before after random random' → SeatGoes key taken line result old new before after random random'
+goes_at key taken line result old new before after random random' none free goes =
+    subst (λ (o : Option SessionState). SeatGoes key taken line result o new before after random random') (sym none) (subst (λ (b : Bool). SeatGoes key b line result None new before after random random') (sym free) goes)
+
+pub booked_at : (key : List ℕ) (taken : Bool) (line : ScriptLine) (result : Result Reply Memory) (old new : Option SessionState) (before after : HostState) (random random' : WordsState) → old ≡ None → taken ≡ false
+    → SeatBooked key false line result None new before after random random' → SeatBooked key taken line result old new before after random random'
+booked_at key taken line result old new before after random random' none free booked =
+    subst (λ (o : Option SessionState). SeatBooked key taken line result o new before after random random') (sym none) (subst (λ (b : Bool). SeatBooked key b line result None new before after random random') (sym free) booked)
+
+module _ (key : List ℕ) (line : ScriptLine) (name : Name) (names : name_of_line line ≡ Some name) where
+  -- the name that the line gives is concerned
+  pub concerns : (n : Name) → n ≡ name → Concerns false line None n
+  concerns n same = inr (names ∙ ap (λ (x : Name). Some x) (sym same), refl)
+
+  module _ (new : Option SessionState) (before after : HostState) (random random' : WordsState) (keeps : OnDisk before after (KeepsUnder CoversNone (CoversSome new) (λ n. n ≡ name))) (seated : IsSeatOf key new) (named : (n : Name) → HasItsName new n → n ≡ name) where
+    books : OnDisk before after (KeepsUnder CoversNone (CoversSome new) (Concerns false line None))
+    books = both_weaker (KeepsUnder CoversNone (CoversSome new) (λ n. n ≡ name)) (KeepsUnder CoversNone (CoversSome new) (Concerns false line None)) before.honest after.honest keeps
+        (λ a b keeps. keeps_more CoversNone (CoversSome new) (λ n. n ≡ name) (Concerns false line None) a b concerns keeps)
+
+    pub empty_goes : (reply : Reply) (these : List Answer) (words : List (List ℕ)) (of_host of_words : Bool) → SeenOf these words of_host of_words before after random random' → is_host_fault reply ≡ of_host → is_words_fault reply ≡ of_words
+        → SeatTurns key false line (seen_by these words of_host of_words) reply None new these → SeatGoes key false line (Ok reply) None new before after random random'
+    empty_goes reply these words of_host of_words seen host_is words_is turns = record {
+      asks = told_by (λ given. SeatAsks key false line reply None new given before after random random') these before after seen.told
+          (record { seen = seen_by these words of_host of_words; was_seen = record { answers = refl; words = seen.taken; of_host = seen.on_host; of_words = seen.on_words }; turns = turns });
+      books = books;
+      counts = (subst (λ b. CountsFault b before.faults after.faults) (sym host_is) seen.on_host, subst (λ b. CountsFault b random.faults random'.faults) (sym words_is) seen.on_words);
+      wants = tt;
+      seated = seated;
+      named = λ n has. concerns n (named n has);
+    }
+
+    -- want of memory
+    pub empty_wants : ¬ (TakesNone line) → new ≡ None → KeepsDisk before after → after.faults ≡ before.faults → random' ≡ random → WhereTold before after (λ given. Unit {0}) → SeatGoes key false line (Err (record {})) None new before after random random'
+    empty_wants takes none disk calm same told = record {
+      asks = tt;
+      books = books;
+      counts = (calm, ap (λ (w : WordsState). w.faults) same);
+      wants = record { takes = takes; told = told; ends = inl (record { seat = none; disk = disk; words = same }) };
+      seated = seated;
+      named = λ n has. concerns n (named n has);
+    }
+
+  -- want of memory before anything was asked
+  pub empty_unasked : (state : HostState) (random : WordsState) → ¬ (TakesNone line) → SeatGoes key false line (Err (record {})) None None state state random random
+  empty_unasked state random takes =
+      empty_wants None state state random random
+      (both_same (KeepsUnder CoversNone CoversNone (λ n. n ≡ name)) state.honest state.honest refl (λ a. only_reads CoversNone a a (λ n. n ≡ name) (unchanged_now a))) tt (λ n none. absurd none) takes refl
+      (both_same Unchanged state.honest state.honest refl (λ a. unchanged_now a)) refl refl (told_by (λ given. Unit {0}) [] state state (told_none state state refl) tt)
+
+  -- under a book the seat is empty
+  pub empty_under : (seen : Seen) (reply : Reply) (new : Option SessionState) (a b : Honest) → ((book : Book) (seats : List Seal) → Agrees book seats a.now → IsImage a.now (reading a.now) → LineUnder key false line seen reply None new book seats Empty a b)
+      → SeatUnder key false line seen reply None new a b
+  empty_under seen reply new a b under book seats seat agrees reads shows =
+      subst (λ (x : Seat). LineUnder key false line seen reply None new book seats x a b) (sym (looks_like book seats seat None shows)) (under book seats agrees reads)
+
+  -- nothing was changed, and the seat stays empty
+  pub not_there : (seen : Seen) (reply : Reply) (a b : Honest) → Unchanged a b → SeatTurn (stands_on key (reading a.now)) key false Empty line seen reply [] Empty → SeatUnder key false line seen reply None None a b
+  not_there seen reply a b only turn =
+      empty_under seen reply None a b
+      (λ book seats agrees reads. record {
+        acts = [];
+        left = seats;
+        after = Empty;
+        did = (only, λ s has. has);
+        shows = no_file refl refl;
+        spares = λ s has apart. has;
+        concerned = λ n none. absurd none;
+        turn = λ _. turn;
+      })
+
+  -- on any host, acts that do not depend on what was sealed
+  pub empty_turns : (seen : Seen) (reply : Reply) (new : Option SessionState) (given : List Answer) (acts : List Act) (left : Seat) → ((standing : Standing) → SeatTurn standing key false Empty line seen reply acts left)
+      → ((sealed : List Sheet) → Shows (sealed ++ sheets_of acts) left new) → SeatTurns key false line seen reply None new given
+  empty_turns seen reply new given acts left turn shows_new sealed seat shows =
+      subst (λ (x : Seat). Unfolds key sealed (λ acts. (left : Seat) × SeatTurn (on_carried key sealed) key false x line seen reply acts left × Shows (sealed ++ sheets_of acts) left new) given []) (sym (shows_none sealed seat shows))
+      (at_last acts (λ unforged. (left, turn (on_carried key sealed), shows_new sealed)))
+
+  still_shows : (sealed : List Sheet) → Shows (sealed ++ []) Empty None
+  still_shows sealed = no_file_now refl refl
+
+  -- nothing was done
+  pub empty_idle : (before after : HostState) (random random' : WordsState) (reply : Reply) (these : List Answer) (words : List (List ℕ)) (of_host of_words : Bool) → OnDisk before after Unchanged → SeenOf these words of_host of_words before after random random'
+      → is_host_fault reply ≡ of_host → is_words_fault reply ≡ of_words → ((standing : Standing) → SeatTurn standing key false Empty line (seen_by these words of_host of_words) reply [] Empty) → BothHalves key line (Ok reply) None before after random random'
+  empty_idle before after random random' reply these words of_host of_words only seen host_is words_is turn = record {
+    goes = empty_goes None before after random random'
+        (both_weaker Unchanged (KeepsUnder CoversNone CoversNone (λ n. n ≡ name)) before.honest after.honest only (λ a b only_ab. only_reads CoversNone a b (λ n. n ≡ name) only_ab)) tt (λ n none. absurd none)
+        reply these words of_host of_words seen host_is words_is (empty_turns (seen_by these words of_host of_words) reply None these [] Empty turn still_shows);
+    booked = record {
+      seen = seen_by these words of_host of_words;
+      was_seen = seen_in these words of_host of_words before after random random' seen;
+      under = both_weaker Unchanged (SeatUnder key false line (seen_by these words of_host of_words) reply None None) before.honest after.honest only (λ a b only_ab. not_there (seen_by these words of_host of_words) reply a b only_ab (turn _));
+    };
+  }

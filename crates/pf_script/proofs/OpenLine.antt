@@ -1,0 +1,332 @@
+-- The line `open`, from the contract of an opening.
+use Rattle.std.proofs.Common.{◌≡◌, ◌≢◌, inl, inr, Bool, true, false, List, [], ◌∷◌, ◌++◌, ℕ, refl, sym, ◌∙◌, ap, subst, Option, Some, None, Result, Ok, Err, arith, length, length-append, take}
+use Rattle.std.proofs.lemmas.List.{append-nil, append_cancel_left}
+use Rattle.std.proofs.lemmas.List.Elements.{Contains-push, Contains-append_left, Contains-append_right}
+use Rattle.std.specs.Prelude.{Contains, IfOk, IsSomeAnd}
+use Rattle.std.specs.Str.{IsUtf8}
+use Rattle.node_layout.specs.Faults.{IsPlainFault}
+use Rattle.node_layout.specs.Metadata.{flag_at, magic}
+use Rattle.node_layout.specs.Opening.{OpensTo}
+use Rattle.node_layout.specs.declared.damage.Damage.{Damage}
+use Rattle.node_layout.specs.declared.damage.Kind.TheVariants as kinds
+use Rattle.node_layout.specs.declared.metadata.MetaSecret.{MetaSecret}
+use Rattle.node_layout.specs.declared.metadata.PlainFault.TheVariants.{BadVersion}
+use Rattle.node_layout.proofs.Secrets.{opens_to_one}
+use Rattle.node_tree.specs.Backing.{now}
+use Rattle.node_tree.specs.Sheet.{Sheet}
+use Rattle.node_tree.specs.Unforged.{Unforged}
+use Rattle.pf_io.specs.Counts.{counted}
+use Rattle.pf_io.specs.Disk.{Name, Disk, IsImage, reading}
+use Rattle.pf_io.specs.Host.{Answer, LengthWas, Gave, HostState, Both as BothAre, IsMore, since, WhereTold, OnDisk}
+use Rattle.pf_io.specs.Moments.{Honest}
+use Rattle.pf_io.specs.Names.{IsTarget, recovery_of}
+use Rattle.pf_io.specs.Unchanged.{KeepsDisk}
+use Rattle.pf_io.specs.Words.{WordsState}
+use Rattle.pf_io.specs.declared.faults.Memory.{Memory}
+use Rattle.pf_io.proofs.Telling.{told_by, told_none, both_weaker}
+use Rattle.pf_session.specs.Backing.{StandsOn}
+use Rattle.pf_session.specs.Carries.{IsLast, OnFirst, OpensOnFirst}
+use Rattle.pf_session.specs.Keeping.{OpensEither}
+use Rattle.pf_session.specs.Opening.{Opens, by_answers, length_failed, read_failed, no_names, no_tree, misnamed, absent, block_refused, secret_refused, accepted, IsOpenable, IsAccepted, BlockRefused, not_protected, node_short, update_pending, other_version, SecretRefused, not_opened, other_path, node_answers, opened_session}
+use Rattle.pf_session.specs.Reopening.{ReopensAs}
+use Rattle.pf_session.specs.State.{SessionState}
+use Rattle.pf_session.specs.declared.open_fault.OpenFault.{OpenFault}
+use Rattle.pf_session.specs.declared.open_fault.OpenFault.TheVariants as faults
+use Rattle.pf_session.proofs.Backed.{last_there}
+use Rattle.pf_session.proofs.OpenStanding.{not_block}
+use Rattle.pf_script.specs.Book.{Book, Entry, Seal, Agrees}
+use Rattle.pf_script.specs.BookActs.{Opening, Among, speaks}
+use Rattle.pf_script.specs.BookDebts.{Unchanged, seat_of}
+use Rattle.pf_script.specs.BookSeats.{CoversNone, CoversMade, KeepsUnder}
+use Rattle.pf_script.specs.BookTurns.{stands_on, of_book, Knows, LineUnder, SeatUnder}
+use Rattle.pf_script.specs.Desk.{IsSeated, Shows, whole_file, seat_on}
+use Rattle.pf_script.specs.DeskSteps.{CountsFault, Unfolds, then_more, in_the_end, SeatTurns, SeatAsks, Concerns, CoversSome}
+use Rattle.pf_script.specs.Rules.{IsFirst as IsFirstRule, NoneRefuses, opening_rules, other_version as other_version_rule}
+use Rattle.pf_script.specs.Script.{Seat, Empty, Own, sheets_of}
+use Rattle.pf_script.specs.SeatReplies.{open_reply}
+use Rattle.pf_script.specs.Turns.{Seen, Standing, SeatTurn, refused, accepted as accepts, host_failed, was_damaged, opened, not_opened as fails_to_open, ByHost, ByDamage, BlamesOpening, short_zero, closed_zero, new_seat, on_carried}
+use Rattle.pf_script.specs.declared.line.ScriptLine.{ScriptLine}
+use Rattle.pf_script.specs.declared.line.ScriptLine.TheVariants as lines
+use Rattle.pf_script.specs.declared.reply.Reply.{Reply}
+use Rattle.pf_script.specs.declared.reply.Reply.TheVariants as replies
+use Rattle.pf_script.specs.declared.reply.Why.{Why}
+use Rattle.pf_script.specs.declared.reply.Why.TheVariants as whys
+use Rattle.pf_script.proofs.ActKeeping.{one_spares, only_reads}
+use Rattle.pf_script.proofs.CallKeeping.{at_both, both_with}
+use Rattle.pf_script.proofs.CreateLine.{named_target}
+use Rattle.pf_script.proofs.Flushed.{SeenOf, length_now}
+use Rattle.pf_script.proofs.FlushUnder.{seen_in}
+use Rattle.pf_script.proofs.OnEmpty.{not_of, made_seat, BothHalves, concerns, empty_wants, empty_under, empty_idle, seat_first, seat_none}
+use Rattle.pf_script.proofs.OpenKeeping.{WasOpened, was_opened, known_opening, open_keeps}
+use Rattle.pf_script.proofs.Refusing.{none_taken}
+use Rattle.pf_script.proofs.SeatCalls.{seen_by, own_same, shows_same}
+use Rattle.pf_script.proofs.Seats.{seats_after, seat_is_left}
+use Rattle.pf_script.proofs.Showing.{shows_none}
+use Rattle.pf_script.proofs.StepKeeping.{keeps_more}
+use Rattle.pf_script.proofs.Under.{unknown_under}
+
+-- what is told of the answers that came
+told_these : (P Q : List Answer → Type 0) (these : List Answer) (old new : HostState) → BothAre old.given new.given (IsMore these) → WhereTold old new P → (P these → Q these) → WhereTold old new Q
+told_these P Q these old new more told go = by_given old.given new.given more told
+  where
+    by_given : (o p : Option (List Answer)) → BothAre o p (IsMore these) → BothAre o p (λ before now. IsMore (since before now) before now × P (since before now)) → BothAre o p (λ before now. IsMore (since before now) before now × Q (since before now))
+    by_given None None more told = tt
+    by_given (Some before) (Some now) more told =
+        let same : these ≡ since before now = append_cancel_left before these (since before now) (sym more ∙ told.0) in
+        (told.0, subst Q same (go (subst P (sym same) told.1)))
+    by_given None (Some now) more told = absurd more
+    by_given (Some before) None more told = absurd more
+
+-- the last block of node 0 among the answers of an opening is the one that it has
+last_one : (name : Name) (size : ℕ) (block other : List ℕ) → IsLast name (node_answers name size block) other → other ≡ block
+last_one name size block other last = by_front last.before last.split
+  where
+    by_front : (before : List Answer) → node_answers name size block ≡ before ++ Gave name 0 4096 other ∷ last.after → other ≡ block
+    by_front [] same = absurd (cc)
+    by_front (first ∷ []) same = cc
+    by_front (first ∷ second ∷ before) same = absurd (omega (arith, ap (λ (l : List Answer). length l) same, length-append before (Gave name 0 4096 other ∷ last.after)))
+
+module _ (key : List ℕ) (name : Name) (target : IsTarget name) (size : ℕ) (block : List ℕ) where
+  abbrev given : List Answer
+  given = node_answers name size block
+
+  last : IsLast name given block
+  last = last_there name size block
+
+  was_there : (why : Why) → (why ≡ whys.NotFound name) × Contains given (LengthWas name None) → ⊥
+  was_there why refuses =
+      not_of (LengthWas name (Some size)) (LengthWas name None) (Gave name 0 4096 block ∷ []) (λ same. absurd (cc))
+      (not_of (Gave name 0 4096 block) (LengthWas name None) [] (λ same. absurd (cc)) (λ none. absurd (omega (arith, none.1)))) refuses.1
+
+  not_protected_first : take 8 block ≢ magic → IsFirstRule (opening_rules key name given) whys.NotProtected
+  not_protected_first other = inr ((λ why refuses. refuses.1 target), inr (was_there, inl (refl, (block, last, other))))
+
+  magic_is : take 8 block ≡ magic → (why : Why) → (why ≡ whys.NotProtected) × ((b : List ℕ) × IsLast name given b × (take 8 b ≢ magic)) → ⊥
+  magic_is is why refuses = refuses.1.2 (subst (λ (b : List ℕ). take 8 b ≡ magic) (sym (last_one name size block refuses.1.0 refuses.1.1)) is)
+
+  unbuilt_first : take 8 block ≡ magic → length block ≡ 4096 → flag_at block ≢ 0 → IsFirstRule (opening_rules key name given) whys.Unbuilt
+  unbuilt_first is whole flag = inr ((λ why refuses. refuses.1 target), inr (was_there, inr (magic_is is, inl (refl, (block, last, whole, flag)))))
+
+  no_flag : flag_at block ≡ 0 → (why : Why) → (why ≡ whys.Unbuilt) × ((b : List ℕ) × IsLast name given b × (length b ≡ 4096) × (flag_at b ≢ 0)) → ⊥
+  no_flag is why refuses = refuses.1.3 (subst (λ (b : List ℕ). flag_at b ≡ 0) (sym (last_one name size block refuses.1.0 refuses.1.1)) is)
+
+  version_first : (major minor : ℕ) → length block ≡ 4096 → flag_at block ≡ 0 → IsPlainFault block (BadVersion major minor) → IsFirstRule (opening_rules key name given) (whys.BadVersion major minor)
+  version_first major minor whole flag other =
+      inr ((λ why refuses. refuses.1 target), inr (was_there, inr (magic_is other.0, inr (no_flag flag, inl (block, major, minor, last, whole, flag, other, refl)))))
+
+  no_version : IsOpenable block → (why : Why) → other_version_rule name given why → ⊥
+  no_version openable why refuses =
+      not_block block openable (faults.BadVersion refuses.1 refuses.2)
+      (other_version refuses.1 refuses.2 openable.whole openable.flag (subst (λ (b : List ℕ). IsPlainFault b (BadVersion refuses.1 refuses.2)) (last_one name size block refuses.0 refuses.3) refuses.6) refl)
+
+  path_first : IsOpenable block → (secret : MetaSecret) → OpensTo key block secret → name ≢ secret.path → IsFirstRule (opening_rules key name given) (whys.WrongPath secret.path)
+  path_first openable secret opens other =
+      inr ((λ why refuses. refuses.1 target), inr (was_there, inr (magic_is openable.plain.magic_is, inr (no_flag openable.flag, inr (no_version openable, inl (block, secret, last, opens, other, refl))))))
+
+  none_refuses : IsOpenable block → (secret : MetaSecret) → OpensTo key block secret → name ≡ secret.path → NoneRefuses (opening_rules key name given)
+  none_refuses openable secret opens same = (
+    λ why refuses. refuses.1 target,
+    (was_there,
+    (magic_is openable.plain.magic_is,
+    (no_flag openable.flag,
+    (no_version openable,
+    (λ why refuses.
+    refuses.4 (same ∙ ap (λ (m : MetaSecret). m.path) (opens_to_one key block secret refuses.1 opens (subst (λ (b : List ℕ). OpensTo key b refuses.1) (last_one name size block refuses.0 refuses.2) refuses.3))), tt))))),
+  )
+
+-- the reply to an opening
+abbrev pub open_result : Name → Result SessionState OpenFault → Result Reply Memory
+open_result name (Ok session) = Ok (replies.Opened session.tree.size)
+open_result name (Err fault) = open_reply name fault
+
+module _ (key : List ℕ) (k : ℕ) (name : Name) (utf8 : IsUtf8 name) (before after : HostState) (words : WordsState) (only : KeepsDisk before after) where
+  abbrev line : ScriptLine
+  line = lines.Open k name
+
+  abbrev Halves : Result Reply Memory → Option SessionState → Type 0
+  Halves result new = BothHalves key line result new before after words words
+
+  seen_of : (these : List Answer) (of_host : Bool) → BothAre before.given after.given (IsMore these) → CountsFault of_host before.faults after.faults → SeenOf these [] of_host false before after words words
+  seen_of these of_host told counts = record { told = told; taken = none_taken words; on_host = counts; on_words = refl }
+
+  -- refused by a rule
+  refuses_to_open : (these : List Answer) (why : Why) → BothAre before.given after.given (IsMore these) → after.faults ≡ before.faults → IsFirstRule (opening_rules key name these) why → Halves (Ok (replies.Refused why)) None
+  refuses_to_open these why told calm first =
+      empty_idle key line name refl before after words words (replies.Refused why) these [] false false only (seen_of these false told calm) refl refl
+      (λ standing. refused why (seat_first (opening_rules key name these) why first) (record { host = refl; random = refl }) refl refl refl refl)
+
+  -- a call failed
+  host_fails : (these : List Answer) → BothAre before.given after.given (IsMore these) → after.faults ≡ counted before.faults → Halves (Ok replies.HostFault) None
+  host_fails these told rose =
+      empty_idle key line name refl before after words words replies.HostFault these [] true false only (seen_of these true told rose) refl refl
+      (λ standing. host_failed (record { host = refl; random = refl }) (fails_to_open k name ByHost refl tt) refl)
+
+  -- node 0 is damaged
+  is_damaged : (these : List Answer) (damage : Damage) → BothAre before.given after.given (IsMore these) → after.faults ≡ before.faults → BlamesOpening key name these (ByDamage damage) → Halves (Ok (replies.DamagedNode damage)) None
+  is_damaged these damage told calm blames =
+      empty_idle key line name refl before after words words (replies.DamagedNode damage) these [] false false only (seen_of these false told calm) refl refl
+      (λ standing. was_damaged damage (record { host = refl; random = refl }) (fails_to_open k name (ByDamage damage) refl blames) refl)
+
+  wants_memory : after.faults ≡ before.faults → WhereTold before after (λ given. Unit {0}) → Halves (Err (record {})) None
+  wants_memory calm told = record {
+    goes = empty_wants key line name refl None before after words words
+        (both_weaker Unchanged (KeepsUnder CoversNone CoversNone (λ n. n ≡ name)) before.honest after.honest only (λ a b only_ab. only_reads CoversNone a b (λ n. n ≡ name) only_ab)) tt (λ n none. absurd none) (λ takes. takes) refl only calm refl told;
+    booked = tt;
+  }
+
+  block_case : (size : ℕ) (block : List ℕ) (fault : OpenFault) → IsTarget name → BothAre before.given after.given (IsMore (node_answers name size block)) → after.faults ≡ before.faults → BlockRefused block fault → Halves (open_reply name fault) None
+  block_case size block fault target told calm (not_protected few other said) =
+      subst (λ (f : OpenFault). Halves (open_reply name f) None) (sym said) (refuses_to_open (node_answers name size block) whys.NotProtected told calm (not_protected_first key name target size block other))
+  block_case size block fault target told calm (node_short is short said) =
+      subst (λ (f : OpenFault). Halves (open_reply name f) None) (sym said) (is_damaged (node_answers name size block) (record { node = 0; kind = kinds.Short }) told calm (short_zero block (last_there name size block) short refl))
+  block_case size block fault target told calm (update_pending is whole flag said) =
+      subst (λ (f : OpenFault). Halves (open_reply name f) None) (sym said) (refuses_to_open (node_answers name size block) whys.Unbuilt told calm (unbuilt_first key name target size block is whole flag))
+  block_case size block fault target told calm (other_version major minor whole flag other said) =
+      subst (λ (f : OpenFault). Halves (open_reply name f) None) (sym said) (refuses_to_open (node_answers name size block) (whys.BadVersion major minor) told calm (version_first key name target size block major minor whole flag other))
+
+  secret_case : (size : ℕ) (block : List ℕ) (fault : OpenFault) → IsTarget name → BothAre before.given after.given (IsMore (node_answers name size block)) → after.faults ≡ before.faults → IsOpenable block → SecretRefused key (Some name) block fault
+      → Halves (open_reply name fault) None
+  secret_case size block fault target told calm openable (not_opened kind why said) =
+      subst (λ (f : OpenFault). Halves (open_reply name f) None) (sym said) (is_damaged (node_answers name size block) (record { node = 0; kind = kind }) told calm (closed_zero block kind (last_there name size block) why refl))
+  secret_case size block fault target told calm openable (other_path secret given opens is_given other said) =
+      subst (λ (f : OpenFault). Halves (open_reply name f) None) (sym said)
+      (refuses_to_open (node_answers name size block) (whys.WrongPath secret.path) told calm (path_first key name target size block openable secret opens (λ same. other (sym (same_name name given is_given) ∙ same))))
+    where
+      same_name : (n m : Name) → Some n ≡ Some m → n ≡ m
+      same_name n m same = cc
+
+  -- it is accepted
+  module _ (size : ℕ) (block : List ℕ) (secret : MetaSecret) (target : IsTarget name) (openable : IsOpenable block) (is : IsAccepted key (Some name) block secret) (told : BothAre before.given after.given (IsMore (node_answers name size block)))
+      (calm : after.faults ≡ before.faults) where
+    abbrev session : SessionState
+    session = opened_session key name block secret
+
+    abbrev came : List Answer
+    came = node_answers name size block
+
+    abbrev seen : Seen
+    seen = seen_by came [] false false
+
+    seated : IsSeated key session
+    seated = record { of_script = record { is_target = target; path_is = sym is.path_is; named = refl }; key_is = refl; clean = λ whole calm. refl }
+
+    same_seat : (sheet : Sheet) → StandsOn sheet session → new_seat key name sheet ≡ seat_on sheet session
+    same_seat sheet on = own_same sheet key key name name sheet.content (now sheet session.tree) [] [] false false None None false false refl refl (sym on.now_is) refl refl refl refl
+
+    turn : (standing : Standing) (sheet : Sheet) → StandsOn sheet session → standing name came sheet → SeatTurn standing key false Empty line seen (replies.Opened session.tree.size) (record { deed = Opening (seat_of key name sheet); done = true } ∷ []) (Own (new_seat key name sheet))
+    turn standing sheet on stands =
+        subst (λ n. SeatTurn standing key false Empty line seen (replies.Opened n) (record { deed = Opening (seat_of key name sheet); done = true } ∷ []) (Own (new_seat key name sheet))) (sym (ap (λ (c : List ℕ). length c) on.now_is) ∙ length_now sheet session.tree)
+        (accepts (seat_none (opening_rules key name came) (none_refuses key name target size block openable secret is.opened is.path_is)) (record { host = refl; random = refl })
+            (opened k name sheet stands (sym on.backed.path_is ∙ sym is.path_is) refl))
+
+    turns : ((sheets : List Sheet) → Unforged key sheets came → OnFirst sheets session came) → SeatTurns key false line seen (replies.Opened session.tree.size) None (Some session) came
+    turns first sealed seat shows =
+        subst (λ (x : Seat). Unfolds key sealed (λ acts. (left : Seat) × SeatTurn (on_carried key sealed) key false x line seen (replies.Opened session.tree.size) acts left × Shows (sealed ++ sheets_of acts) left (Some session)) came []) (sym (shows_none sealed seat shows))
+        (then_more [] [] came [] (sym (append-nil came)) (λ unforged. on_first (subst (λ (l : List Sheet). Unforged key l came) (append-nil sealed) unforged)))
+      where
+        on_first : Unforged key sealed came → Unfolds key sealed (λ acts. (left : Seat) × SeatTurn (on_carried key sealed) key false Empty line seen (replies.Opened session.tree.size) acts left × Shows (sealed ++ sheets_of acts) left (Some session)) came []
+        on_first unforged =
+            let on = first sealed unforged in
+            let among : Contains sealed on.sheet = subst (λ (l : List Sheet). Contains l on.sheet) (sym on.first.split)
+                (Contains-append_right on.first.before (on.sheet ∷ on.first.after) on.sheet (Contains-append_left (on.sheet ∷ []) on.first.after on.sheet (Contains-push [] on.sheet))) in
+            let acts = record { deed = Opening (seat_of key name on.sheet); done = true } ∷ [] in
+            then_more [] acts [] came refl
+            (λ _. in_the_end acts
+            (λ _. (
+              Own (new_seat key name on.sheet),
+              turn (on_carried key sealed) on.sheet on.on (on.block, on.last, on.first),
+              shows_same sealed (Own (new_seat key name on.sheet)) (Some session) (whole_file on.sheet session refl among (unforged.linked on.sheet among) (record { backed = on.on.backed; rests = λ calm. record { stands = on.on; clean = refl } }) (ap Own (same_seat on.sheet on.on)) refl),
+            )))
+
+    -- under a book
+    under : (goes : Opens key name (Some name) before after (Ok session)) → OnDisk before after (OpensEither session) → OnDisk before after (SeatUnder key false line seen (replies.Opened session.tree.size) None (Some session))
+    under goes either =
+        both_with Unchanged (SeatUnder key false line seen (replies.Opened session.tree.size) None (Some session)) before.honest after.honest only
+        (λ a b is_a is_b only_ab.
+        empty_under key line name refl seen (replies.Opened session.tree.size) (Some session) a b (by_book a b is_a is_b only_ab))
+      where
+        was_one : WasOpened key name session
+        was_one = was_opened key name before after session goes
+
+        by_book : (a b : Honest) → before.honest ≡ Some a → after.honest ≡ Some b → Unchanged a b → (book : Book) (seats : List Seal) → Agrees book seats a.now → IsImage a.now (reading a.now)
+            → LineUnder key false line seen (replies.Opened session.tree.size) None (Some session) book seats Empty a b
+        by_book a b is_a is_b only_ab book seats agrees reads = by_entry (book name) refl
+          where
+            keeps : KeepsUnder CoversNone (CoversSome (Some session)) (Concerns false line None) a b
+            keeps =
+                keeps_more CoversNone (CoversSome (Some session)) (λ n. n ≡ name) (Concerns false line None) a b (concerns key line name refl)
+                (at_both (KeepsUnder CoversNone (CoversMade {E = OpenFault} (Ok session)) (λ n. n ≡ name)) before.honest after.honest a b is_a is_b (open_keeps key name before after (Ok session) goes either only))
+
+            unknown : ¬ (Knows book key Empty line (replies.Opened session.tree.size)) → LineUnder key false line seen (replies.Opened session.tree.size) None (Some session) book seats Empty a b
+            unknown none = unknown_under key false line seen (replies.Opened session.tree.size) CoversNone None (Some session) a b keeps book seats Empty agrees reads tt none
+
+            only_it : (sheet : Sheet) (n : Name) → Among (record { deed = Opening (seat_of key name sheet); done = true } ∷ []) n → Concerns false line None n
+            only_it sheet n (inl same) = concerns key line name refl n same
+            only_it sheet n (inr none) = absurd none
+
+            by_speaks : (entry : Entry) → book name ≡ Some entry → (s : Bool) → speaks key entry ≡ s → LineUnder key false line seen (replies.Opened session.tree.size) None (Some session) book seats Empty a b
+            by_speaks entry was false says =
+                unknown (λ knows. let e : true ≡ false = sym (subst (λ (o : Option Entry). IsSomeAnd o (λ e. speaks key e ≡ true)) was knows) ∙ says in absurd (cc))
+            by_speaks entry was true says =
+                let known = known_opening key name session was_one a b (at_both (OpensEither session) before.honest after.honest a b is_a is_b either) only_ab book seats agrees reads entry was says in
+                let sheet = known.on.sheet in record {
+                  acts = record { deed = Opening (seat_of key name sheet); done = true } ∷ [];
+                  left = seats_after (Opening (seat_of key name sheet)) true seats;
+                  after = Own (new_seat key name sheet);
+                  did = known.did;
+                  shows = of_book sheet session refl (seat_is_left (Opening (seat_of key name sheet)) seats) (record { backed = known.on.on.backed; rests = λ _. record { stands = known.on.on; clean = refl } }) (ap Own (same_seat sheet known.on.on)) refl;
+                  spares = one_spares seats (Opening (seat_of key name sheet)) true;
+                  concerned = only_it sheet;
+                  turn = λ _. turn (stands_on key (reading a.now)) sheet known.on.on (subst (λ (d : Disk). ReopensAs key sheet (reading d name) (reading d (recovery_of name))) only_ab.ends known.stood.as_sheet);
+                }
+
+            by_entry : (o : Option Entry) → book name ≡ o → LineUnder key false line seen (replies.Opened session.tree.size) None (Some session) book seats Empty a b
+            by_entry None was = unknown (λ knows. absurd (subst (λ (o : Option Entry). IsSomeAnd o (λ e. speaks key e ≡ true)) was knows))
+            by_entry (Some entry) was = by_speaks entry was (speaks key entry) refl
+
+    is_accepted : Opens key name (Some name) before after (Ok session) → OpensOnFirst session before after → OnDisk before after (OpensEither session) → Halves (Ok (replies.Opened session.tree.size)) (Some session)
+    is_accepted goes first either = record {
+      goes = record {
+        asks = told_these (λ came. (sheets : List Sheet) → Unforged key sheets came → OnFirst sheets session came) (λ given. SeatAsks key false line (replies.Opened session.tree.size) None (Some session) given before after words words) came before after told first
+            (λ on. record { seen = seen; was_seen = record { answers = refl; words = none_taken words; of_host = calm; of_words = refl }; turns = turns on });
+        books = both_weaker (KeepsUnder CoversNone (CoversMade {E = OpenFault} (Ok session)) (λ n. n ≡ name)) (KeepsUnder CoversNone (CoversSome (Some session)) (Concerns false line None)) before.honest after.honest
+            (open_keeps key name before after (Ok session) goes either only)
+            (λ a b keeps. keeps_more CoversNone (CoversSome (Some session)) (λ n. n ≡ name) (Concerns false line None) a b (concerns key line name refl) keeps);
+        counts = (calm, refl);
+        wants = tt;
+        seated = seated;
+        named = λ n has. concerns key line name refl n has;
+      };
+      booked = record { seen = seen; was_seen = seen_in came [] false false before after words words (seen_of came false told calm); under = under goes either };
+    }
+
+  by_case : (result : Result SessionState OpenFault) → IfOk result (λ session. OpensOnFirst session before after) → IfOk result (λ session. OnDisk before after (OpensEither session)) → Opens key name (Some name) before after result → Halves (open_result name result) (made_seat result)
+  by_case result first either (by_answers these asked (misnamed bad are said)) =
+      subst (λ (r : Result SessionState OpenFault). Halves (open_result name r) (made_seat r)) (sym said)
+      (refuses_to_open [] whys.BadName (subst (λ (l : List Answer). BothAre before.given after.given (IsMore l)) are asked.asked.told) asked.asked.faults
+          (inl (refl, λ target. bad (record { target = target; stored = (named_target name utf8 target).path_is }))))
+  by_case result first either (by_answers these asked (absent good are said)) =
+      subst (λ (r : Result SessionState OpenFault). Halves (open_result name r) (made_seat r)) (sym said)
+      (refuses_to_open (LengthWas name None ∷ []) (whys.NotFound name) (subst (λ (l : List Answer). BothAre before.given after.given (IsMore l)) are asked.asked.told) asked.asked.faults
+          (inr ((λ why refuses. refuses.1 good.target), inl (refl, Contains-push [] (LengthWas name None)))))
+  by_case result first either (by_answers these asked (block_refused size block fault good are why said)) =
+      subst (λ (r : Result SessionState OpenFault). Halves (open_result name r) (made_seat r)) (sym said)
+      (block_case size block fault good.target (subst (λ (l : List Answer). BothAre before.given after.given (IsMore l)) are asked.asked.told) asked.asked.faults why)
+  by_case result first either (by_answers these asked (secret_refused size block fault good are openable why said)) =
+      subst (λ (r : Result SessionState OpenFault). Halves (open_result name r) (made_seat r)) (sym said)
+      (secret_case size block fault good.target (subst (λ (l : List Answer). BothAre before.given after.given (IsMore l)) are asked.asked.told) asked.asked.faults openable why)
+  by_case result first either (by_answers these asked (accepted size block secret good are openable is said)) =
+      subst (λ (r : Result SessionState OpenFault). Halves (open_result name r) (made_seat r)) (sym said)
+      (is_accepted size block secret good.target openable is (subst (λ (l : List Answer). BothAre before.given after.given (IsMore l)) are asked.asked.told) asked.asked.faults
+          (by_answers these asked (accepted size block secret good are openable is refl))
+          (subst (λ (r : Result SessionState OpenFault). IfOk r (λ session. OpensOnFirst session before after)) said first) (subst (λ (r : Result SessionState OpenFault). IfOk r (λ session. OnDisk before after (OpensEither session))) said either))
+  by_case result first either (length_failed good asked said) = subst (λ (r : Result SessionState OpenFault). Halves (open_result name r) (made_seat r)) (sym said) (host_fails [] asked.asked.told asked.asked.faults)
+  by_case result first either (read_failed size good asked said) = subst (λ (r : Result SessionState OpenFault). Halves (open_result name r) (made_seat r)) (sym said) (host_fails (LengthWas name (Some size) ∷ []) asked.asked.told asked.asked.faults)
+  by_case result first either (no_names good stays said) =
+      subst (λ (r : Result SessionState OpenFault). Halves (open_result name r) (made_seat r)) (sym said)
+      (wants_memory (ap (λ (h : HostState). h.faults) stays) (told_by (λ given. Unit {0}) [] before after (told_none before after (ap (λ (h : HostState). h.given) stays)) tt))
+  by_case result first either (no_tree size block secret good asked openable is said) = subst (λ (r : Result SessionState OpenFault). Halves (open_result name r) (made_seat r)) (sym said) (wants_memory asked.asked.faults (told_by (λ given. Unit {0}) _ before after asked.asked.told tt))
+
+pub open_line : (key : List ℕ) (k : ℕ) (name : Name) (result : Result SessionState OpenFault) (before after : HostState) (words : WordsState) → IsUtf8 name → Opens key name (Some name) before after result → KeepsDisk before after
+    → IfOk result (λ session. OpensOnFirst session before after) → IfOk result (λ session. OnDisk before after (OpensEither session)) → BothHalves key (lines.Open k name) (open_result name result) (made_seat result) before after words words
+open_line key k name result before after words utf8 goes only first either = by_case key k name utf8 before after words only result first either goes

@@ -1,0 +1,88 @@
+-- The line `read` under a book, from the contract of a read.
+use Rattle.std.proofs.Common.{◌≡◌, Bool, true, false, List, [], ◌∷◌, ℕ, ◌-◌, ◌≤◌, ◌<◌, refl, sym, ap, subst, Some, Result, Ok, Err, arith, length, min}
+use Rattle.std.specs.Prelude.{Contains, IfOk}
+use Rattle.node_tree.specs.Fetching.{host_part}
+use Rattle.node_tree.specs.Opened.{Given}
+use Rattle.node_tree.specs.Reading.{Reads}
+use Rattle.node_tree.specs.Sheet.{Sheet}
+use Rattle.node_tree.specs.State.{TreeState, readable}
+use Rattle.node_tree.specs.declared.fault.TreeFault.{TreeFault}
+use Rattle.node_tree.specs.declared.fault.TreeFault.TheVariants as trees
+use Rattle.pf_io.specs.Counts.{HasCause}
+use Rattle.pf_io.specs.Disk.{Name}
+use Rattle.pf_io.specs.Host.{HostState, OnDisk}
+use Rattle.pf_io.specs.Unchanged.{KeepsDisk}
+use Rattle.pf_io.specs.Words.{WordsState}
+use Rattle.pf_session.specs.Reading.{KeepsFields, ReadsStanding, StandingRead}
+use Rattle.pf_session.specs.State.{SessionState, file_of}
+use Rattle.pf_script.specs.BookDebts.{Unchanged, seat_of}
+use Rattle.pf_script.specs.BookSeats.{Covers, KeepsUnder}
+use Rattle.pf_script.specs.BookTurns.{of_book, SeatAgrees, SeatBooked}
+use Rattle.pf_script.specs.Desk.{IsSeated, seat_on}
+use Rattle.pf_script.specs.DeskSteps.{CountsFault}
+use Rattle.pf_script.specs.Rules.{refuses}
+use Rattle.pf_script.specs.Script.{Own}
+use Rattle.pf_script.specs.SeatReplies.{read_reply}
+use Rattle.pf_script.specs.SeatSteps.{PIECE}
+use Rattle.pf_script.specs.Turns.{Standing, SeatTurn, accepted, host_failed, read, not_read, ByHost}
+use Rattle.pf_script.specs.declared.line.ScriptLine.{ScriptLine}
+use Rattle.pf_script.specs.declared.line.ScriptLine.TheVariants as lines
+use Rattle.pf_script.specs.declared.reply.Reply.{Reply}
+use Rattle.pf_script.specs.declared.reply.Reply.TheVariants as replies
+use Rattle.pf_script.specs.declared.reply.Why.TheVariants as whys
+use Rattle.pf_script.proofs.ReadKeeping.{read_keeps, stood_read}
+use Rattle.pf_script.proofs.ReadLine.{slice_is, same_seat, whole_new, kept_new, ends_count}
+use Rattle.pf_script.proofs.Refusing.{none_then, none_taken}
+use Rattle.pf_script.proofs.SeatCalls.{seen_by}
+use Rattle.pf_script.proofs.Under.{on_disk_by, none_concerned}
+
+module _ (key : List ℕ) (k at count : ℕ) (old : SessionState) (seated : IsSeated key old) (whole : old.broken ≡ false) (new : SessionState) (fields : KeepsFields old new) (result : Result ℕ TreeFault) (buffer : List ℕ)
+    (room : length buffer ≡ min count (old.tree.size - at)) (before after : HostState) (reads : Reads result (file_of old) at buffer old.tree new.tree before after) (words : WordsState) (few : count ≤ 32768)
+    (keeps : OnDisk before after (KeepsUnder (Covers old) (Covers new) (λ name. name ≡ old.name))) (disk : KeepsDisk before after) where
+  abbrev line : ScriptLine
+  line = lines.Read k at count
+
+  -- the seat stays, and the line has this turn on each sheet that the file stands for
+  by_turn : (r : Result ℕ TreeFault) (of_host : Bool) (reply : Reply) → ReadsStanding r at buffer old new before → CountsFault of_host before.faults after.faults
+      → ((standing : Standing) (base : Sheet) → StandingRead r base at buffer old new → SeatTurn standing key false (Own (seat_on base old)) line (seen_by reads.these [] of_host false) reply [] (Own (seat_on base old)))
+      → SeatAgrees key false line reply (Some old) (Some new) before after words words
+  by_turn r of_host reply standing counts turn = record {
+    seen = seen_by reads.these [] of_host false;
+    was_seen = record { answers = reads.answered.told; words = none_taken words; of_host = counts; of_words = refl };
+    under = on_disk_by Unchanged key false line (seen_by reads.these [] of_host false) reply old whole (Some new) before after keeps disk
+        (λ a b is_a is_b only book seats agrees base on.
+        let stands = stood_read old seated.of_script new r at buffer before a is_a standing base on.stood on.kept.backed in record {
+          acts = [];
+          left = seats;
+          after = Own (seat_on base old);
+          did = (only, λ s has. has);
+          shows = of_book base new (whole_new key k at count old seated whole new fields result buffer room before after reads)
+              (subst (λ (n : List ℕ). Contains seats (seat_of n new.name base)) (sym (ap (λ (s : SessionState). s.key) fields)) (subst (λ (n : Name). Contains seats (seat_of old.key n base)) (sym (ap (λ (s : SessionState). s.name) fields)) on.seated))
+              (kept_new key k at count old seated whole new fields result buffer room before after reads few reads.these base on.kept stands.backed stands.same)
+              (ap Own (same_seat key k at count old seated whole new fields result buffer room before after reads base stands.same)) refl;
+          spares = λ s has apart. has;
+          concerned = none_concerned false line (Some old);
+          turn = λ _. turn _ base stands;
+        });
+  }
+
+  by_result : (r : Result ℕ TreeFault) → IfOk r (λ n. n ≡ readable old.tree at (length buffer)) → HasCause before.faults after.faults (host_part r) → ReadsStanding r at buffer old new before
+      → SeatBooked key false line (read_reply buffer r) (Some old) (Some new) before after words words
+  by_result (Ok n) counted cause standing =
+      by_turn (Ok n) false (replies.Given buffer) standing cause.still
+      (λ standing base stands.
+      let own = seat_on base old in
+      subst (λ (b : List ℕ). SeatTurn standing key false (Own own) line (seen_by reads.these [] false false) (replies.Given b) [] (Own own))
+      (sym (slice_is key k at count old seated whole new fields result buffer room before after reads n counted base stands.slice))
+      (accepted (none_then (refuses whys.TooLong (PIECE < count) ∷ []) (Own own) own refl whole ((λ other long. omega (arith, long.1, few)), tt)) (record { host = refl; random = refl }) (read k at count own refl)))
+  by_result (Err (trees.Damaged d)) counted cause standing = by_turn (Err (trees.Damaged d)) false (replies.DamagedNode d) standing cause.still (λ standing base stands. absurd stands.undamaged)
+  by_result (Err trees.Host) counted cause standing =
+      by_turn (Err trees.Host) true replies.HostFault standing cause.once (λ standing base stands. host_failed (record { host = refl; random = refl }) (not_read k at count (seat_on base old) ByHost refl tt) refl)
+  by_result (Err trees.Memory) counted cause standing = tt
+
+pub read_under : (key : List ℕ) (k at count : ℕ) (old new : SessionState) (result : Result ℕ TreeFault) (buffer : List ℕ) (before after : HostState) (words : WordsState) → IsSeated key old → old.broken ≡ false → count ≤ 32768
+    → length buffer ≡ min count (old.tree.size - at) → KeepsFields old new → Reads result (file_of old) at buffer old.tree new.tree before after → HasCause before.faults after.faults (host_part result)
+    → ReadsStanding result at buffer old new before → KeepsDisk before after → SeatBooked key false (lines.Read k at count) (read_reply buffer result) (Some old) (Some new) before after words words
+read_under key k at count old new result buffer before after words seated whole few room fields reads cause standing disk =
+    by_result key k at count old seated whole new fields result buffer room before after reads words few (read_keeps old seated.of_script new result at buffer before after fields (ap (λ (t : TreeState). t.dirty) reads.rest) standing disk) disk result
+    (ends_count result (Given (file_of old) reads.these) at buffer old.tree new.tree reads.ends) cause standing

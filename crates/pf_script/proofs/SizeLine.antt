@@ -1,0 +1,161 @@
+-- The line `size`, from the contracts of the changes of size that it makes.
+use Rattle.std.proofs.Common.{◌≡◌, inl, inr, Bool, true, false, List, [], ◌∷◌, ◌++◌, ℕ, ◌+◌, ◌^◌, ◌<◌, ◌≤◌, refl, sym, ◌∙◌, ap, subst, Option, Some, None, Result, Ok, Err, length, arith}
+use Rattle.node_tree.specs.Applying.{Step}
+use Rattle.node_tree.specs.Backing.{now}
+use Rattle.node_tree.specs.Sheet.{Sheet}
+use Rattle.node_tree.specs.declared.fault.TreeFault.{TreeFault}
+use Rattle.node_tree.specs.declared.fault.TreeFault.TheVariants as trees
+use Rattle.pf_io.specs.Host.{Answer, HostState}
+use Rattle.pf_io.specs.Words.{WordsState}
+use Rattle.pf_io.specs.declared.faults.Memory.{Memory}
+use Rattle.pf_io.proofs.Telling.{told_weaker}
+use Rattle.pf_session.specs.Changing.{refused, unchanged, changed, not_flushed, flushed_and_changed, SizeGoes, stepped}
+use Rattle.pf_session.specs.Faults.{size_of_flush, size_of_tree}
+use Rattle.pf_session.specs.State.{SessionState}
+use Rattle.pf_session.specs.declared.fault.FlushFault.{FlushFault}
+use Rattle.pf_session.specs.declared.fault.FlushFault.TheVariants as faults
+use Rattle.pf_session.specs.declared.fault.SizeFault.{SizeFault}
+use Rattle.pf_session.specs.declared.fault.SizeFault.TheVariants as sizes
+use Rattle.pf_session.specs.declared.fault.Written.{Written}
+use Rattle.pf_script.specs.Desk.{IsSeated, seat_on}
+use Rattle.pf_script.specs.DeskSteps.{CountsFault, SeatAsks, SeatGoes}
+use Rattle.pf_script.specs.Rules.{NoneRefuses, rules, refuses}
+use Rattle.pf_script.specs.Script.{Own}
+use Rattle.pf_script.specs.SeatReplies.{flush_reply, IsNoLimit, IsNextSize, SizesGo, set_last, set_failed, set_piece}
+use Rattle.pf_script.specs.SeatSteps.{LARGEST, IsResize}
+use Rattle.pf_script.specs.Turns.{Blame}
+use Rattle.pf_script.specs.declared.line.ScriptLine.TheVariants as lines
+use Rattle.pf_script.specs.declared.reply.Reply.{Reply}
+use Rattle.pf_script.specs.declared.reply.Reply.TheVariants as replies
+use Rattle.pf_script.specs.declared.reply.Why.TheVariants as whys
+use Rattle.pf_script.proofs.ChangeLine.{outcome_reply, none_made}
+use Rattle.pf_script.proofs.ChangeTold.{Outcome, Went, Broke, Lacked, Wanted, host_in, words_in}
+use Rattle.pf_script.proofs.Flushed.{host_blamed, fault_of, length_now}
+use Rattle.pf_script.proofs.Refusing.{none_then}
+use Rattle.pf_script.proofs.SeatCalls.{seen_by, SheetTurns, whole_turns, host_reply, words_reply, goes_told, goes_wanting}
+use Rattle.pf_script.proofs.SizeSeen.{sized, size_result, never_refused, SizeSeen, size_seen}
+use Rattle.pf_script.proofs.SizeTold.{SizeTold, size_ends}
+use Rattle.pf_script.proofs.StepTurns.{LineEnds}
+
+-- the fault of a change that no rule refused
+tree_no_limit : (flushed : Bool) (fault : SizeFault) (one : Result (Unit {0}) TreeFault) → ◌≡◌ {A = Result Written SizeFault} (Err fault) (stepped size_of_tree flushed one) → IsNoLimit fault
+tree_no_limit flushed fault (Ok done) said = absurd (cc)
+tree_no_limit flushed fault (Err (trees.Damaged damage)) said = let is : sizes.Damaged damage ≡ fault = cc in subst IsNoLimit is tt
+tree_no_limit flushed fault (Err trees.Host) said = let is : sizes.Host ≡ fault = cc in subst IsNoLimit is tt
+tree_no_limit flushed fault (Err trees.Memory) said = let is : sizes.Memory ≡ fault = cc in subst IsNoLimit is tt
+
+flush_no_limit : (fault : SizeFault) (of_flush : FlushFault) → ◌≡◌ {A = Result Written SizeFault} (Err fault) (Err (size_of_flush of_flush)) → IsNoLimit fault
+flush_no_limit fault faults.Words said = let is : sizes.Words ≡ fault = cc in subst IsNoLimit is tt
+flush_no_limit fault (faults.Damaged damage) said = let is : sizes.Damaged damage ≡ fault = cc in subst IsNoLimit is tt
+flush_no_limit fault faults.Host said = let is : sizes.Host ≡ fault = cc in subst IsNoLimit is tt
+
+set_no_limit : (size n : ℕ) (fault : SizeFault) (old new : SessionState) (before after : HostState) (random random' : WordsState) → size ≤ 2 ^ 32 → IsNextSize size old.tree.size n → SizeGoes (Err fault) n old new before after random random' → IsNoLimit fault
+set_no_limit size n fault old new before after random random' small next (refused other why same stays words said) = absurd (never_refused size n old other small next why)
+set_no_limit size n fault old new before after random random' small next (unchanged free none same stays words said) = absurd (cc)
+set_no_limit size n fault old new before after random random' small next (changed one free some roomy steps words said) = tree_no_limit false fault one said
+set_no_limit size n fault old new before after random random' small next (not_flushed of_flush free some first flush undamaged said) = flush_no_limit fault of_flush said
+set_no_limit size n fault old new before after random random' small next (flushed_and_changed mid between one free some first flush steps said) = tree_no_limit true fault one said
+
+pub no_limit : (size : ℕ) (fault : SizeFault) (result : Result (Unit {0}) SizeFault) (old new : SessionState) (before after : HostState) (random random' : WordsState) → size ≤ 2 ^ 32 → result ≡ Err fault → SizesGo result size old new before after random random' → IsNoLimit fault
+no_limit size fault result _ _ _ _ _ _ small is (set_last written old new before after random random' few sets said) = absurd (cc)
+no_limit size fault result _ _ _ _ _ _ small is (set_failed other n old new before after random random' next sets said) =
+    let same : other ≡ fault = cc in
+    subst IsNoLimit same (set_no_limit size n other old new before after random random' small next sets.goes)
+no_limit size fault result _ _ _ _ _ _ small is (set_piece written old mid new before between after random random' random'' far sets rest) = no_limit size fault result mid new between after random' random'' small is rest
+
+module _ (key : List ℕ) (k size : ℕ) (small : size ≤ 2 ^ 32) (old new : SessionState) (whole : old.broken ≡ false) where
+  pub line_passes : (base : Sheet) (given : List Answer) → NoneRefuses (rules key false (Own (seat_on base old)) (lines.Size k size) given)
+  line_passes base given = none_then (refuses whys.TooLarge (LARGEST < size) ∷ []) (Own (seat_on base old)) (seat_on base old) refl whole ((λ other too_large. omega (arith, too_large.1, small)), tt)
+
+  pub goes_on_now : (base : Sheet) (steps : List Step) → IsResize size old.tree.size steps → IsResize size (length (now base old.tree)) steps
+  goes_on_now base steps is = subst (λ n. IsResize size n steps) (sym (length_now base old.tree)) is
+
+  module _ (given : List Answer) (words : List (List ℕ)) where
+    went_turns : (flushed : Bool) → SizeTold size old new given words (Went flushed) → SheetTurns key false (lines.Size k size) (seen_by given words false false) (replies.Sized size) old (Some new) given
+    went_turns flushed told sealed base among linked kept =
+        let own = seat_on base old in
+        size_ends key sealed own k size given words (LineEnds key sealed own (lines.Size k size) given words false false (replies.Sized size) new) (line_passes base given) new old given words (Went flushed) told
+        (record { went = λ f is acts ends. ends; broke = λ blame is acts ends. absurd (cc); lack = λ is acts ends. absurd (cc); memory = λ is. absurd (cc) })
+        [] [] [] base (none_made sealed base old among linked kept whole) (goes_on_now base) [] refl refl
+
+    broke_turns : (blame : Blame) → SizeTold size old new given words (Broke blame) → SheetTurns key false (lines.Size k size) (seen_by given words (host_blamed blame) false) (flush_reply (fault_of blame)) old (Some new) given
+    broke_turns blame told sealed base among linked kept =
+        let own = seat_on base old in
+        size_ends key sealed own k size given words (LineEnds key sealed own (lines.Size k size) given words (host_blamed blame) false (flush_reply (fault_of blame)) new) (line_passes base given) new old given words (Broke blame) told
+        (record {
+          went = λ f is acts ends. absurd (cc);
+          broke = λ other is acts ends.
+              subst (λ (b : Blame). LineEnds key sealed own (lines.Size k size) given words (host_blamed b) false (flush_reply (fault_of b)) new acts) (sym (same_blame blame other is)) ends;
+          lack = λ is acts ends. absurd (cc);
+          memory = λ is. absurd (cc);
+        })
+        [] [] [] base (none_made sealed base old among linked kept whole) (goes_on_now base) [] refl refl
+      where
+        same_blame : (b other : Blame) → Broke b ≡ Broke other → b ≡ other
+        same_blame b other is = cc
+
+    lacked_turns : SizeTold size old new given words Lacked → SheetTurns key false (lines.Size k size) (seen_by given words false true) replies.WordsFault old (Some new) given
+    lacked_turns told sealed base among linked kept =
+        let own = seat_on base old in
+        size_ends key sealed own k size given words (LineEnds key sealed own (lines.Size k size) given words false true replies.WordsFault new) (line_passes base given) new old given words Lacked told
+        (record { went = λ f is acts ends. absurd (cc); broke = λ blame is acts ends. absurd (cc); lack = λ is acts ends. ends; memory = λ is. absurd (cc) })
+        [] [] [] base (none_made sealed base old among linked kept whole) (goes_on_now base) [] refl refl
+
+  module _ (result : Result (Unit {0}) SizeFault) (before after : HostState) (random random' : WordsState) (seen : SizeSeen key size small result old new before after random random') where
+    by_outcome : (outcome : Outcome) → seen.outcome ≡ outcome → SeatGoes key false (lines.Size k size) (outcome_reply (sized size) outcome) (Some old) (Some new) before after random random'
+    by_outcome (Went flushed) is =
+        goes_told key false (lines.Size k size) old before after random random' (replies.Sized size)
+        (subst (λ (o : Outcome). CountsFault (host_in o) before.faults after.faults) is seen.on_host, subst (λ (o : Outcome). CountsFault (words_in o) random.faults random'.faults) is seen.on_words) new
+        (told_weaker (λ given. SizeTold size old new given seen.words seen.outcome) (λ given. SeatAsks key false (lines.Size k size) (replies.Sized size) (Some old) (Some new) given before after random random') before after seen.told
+            (λ given told. record {
+              seen = seen_by given seen.words false false;
+              was_seen = record {
+                answers = refl;
+                words = seen.taken;
+                of_host = subst (λ (o : Outcome). CountsFault (host_in o) before.faults after.faults) is seen.on_host;
+                of_words = subst (λ (o : Outcome). CountsFault (words_in o) random.faults random'.faults) is seen.on_words;
+              };
+              turns = whole_turns key false (lines.Size k size) (seen_by given seen.words false false) (replies.Sized size) old (Some new) given whole
+                  (went_turns given seen.words flushed (subst (λ (o : Outcome). SizeTold size old new given seen.words o) is told));
+            })) seen.books seen.seated_new seen.name_is
+    by_outcome (Broke blame) is =
+        goes_told key false (lines.Size k size) old before after random random' (flush_reply (fault_of blame))
+        (subst (λ b. CountsFault b before.faults after.faults) (sym (host_reply blame)) (subst (λ (o : Outcome). CountsFault (host_in o) before.faults after.faults) is seen.on_host),
+            subst (λ b. CountsFault b random.faults random'.faults) (sym (words_reply blame)) (subst (λ (o : Outcome). CountsFault (words_in o) random.faults random'.faults) is seen.on_words)) new
+        (told_weaker (λ given. SizeTold size old new given seen.words seen.outcome) (λ given. SeatAsks key false (lines.Size k size) (flush_reply (fault_of blame)) (Some old) (Some new) given before after random random') before after seen.told
+            (λ given told. record {
+              seen = seen_by given seen.words (host_blamed blame) false;
+              was_seen = record {
+                answers = refl;
+                words = seen.taken;
+                of_host = subst (λ (o : Outcome). CountsFault (host_in o) before.faults after.faults) is seen.on_host;
+                of_words = subst (λ (o : Outcome). CountsFault (words_in o) random.faults random'.faults) is seen.on_words;
+              };
+              turns = whole_turns key false (lines.Size k size) (seen_by given seen.words (host_blamed blame) false) (flush_reply (fault_of blame)) old (Some new) given whole
+                  (broke_turns given seen.words blame (subst (λ (o : Outcome). SizeTold size old new given seen.words o) is told));
+            })) seen.books seen.seated_new seen.name_is
+    by_outcome Lacked is =
+        goes_told key false (lines.Size k size) old before after random random' replies.WordsFault
+        (subst (λ (o : Outcome). CountsFault (host_in o) before.faults after.faults) is seen.on_host, subst (λ (o : Outcome). CountsFault (words_in o) random.faults random'.faults) is seen.on_words) new
+        (told_weaker (λ given. SizeTold size old new given seen.words seen.outcome) (λ given. SeatAsks key false (lines.Size k size) replies.WordsFault (Some old) (Some new) given before after random random') before after seen.told
+            (λ given told. record {
+              seen = seen_by given seen.words false true;
+              was_seen = record {
+                answers = refl;
+                words = seen.taken;
+                of_host = subst (λ (o : Outcome). CountsFault (host_in o) before.faults after.faults) is seen.on_host;
+                of_words = subst (λ (o : Outcome). CountsFault (words_in o) random.faults random'.faults) is seen.on_words;
+              };
+              turns = whole_turns key false (lines.Size k size) (seen_by given seen.words false true) replies.WordsFault old (Some new) given whole
+                  (lacked_turns given seen.words (subst (λ (o : Outcome). SizeTold size old new given seen.words o) is told));
+            })) seen.books seen.seated_new seen.name_is
+    by_outcome Wanted is =
+        goes_wanting key false (lines.Size k size) old before after random random' (record {}) new (record { takes = λ none. none; told = told_weaker (λ given. SizeTold size old new given seen.words seen.outcome) (λ given. Unit {0}) before after seen.told (λ given facts. tt); ends = inr (tt, seen.breaks is) }) seen.books seen.seated_new seen.name_is
+        (subst (λ (o : Outcome). CountsFault (host_in o) before.faults after.faults) is seen.on_host) (subst (λ (o : Outcome). CountsFault (words_in o) random.faults random'.faults) is seen.on_words)
+
+pub size_goes : (key : List ℕ) (k size : ℕ) (old new : SessionState) (result : Result (Unit {0}) SizeFault) (before after : HostState) (random random' : WordsState) → size ≤ 2 ^ 32 → IsSeated key old → old.broken ≡ false
+    → SizesGo result size old new before after random random' → SeatGoes key false (lines.Size k size) (size_result size result) (Some old) (Some new) before after random random'
+size_goes key k size old new result before after random random' small seated whole goes =
+    let seen = size_seen key size small result old new before after random random' seated goes in
+    subst (λ (r : Result Reply Memory). SeatGoes key false (lines.Size k size) r (Some old) (Some new) before after random random') seen.reply_is
+    (by_outcome key k size small old new whole result before after random random' seen seen.outcome refl)

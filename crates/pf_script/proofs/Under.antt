@@ -1,0 +1,195 @@
+-- Lines under a book: what they have in common.
+use Rattle.std.proofs.Common.{◌≡◌, ◌⊎◌, inl, inr, Bool, true, false, List, [], ◌∷◌, ℕ, refl, sym, ◌∙◌, ap, subst, Option, Some, None, Result}
+use Rattle.std.specs.Prelude.{Contains, IsSome}
+use Rattle.node_tree.specs.Sheet.{Sheet}
+use Rattle.pf_io.specs.Disk.{Name, IsImage, reading}
+use Rattle.pf_io.specs.Host.{HostState, OnDisk}
+use Rattle.pf_io.specs.Moments.{Honest, Ran}
+use Rattle.pf_io.specs.Names.{IsTarget}
+use Rattle.pf_io.specs.Words.{WordsState}
+use Rattle.pf_io.specs.declared.faults.Memory.{Memory}
+use Rattle.pf_io.proofs.Telling.{both_same, told_none}
+use Rattle.pf_session.specs.Aside.{Aside, LeavesApart, KeepsApart}
+use Rattle.pf_session.specs.Moving.{IsKeptOn}
+use Rattle.pf_session.specs.Reopening.{Stood}
+use Rattle.pf_session.specs.State.{SessionState}
+use Rattle.pf_script.specs.Book.{Book, Entry, Seal, Agrees}
+use Rattle.pf_script.specs.BookActs.{Deed, Flush, Among, booked_all}
+use Rattle.pf_script.specs.BookDebts.{Flushes, DidAll, Owes, seat_of, seal_of}
+use Rattle.pf_script.specs.BookSeats.{Covering, Covers, KeepsUnder}
+use Rattle.pf_script.specs.BookTurns.{ShowsUnder, no_file, of_book, other_file, Knows, LineUnder, SeatUnder, SeatAgrees, SeatBooked}
+use Rattle.pf_script.specs.Desk.{seat_on}
+use Rattle.pf_script.specs.DeskSteps.{CoversSome, Concerns}
+use Rattle.pf_script.specs.Rules.{IsFirst, rules}
+use Rattle.pf_script.specs.Script.{Seat, Empty, Own}
+use Rattle.pf_script.specs.Turns.{Seen, refused}
+use Rattle.pf_script.specs.declared.line.ScriptLine.{ScriptLine}
+use Rattle.pf_script.specs.declared.reply.Reply.{Reply}
+use Rattle.pf_script.specs.declared.reply.Reply.TheVariants as replies
+use Rattle.pf_script.specs.declared.reply.Why.{Why}
+use Rattle.pf_script.proofs.ActKeeping.{no_sheet, one_act, unchanged_now}
+use Rattle.pf_script.proofs.CallKeeping.{at_both, both_with}
+use Rattle.pf_script.proofs.FlushLine.{flush_act}
+use Rattle.pf_script.proofs.Refusing.{idle_seen, none_taken}
+use Rattle.pf_script.proofs.Seats.{seats_after, seat_is_left}
+use Rattle.pf_script.proofs.StepKeeping.{keeps_more}
+use Rattle.pf_script.proofs.Showing.{ShowsSome, same_session}
+
+-- how a seat looks that shows a session
+abbrev pub LooksLike : Option SessionState → Seat → Type 0
+LooksLike None seat = seat ≡ Empty
+LooksLike (Some own) seat = ShowsSome seat own
+
+pub looks_like : (book : Book) (seats : List Seal) (seat : Seat) (session : Option SessionState) → ShowsUnder book seats seat session → LooksLike session seat
+looks_like book seats seat None (no_file is none) = is
+looks_like book seats seat None (of_book sheet own whole seated kept is some) = absurd (cc)
+looks_like book seats seat None (other_file shown own free key name broken is some) = absurd (cc)
+looks_like book seats seat (Some s) (no_file is none) = absurd (cc)
+looks_like book seats seat (Some s) (of_book sheet own whole seated kept is some) =
+    let same = same_session s own some in
+    record { shown = seat_on sheet own; key_is = ap (λ (x : SessionState). x.key) same; name_is = ap (λ (x : SessionState). x.name) same; broken_is = ap (λ (x : SessionState). x.broken) same; seat_is = is }
+looks_like book seats seat (Some s) (other_file shown own free key name broken is some) =
+    let same = same_session s own some in
+    record { shown = shown; key_is = key ∙ ap (λ (x : SessionState). x.key) same; name_is = name ∙ ap (λ (x : SessionState). x.name) same; broken_is = broken ∙ ap (λ (x : SessionState). x.broken) same; seat_is = is }
+
+-- a seat for a session that is covered
+record SeatAfter (book : Book) (seats : List Seal) (new : Option SessionState) : Type 0 where
+  after : Seat
+  shows : ShowsUnder book seats after new
+
+seat_after : (book : Book) (seats : List Seal) (new : Option SessionState) → CoversSome new book seats → SeatAfter book seats new
+seat_after book seats None covers = record { after = Empty; shows = no_file refl refl }
+seat_after book seats (Some s) covers = by_broken s.broken refl
+  where
+    free : (s.broken ≡ true) ⊎ (book s.name ≡ None) → SeatAfter book seats (Some s)
+    free is = record { after = Own (seat_on no_sheet s); shows = other_file (seat_on no_sheet s) s is refl refl refl refl refl }
+
+    by_entry : s.broken ≡ false → (o : Option Entry) → book s.name ≡ o → SeatAfter book seats (Some s)
+    by_entry whole None was = free (inr was)
+    by_entry whole (Some entry) was = let on = covers entry whole was in record { after = Own (seat_on on.0 s); shows = of_book on.0 s whole on.1 on.2 refl refl }
+
+    by_broken : (b : Bool) → s.broken ≡ b → SeatAfter book seats (Some s)
+    by_broken true is = free (inl is)
+    by_broken false is = by_entry is (book s.name) refl
+
+module _ (key : List ℕ) (taken : Bool) (line : ScriptLine) (seen : Seen) (reply : Reply) where
+  -- where the book does not tell what the line comes to, it is kept
+  pub unknown_under : (before : Covering) (old new : Option SessionState) (a b : Honest) → KeepsUnder before (CoversSome new) (Concerns taken line old) a b
+      → (book : Book) (seats : List Seal) (seat : Seat) → Agrees book seats a.now → IsImage a.now (reading a.now) → before book seats → ¬ (Knows book key seat line reply) → LineUnder key taken line seen reply old new book seats seat a b
+  unknown_under before old new a b keeps book seats seat agrees reads covers unknown =
+      let kept = keeps book seats agrees reads covers in
+      let then = seat_after (booked_all kept.0 book) kept.1 new kept.3 in
+      record { acts = kept.0; left = kept.1; after = then.after; did = kept.2; shows = then.shows; spares = kept.4; concerned = kept.5; turn = λ knows. absurd (unknown knows) }
+
+  -- a line on a whole session
+  module _ (old : SessionState) (whole : old.broken ≡ false) (new : Option SessionState) (a b : Honest) where
+    -- the session is of the book, and on a sheet that its file stands for
+    pub record OnBase (book : Book) (seats : List Seal) (base : Sheet) : Type 0 where
+      pub entry : Entry
+      pub was : book old.name ≡ Some entry
+      pub seated : Contains seats (seat_of old.key old.name base)
+      pub kept : IsKeptOn base old
+      pub stood : Stood old.key old.name base a.now
+      pub image : IsImage a.now (reading a.now)
+
+    abbrev pub KnownUnder : Type 0
+    KnownUnder = (book : Book) (seats : List Seal) → Agrees book seats a.now → (base : Sheet) → OnBase book seats base → LineUnder key taken line seen reply (Some old) new book seats (Own (seat_on base old)) a b
+
+    no_entry : (book : Book) (seats : List Seal) → book old.name ≡ None → Covers old book seats
+    no_entry book seats none entry is_whole was = let e : None ≡ Some entry = sym none ∙ was in absurd (cc)
+
+    not_broken : old.broken ≡ true → ⊥
+    not_broken broken = let e : true ≡ false = sym broken ∙ whole in absurd (cc)
+
+    unknown_own : (book : Book) (seat : Seat) → LooksLike (Some old) seat → book old.name ≡ None → ¬ (Knows book key seat line reply)
+    unknown_own book seat looks none knows = by_case (subst (λ (x : Seat). Knows book key x line reply) looks.seat_is knows)
+      where
+        by_case : (looks.shown.broken ≡ true) ⊎ IsSome (book looks.shown.name) → ⊥
+        by_case (inl broken) = not_broken (sym looks.broken_is ∙ broken)
+        by_case (inr has) = let e : false ≡ true = subst (λ (o : Option Entry). IsSome o) (ap book looks.name_is ∙ none) has in absurd (cc)
+
+    pub own_under : KeepsUnder (Covers old) (CoversSome new) (Concerns taken line (Some old)) a b → KnownUnder → SeatUnder key taken line seen reply (Some old) new a b
+    own_under keeps known book seats seat agrees reads shows = by_shows shows
+      where
+        unknown : book old.name ≡ None → LineUnder key taken line seen reply (Some old) new book seats seat a b
+        unknown none = unknown_under (Covers old) (Some old) new a b keeps book seats seat agrees reads (no_entry book seats none) (unknown_own book seat (looks_like book seats seat (Some old) shows) none)
+
+        by_entry : (sheet : Sheet) → Contains seats (seat_of old.key old.name sheet) → IsKeptOn sheet old → seat ≡ Own (seat_on sheet old) → (o : Option Entry) → book old.name ≡ o → LineUnder key taken line seen reply (Some old) new book seats seat a b
+        by_entry sheet seated kept is None was = unknown was
+        by_entry sheet seated kept is (Some entry) was =
+            subst (λ (x : Seat). LineUnder key taken line seen reply (Some old) new book seats x a b) (sym is)
+            (known book seats agrees sheet (record { entry = entry; was = was; seated = seated; kept = kept; stood = (agrees.stand (seat_of old.key old.name sheet) entry seated was).stood; image = reads }))
+
+        by_shows : ShowsUnder book seats seat (Some old) → LineUnder key taken line seen reply (Some old) new book seats seat a b
+        by_shows (no_file is none) = absurd (cc)
+        by_shows (of_book sheet own is_whole seated kept is some) =
+            let same = same_session old own some in
+            by_entry sheet (subst (λ (s : SessionState). Contains seats (seat_of s.key s.name sheet)) same seated) (subst (λ (s : SessionState). IsKeptOn sheet s) same kept) (is ∙ ap (λ (s : SessionState). Own (seat_on sheet s)) same) (book old.name) refl
+        by_shows (other_file shown own (inl broken) key_is name_is broken_is is some) = let same = same_session old own some in absurd (not_broken (sym (ap (λ (s : SessionState). s.broken) same) ∙ broken))
+        by_shows (other_file shown own (inr none) key_is name_is broken_is is some) = unknown (subst (λ (s : SessionState). book s.name ≡ None) (same_session old own some) none)
+
+-- so of a call on a host
+pub on_disk_by : (P : Honest → Honest → Type 0) (key : List ℕ) (taken : Bool) (line : ScriptLine) (seen : Seen) (reply : Reply) (old : SessionState) (whole : old.broken ≡ false) (new : Option SessionState) (before after : HostState)
+    → OnDisk before after (KeepsUnder (Covers old) (CoversSome new) (λ name. name ≡ old.name)) → OnDisk before after P
+    → ((a b : Honest) → before.honest ≡ Some a → after.honest ≡ Some b → P a b → KnownUnder key taken line seen reply old whole new a b) → OnDisk before after (SeatUnder key taken line seen reply (Some old) new)
+on_disk_by P key taken line seen reply old whole new before after keeps holds known =
+    both_with P (SeatUnder key taken line seen reply (Some old) new) before.honest after.honest holds
+    (λ a b is is2 p.
+    own_under key taken line seen reply old whole new a b
+    (keeps_more (Covers old) (CoversSome new) (λ name. name ≡ old.name) (Concerns taken line (Some old)) a b (λ name same. inl same)
+        (at_both (KeepsUnder (Covers old) (CoversSome new) (λ name. name ≡ old.name)) before.honest after.honest a b is is2 keeps))
+    (known a b is is2 p))
+
+-- of one that changes the session's name alone
+pub on_disk : (key : List ℕ) (taken : Bool) (line : ScriptLine) (seen : Seen) (reply : Reply) (old : SessionState) (whole : old.broken ≡ false) (new : Option SessionState) (before after : HostState)
+    → OnDisk before after (KeepsUnder (Covers old) (CoversSome new) (λ name. name ≡ old.name)) → Aside old.name before after
+    → ((a b : Honest) → before.honest ≡ Some a → after.honest ≡ Some b → Ran (LeavesApart old.name) (KeepsApart old.name) a b → KnownUnder key taken line seen reply old whole new a b)
+    → OnDisk before after (SeatUnder key taken line seen reply (Some old) new)
+on_disk key taken line seen reply old whole new before after keeps aside known = on_disk_by (Ran (LeavesApart old.name) (KeepsApart old.name)) key taken line seen reply old whole new before after keeps aside known
+
+-- no act is of any name, and one flush is of the session's
+pub none_concerned : (taken : Bool) (line : ScriptLine) (old : Option SessionState) (name : Name) → Among [] name → Concerns taken line old name
+none_concerned taken line old name none = absurd none
+
+pub one_concerned : (taken : Bool) (line : ScriptLine) (old : SessionState) (done : Bool) (next : Sheet) (name : Name) → Among (flush_act old next done ∷ []) name → Concerns taken line (Some old) name
+one_concerned taken line old done next name (inl same) = inl same
+one_concerned taken line old done next name (inr none) = absurd none
+
+-- a flush that was done or failed, as one act
+pub flush_did : (book : Book) (seats : List Seal) (done : Bool) (key : List ℕ) (name : Name) (base next : Sheet) (a b : Honest) (entry : Entry) → IsTarget name → Ran (LeavesApart name) (KeepsApart name) a b → IsImage b.now (reading b.now)
+    → book name ≡ Some entry → Contains seats (seat_of key name base) → Flushes done base (seat_of key name next) a b
+    → DidAll book seats (record { deed = Flush (seat_of key name next); done = done } ∷ []) (seats_after (Flush (seat_of key name next)) done seats) a b
+flush_did book seats done key name base next a b entry target others reads was seated flushes =
+    let deed = Flush (seat_of key name next) in
+    one_act book seats deed done a b (record { targets = target; others = others; reads = reads }) (subst (λ (o : Option Entry). Owes seats deed done o a b) (sym was) (base, seated, flushes))
+
+-- the seat that a deed leaves, of a session of its key and name
+pub left_seat : (deed : Deed) (seats : List Seal) (new : SessionState) → new.key ≡ (seal_of deed).key → new.name ≡ (seal_of deed).name → Contains (seats_after deed true seats) (seat_of new.key new.name (seal_of deed).sheet)
+left_seat deed seats new key_is name_is =
+    let sheet = (seal_of deed).sheet in
+    subst (λ (k : List ℕ). Contains (seats_after deed true seats) (seat_of k new.name sheet)) (sym key_is)
+    (subst (λ (n : Name). Contains (seats_after deed true seats) (seat_of (seal_of deed).key n sheet)) (sym name_is) (seat_is_left deed seats))
+
+-- a line that is refused by a rule: nothing is done
+pub refused_agrees : (key : List ℕ) (taken : Bool) (line : ScriptLine) (why : Why) (old : Option SessionState) (host : HostState) (words : WordsState) → ((seat : Seat) → LooksLike old seat → IsFirst (rules key taken seat line []) why)
+    → SeatAgrees key taken line (replies.Refused why) old old host host words words
+refused_agrees key taken line why old host words first = record {
+  seen = idle_seen;
+  was_seen = record { answers = told_none host host refl; words = none_taken words; of_host = refl; of_words = refl };
+  under = both_same (SeatUnder key taken line idle_seen (replies.Refused why) old old) host.honest host.honest refl
+      (λ a book seats seat agrees reads shows. record {
+        acts = [];
+        left = seats;
+        after = seat;
+        did = (unchanged_now a, λ s has. has);
+        shows = shows;
+        spares = λ s has apart. has;
+        concerned = λ name none. absurd none;
+        turn = λ _. refused why (first seat (looks_like book seats seat old shows)) (record { host = refl; random = refl }) refl refl refl refl;
+      });
+}
+
+-- a seat that has a session
+pub some_booked : (key : List ℕ) (taken : Bool) (line : ScriptLine) (result : Result Reply Memory) (old : Option SessionState) (own : SessionState) (new : Option SessionState) (before after : HostState) (random random' : WordsState)
+    → old ≡ Some own → SeatBooked key taken line result (Some own) new before after random random' → SeatBooked key taken line result old new before after random random'
+some_booked key taken line result old own new before after random random' is go = subst (λ (o : Option SessionState). SeatBooked key taken line result o new before after random random') (sym is) go

@@ -1,0 +1,100 @@
+use Rattle.std.proofs.Common.{◌≡◌, ◌≢◌, ℕ, List, [], true, false, Bool, refl, sym, ◌∙◌, ap, subst, Option, Some, None, Result, Ok, Err}
+use Rattle.std.proofs.lemmas.Result.{err_from_is_err_and}
+use Rattle.pf_io.specs.declared.faults.Memory.{Memory}
+use Rattle.pf_session.specs.State.{SessionState}
+use Rattle.pf_script.specs.BookTurns.{SeatBooked}
+use Rattle.pf_script.specs.Desk.{Shows}
+use Rattle.pf_script.specs.DeskSteps.{SeatGoes}
+use Rattle.pf_script.specs.SeatReplies.{create_reply}
+use Rattle.pf_script.specs.declared.line.ScriptLine.TheVariants as lines
+use Rattle.pf_script.specs.declared.reply.Reply.{Reply}
+use Rattle.pf_script.specs.declared.reply.Reply.TheVariants as replies
+use Rattle.pf_script.specs.declared.reply.Why.TheVariants as whys
+use Rattle.pf_script.proofs.CreateLine.{create_line, naming_rules}
+use Rattle.pf_script.proofs.OnEmpty.{some_there, none_there, busy_first, taken_first, looks_busy, shows_busy, goes_at, booked_at, empty_unasked}
+use Rattle.pf_script.proofs.Refusing.{refused_goes}
+use Rattle.pf_script.proofs.Showing.{shows_none}
+use Rattle.pf_script.proofs.Under.{LooksLike, refused_agrees}
+use Rattle.pf_script.proofs.opening.create_file.Goals as goal
+
+pub returns-then-is_some-clause-goes : goal.returns-then-is_some-clause-goes
+returns-then-is_some-clause-goes g c k seated =
+    let line = lines.Create k c.args.name.now in
+    refused_goes c.args.key.now c.args.taken line whys.SeatBusy c.args.seat.now (g.H.Host.state c.args.host.now) (g.R.Words.state c.args.random.now)
+    (λ sealed seat shows. busy_first (naming_rules c.args.name.now []) c.args.taken seat (shows_busy sealed c.args.seat.now (some_there c.args.seat.now (sym c.is_some.ensures ∙ c.if-is_some.true)) seat shows)) seated
+
+pub returns-then-is_some-clause-booked : goal.returns-then-is_some-clause-booked
+returns-then-is_some-clause-booked g c k seated =
+    let line = lines.Create k c.args.name.now in
+    refused_agrees c.args.key.now c.args.taken line whys.SeatBusy c.args.seat.now (g.H.Host.state c.args.host.now) (g.R.Words.state c.args.random.now)
+    (λ seat looks. busy_first (naming_rules c.args.name.now []) c.args.taken seat (looks_busy c.args.seat.now (some_there c.args.seat.now (sym c.is_some.ensures ∙ c.if-is_some.true)) seat looks))
+
+pub returns-then-taken-clause-goes : goal.returns-then-taken-clause-goes
+returns-then-taken-clause-goes g c k seated =
+    let line = lines.Create k c.args.name.now in
+    let none = none_there c.args.seat.now (sym c.is_some.ensures ∙ c.if-is_some.false) in
+    refused_goes c.args.key.now c.args.taken line whys.NameBusy c.args.seat.now (g.H.Host.state c.args.host.now) (g.R.Words.state c.args.random.now)
+    (λ sealed seat shows. taken_first (naming_rules c.args.name.now []) c.args.taken seat (shows_none sealed seat (subst (λ (o : Option SessionState). Shows sealed seat o) none shows)) c.if-taken.true) seated
+
+pub returns-then-taken-clause-booked : goal.returns-then-taken-clause-booked
+returns-then-taken-clause-booked g c k seated =
+    let line = lines.Create k c.args.name.now in
+    let none = none_there c.args.seat.now (sym c.is_some.ensures ∙ c.if-is_some.false) in
+    refused_agrees c.args.key.now c.args.taken line whys.NameBusy c.args.seat.now (g.H.Host.state c.args.host.now) (g.R.Words.state c.args.random.now)
+    (λ seat looks. taken_first (naming_rules c.args.name.now []) c.args.taken seat (subst (λ (o : Option SessionState). LooksLike o seat) none looks) c.if-taken.true)
+
+pub returns-in_err-text-clause-goes : goal.returns-in_err-text-clause-goes
+returns-in_err-text-clause-goes g c k seated =
+    let line = lines.Create k c.args.name.now in
+    let none = none_there c.args.seat.now (sym c.is_some.ensures ∙ c.if-is_some.false) in
+    let before = g.H.Host.state c.args.host.now in
+    let p = err_from_is_err_and c.from_residual.result c.from_residual.ensures.1 in
+    rw p.1
+    (subst (λ (o : Option SessionState). SeatGoes c.args.key.now c.args.taken line (Err p.0) c.args.seat.now o before before (g.R.Words.state c.args.random.now) (g.R.Words.state c.args.random.now)) (sym none)
+    (goes_at c.args.key.now c.args.taken line (Err p.0) c.args.seat.now None before before (g.R.Words.state c.args.random.now) (g.R.Words.state c.args.random.now) none c.if-taken.false (empty_unasked c.args.key.now line c.args.name.now refl before (g.R.Words.state c.args.random.now) (λ takes. takes))))
+
+pub returns-in-Ok-clause-goes : goal.returns-in-Ok-clause-goes
+returns-in-Ok-clause-goes g c k seated =
+    let before = g.H.Host.state c.args.host.now in
+    let after = g.H.Host.state c.create.new.host in
+    let random = g.R.Words.state c.args.random.now in
+    let random2 = g.R.Words.state c.create.new.random in
+    let none = none_there c.args.seat.now (sym c.is_some.ensures ∙ c.if-is_some.false) in
+    goes_at c.args.key.now c.args.taken (lines.Create k c.args.name.now) (Ok replies.Created) c.args.seat.now (Some c.in-Ok.session) before after random random2 none c.if-taken.false
+    (create_line c.args.key.now k c.args.name.now (Ok c.in-Ok.session) before after random random2 c.utf8.name c.in-Ok.ensures.goes c.in-Ok.ensures.aside (g.met.H.Host.reads_as_image c.create.new.host)).goes
+
+pub returns-in-Err-clause-goes : goal.returns-in-Err-clause-goes
+returns-in-Err-clause-goes g c k seated =
+    let line = lines.Create k c.args.name.now in
+    let before = g.H.Host.state c.args.host.now in
+    let after = g.H.Host.state c.create.new.host in
+    let random = g.R.Words.state c.args.random.now in
+    let random2 = g.R.Words.state c.create.new.random in
+    let none = none_there c.args.seat.now (sym c.is_some.ensures ∙ c.if-is_some.false) in
+    subst (λ (r : Result Reply Memory). SeatGoes c.args.key.now c.args.taken line r c.args.seat.now c.args.seat.now before after random random2) (sym (c.create_fault.ensures ∙ ap (λ (n : List ℕ). create_reply n c.in-Err.fault) c.in_ok-text.ensures))
+    (subst (λ (o : Option SessionState). SeatGoes c.args.key.now c.args.taken line (create_reply c.args.name.now c.in-Err.fault) c.args.seat.now o before after random random2) (sym none)
+    (goes_at c.args.key.now c.args.taken line (create_reply c.args.name.now c.in-Err.fault) c.args.seat.now None before after random random2 none c.if-taken.false
+    (create_line c.args.key.now k c.args.name.now (Err c.in-Err.fault) before after random random2 c.utf8.name c.in-Err.ensures.goes c.in-Err.ensures.aside (g.met.H.Host.reads_as_image c.create.new.host)).goes))
+
+pub returns-in-Ok-clause-booked : goal.returns-in-Ok-clause-booked
+returns-in-Ok-clause-booked g c k seated =
+    let before = g.H.Host.state c.args.host.now in
+    let after = g.H.Host.state c.create.new.host in
+    let random = g.R.Words.state c.args.random.now in
+    let random2 = g.R.Words.state c.create.new.random in
+    let none = none_there c.args.seat.now (sym c.is_some.ensures ∙ c.if-is_some.false) in
+    booked_at c.args.key.now c.args.taken (lines.Create k c.args.name.now) (Ok replies.Created) c.args.seat.now (Some c.in-Ok.session) before after random random2 none c.if-taken.false
+    (create_line c.args.key.now k c.args.name.now (Ok c.in-Ok.session) before after random random2 c.utf8.name c.in-Ok.ensures.goes c.in-Ok.ensures.aside (g.met.H.Host.reads_as_image c.create.new.host)).booked
+
+pub returns-in-Err-clause-booked : goal.returns-in-Err-clause-booked
+returns-in-Err-clause-booked g c k seated =
+    let line = lines.Create k c.args.name.now in
+    let before = g.H.Host.state c.args.host.now in
+    let after = g.H.Host.state c.create.new.host in
+    let random = g.R.Words.state c.args.random.now in
+    let random2 = g.R.Words.state c.create.new.random in
+    let none = none_there c.args.seat.now (sym c.is_some.ensures ∙ c.if-is_some.false) in
+    subst (λ (r : Result Reply Memory). SeatBooked c.args.key.now c.args.taken line r c.args.seat.now c.args.seat.now before after random random2) (sym (c.create_fault.ensures ∙ ap (λ (n : List ℕ). create_reply n c.in-Err.fault) c.in_ok-text.ensures))
+    (subst (λ (o : Option SessionState). SeatBooked c.args.key.now c.args.taken line (create_reply c.args.name.now c.in-Err.fault) c.args.seat.now o before after random random2) (sym none)
+    (booked_at c.args.key.now c.args.taken line (create_reply c.args.name.now c.in-Err.fault) c.args.seat.now None before after random random2 none c.if-taken.false
+    (create_line c.args.key.now k c.args.name.now (Err c.in-Err.fault) before after random random2 c.utf8.name c.in-Err.ensures.goes c.in-Err.ensures.aside (g.met.H.Host.reads_as_image c.create.new.host)).booked))

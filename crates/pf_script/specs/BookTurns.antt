@@ -1,0 +1,111 @@
+-- What a line does under a book: the book goes on beside the state of the script.
+use Rattle.std.specs.Prelude.{⊤, ◌≡◌, ◌⊎◌, ℕ, Bool, true, false, List, length, Contains, Option, Some, None, IfSome, IsSome, IsSomeAnd, Result, Ok, Err}
+use Rattle.node_tree.specs.Sheet.{Sheet}
+use Rattle.pf_io.specs.Disk.{Name, Files, IsImage, reading}
+use Rattle.pf_io.specs.Host.{HostState, Both, IsMore, OnDisk}
+use Rattle.pf_io.specs.Moments.{Honest}
+use Rattle.pf_io.specs.Names.{recovery_of}
+use Rattle.pf_io.specs.Words.{WordsState}
+use Rattle.pf_io.specs.declared.faults.Memory.{Memory}
+use Rattle.pf_session.specs.Asking.{IsTaken as AreTaken}
+use Rattle.pf_session.specs.Moving.{IsKeptOn}
+use Rattle.pf_session.specs.Reopening.{ReopensAs}
+use Rattle.pf_session.specs.State.{SessionState}
+use Rattle.pf_script.specs.Book.{Book, Entry, Seal, Agrees}
+use Rattle.pf_script.specs.BookActs.{Act, Among, booked_all, speaks}
+use Rattle.pf_script.specs.BookDebts.{DidAll, seat_of}
+use Rattle.pf_script.specs.BookSeats.{SparesSeats}
+use Rattle.pf_script.specs.Desk.{DeskState, session_at, seat_on}
+use Rattle.pf_script.specs.DeskSteps.{CountsFault, Concerns, WhereReplied}
+use Rattle.pf_script.specs.Script.{OwnSeat, Seat, Empty, Own, ScriptState, seat_at, seat_of_line}
+use Rattle.pf_script.specs.Turns.{Seen, Standing, SeatTurn, Turn}
+use Rattle.pf_script.specs.Words.{SEATS}
+use Rattle.pf_script.specs.declared.line.ScriptLine.{ScriptLine}
+use Rattle.pf_script.specs.declared.line.ScriptLine.TheVariants as lines
+use Rattle.pf_script.specs.declared.reply.Reply.{Reply}
+use Rattle.pf_script.specs.declared.reply.Reply.TheVariants as replies
+
+-- An opening stands on the sheet as which the file, as it reads before the step, reopens.
+abbrev pub stands_on : List ℕ → Files → Standing
+stands_on key files name given sheet = ReopensAs key sheet (files name) (files (recovery_of name))
+
+-- A seat shows a session: one that is whole and on a name of the book stands on the sheet of one of the seats of the book. Of another one only key and name are known.
+pub data ShowsUnder (book : Book) (seats : List Seal) (seat : Seat) (session : Option SessionState) : Type 0 where
+  no_file : seat ≡ Empty → session ≡ None → ShowsUnder book seats seat session
+  of_book : (sheet : Sheet) (own : SessionState) → own.broken ≡ false → Contains seats (seat_of own.key own.name sheet) → IsKeptOn sheet own → seat ≡ Own (seat_on sheet own) → session ≡ Some own → ShowsUnder book seats seat session
+  other_file : (shown : OwnSeat) (own : SessionState) → (own.broken ≡ true) ⊎ (book own.name ≡ None) → shown.key ≡ own.key → shown.name ≡ own.name → shown.broken ≡ own.broken → seat ≡ Own shown → session ≡ Some own
+      → ShowsUnder book seats seat session
+
+-- The book tells what a line comes to on a seat: it speaks of the seat's name, or an opening that is accepted is of a name that it goes on to speak of.
+abbrev pub Knows : Book → List ℕ → Seat → ScriptLine → Reply → Type 0
+Knows book key (Own own) line reply = (own.broken ≡ true) ⊎ IsSome (book own.name)
+Knows book key Empty (lines.Open k name) (replies.Opened size) = IsSomeAnd (book name) (λ entry. speaks key entry ≡ true)
+Knows book key Empty line reply = ⊤
+
+-- what was seen in a step, also of a host that does not tell its answers
+pub record SeenIn (seen : Seen) (before after : HostState) (random random' : WordsState) : Type 0 where
+  pub answers : Both before.given after.given (IsMore seen.given)
+  pub words : Both random.left random'.left (AreTaken seen.words)
+  pub of_host : CountsFault seen.host_failed before.faults after.faults
+  pub of_words : CountsFault seen.words_failed random.faults random'.faults
+
+-- A line on a seat: what was done to names owes what it has to, and is that of the line's turn, where the book tells it.
+pub record LineUnder (key : List ℕ) (taken : Bool) (line : ScriptLine) (seen : Seen) (reply : Reply) (old new : Option SessionState) (book : Book) (seats : List Seal) (seat : Seat) (a b : Honest) : Type 0 where
+  pub acts : List Act
+  pub left : List Seal
+  pub after : Seat
+  pub did : DidAll book seats acts left a b
+  pub shows : ShowsUnder (booked_all acts book) left after new
+  pub spares : SparesSeats acts seats left
+  pub concerned : (name : Name) → Among acts name → Concerns taken line old name
+  pub turn : Knows book key seat line reply → SeatTurn (stands_on key (reading a.now)) key taken seat line seen reply acts after
+
+-- so under each book that agrees with the disk before, on each seat that shows the session
+abbrev pub SeatUnder : List ℕ → Bool → ScriptLine → Seen → Reply → Option SessionState → Option SessionState → Honest → Honest → Type 0
+SeatUnder key taken line seen reply old new a b =
+    (book : Book) (seats : List Seal) (seat : Seat) → Agrees book seats a.now → IsImage a.now (reading a.now) → ShowsUnder book seats seat old → LineUnder key taken line seen reply old new book seats seat a b
+
+pub record SeatAgrees (key : List ℕ) (taken : Bool) (line : ScriptLine) (reply : Reply) (old new : Option SessionState) (before after : HostState) (random random' : WordsState) : Type 0 where
+  pub seen : Seen
+  pub was_seen : SeenIn seen before after random random'
+  pub under : OnDisk before after (SeatUnder key taken line seen reply old new)
+
+-- a line on one seat that was replied to
+abbrev pub SeatBooked : List ℕ → Bool → ScriptLine → Result Reply Memory → Option SessionState → Option SessionState → HostState → HostState → WordsState → WordsState → Type 0
+SeatBooked key taken line result old new before after random random' = WhereReplied result (λ reply. SeatAgrees key taken line reply old new before after random random')
+
+-- The state of a script is that of a desk, under a book.
+pub record IsStateUnder (book : Book) (seats : List Seal) (state : ScriptState) (desk : DeskState) : Type 0 where
+  pub key_is : state.key ≡ desk.key
+  pub eight : length state.seats ≡ SEATS
+  pub shows : (k : ℕ) → ShowsUnder book seats (seat_at state k) (session_at desk k)
+
+abbrev pub KnowsLine : Book → ScriptState → ScriptLine → Reply → Type 0
+KnowsLine book state line reply = IfSome (seat_of_line line) (λ k. Knows book state.key (seat_at state k) line reply)
+
+-- A line on a desk.
+pub record TurnUnder (line : ScriptLine) (seen : Seen) (reply : Reply) (new : DeskState) (book : Book) (seats : List Seal) (state : ScriptState) (a b : Honest) : Type 0 where
+  pub acts : List Act
+  pub left : List Seal
+  pub after : ScriptState
+  pub did : DidAll book seats acts left a b
+  pub is_state : IsStateUnder (booked_all acts book) left after new
+  pub turn : KnowsLine book state line reply → Turn (stands_on state.key (reading a.now)) state line seen reply acts after
+
+abbrev pub DeskUnder : ScriptLine → Seen → Reply → DeskState → DeskState → Honest → Honest → Type 0
+DeskUnder line seen reply old new a b =
+    (book : Book) (seats : List Seal) (state : ScriptState) → Agrees book seats a.now → IsImage a.now (reading a.now) → IsStateUnder book seats state old → TurnUnder line seen reply new book seats state a b
+
+pub record DeskAgrees (line : ScriptLine) (reply : Reply) (old new : DeskState) (before after : HostState) (random random' : WordsState) : Type 0 where
+  pub seen : Seen
+  pub was_seen : SeenIn seen before after random random'
+  pub under : OnDisk before after (DeskUnder line seen reply old new)
+
+-- a line on a desk that was replied to
+abbrev pub DeskBooked : ScriptLine → Result Reply Memory → DeskState → DeskState → HostState → HostState → WordsState → WordsState → Type 0
+DeskBooked line result old new before after random random' = WhereReplied result (λ reply. DeskAgrees line reply old new before after random random')
+
+-- the closing of a seat after the last line
+abbrev pub EndBooked : ℕ → Option Reply → DeskState → DeskState → HostState → HostState → WordsState → WordsState → Type 0
+EndBooked seat None old new before after random random' = ⊤
+EndBooked seat (Some reply) old new before after random random' = DeskBooked (lines.Close seat) (Ok reply) old new before after random random'
