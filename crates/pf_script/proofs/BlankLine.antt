@@ -1,5 +1,5 @@
 -- A blank line on a desk.
-use Rattle.std.proofs.Common.{◌≡◌, refl, [], Ok}
+use Rattle.std.proofs.Common.{refl, [], Ok}
 use Rattle.pf_io.specs.Host.{HostState}
 use Rattle.pf_io.specs.Words.{WordsState}
 use Rattle.pf_io.proofs.Telling.{told_by, told_none, both_same}

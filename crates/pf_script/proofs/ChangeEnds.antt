@@ -1,9 +1,8 @@
 -- How a line goes on by a change of its session.
-use Rattle.std.proofs.Common.{◌≡◌, inl, inr, Bool, true, false, List, [], ◌∷◌, ◌++◌, ℕ, refl, sym, ◌∙◌, ap, subst, Option, Some, None, Result, Ok, Err, length}
+use Rattle.std.proofs.Common.{◌≡◌, Bool, true, false, List, [], ◌∷◌, ◌++◌, ℕ, refl, sym, ◌∙◌, ap, subst, None, Result, Ok, Err, length}
 use Rattle.std.specs.Prelude.{Contains}
 use Rattle.std.proofs.lemmas.List.{append-nil, append_assoc}
 use Rattle.std.proofs.lemmas.List.Elements.{Contains-push}
-use Rattle.node_layout.specs.declared.damage.Damage.{Damage}
 use Rattle.node_tree.specs.Applying.{Step}
 use Rattle.node_tree.specs.Opened.{Given}
 use Rattle.node_tree.specs.Sheet.{Sheet}
@@ -18,17 +17,16 @@ use Rattle.pf_session.specs.Changing.{IsFlushedFirst, IsRoomy, StepState}
 use Rattle.pf_session.specs.State.{SessionState}
 use Rattle.pf_script.specs.BookActs.{Flush, Act}
 use Rattle.pf_script.specs.BookDebts.{seat_of}
-use Rattle.pf_script.specs.Desk.{seat_on}
 use Rattle.pf_script.specs.DeskSteps.{Unfolds, in_the_end, then_more}
 use Rattle.pf_script.specs.Script.{OwnSeat, sheets_of}
 use Rattle.pf_script.specs.SeatReplies.{flush_reply}
-use Rattle.pf_script.specs.SeatSteps.{AsksFor, Seals}
+use Rattle.pf_script.specs.SeatSteps.{AsksFor}
 use Rattle.pf_script.specs.Turns.{Blame, ByHost, ByDamage, flushes, BlamesFlush, BlamesFetch}
 use Rattle.pf_script.specs.declared.line.ScriptLine.{ScriptLine}
 use Rattle.pf_script.specs.declared.reply.Reply.TheVariants as replies
 use Rattle.pf_script.proofs.ChangeTold.{Grew, Outcome, Went, Broke, Lacked, Wanted, outcome_of, ChangeTold, told_once, told_lacked, told_unflushed, told_after, flush_more, fetch_more}
 use Rattle.pf_script.proofs.Flushed.{SealsOwn, host_blamed, fault_of}
-use Rattle.pf_script.proofs.StepFacts.{StepFacts, StepOut, flushes_first, fits_at}
+use Rattle.pf_script.proofs.StepFacts.{StepFacts, flushes_first, fits_at}
 use Rattle.pf_script.proofs.StepTurns.{flushes_on, Made, LineEnds, gives, fetch_failed, no_word, flush_failed, fetch_failed_after, made_more, made_after}
 
 -- `before_it` came before the change, and `rest` after it

@@ -1,5 +1,5 @@
 -- A line on a seat that is one change of its session.
-use Rattle.std.proofs.Common.{◌≡◌, inl, inr, Bool, true, false, List, [], ◌∷◌, ◌++◌, ℕ, refl, sym, ◌∙◌, ap, subst, Option, Some, None, Result, Ok, Err, length}
+use Rattle.std.proofs.Common.{◌≡◌, inr, Bool, true, false, List, [], ◌∷◌, ◌++◌, ℕ, refl, sym, ◌∙◌, ap, subst, Some, Result, Ok, Err, length}
 use Rattle.std.specs.Prelude.{Contains}
 use Rattle.std.proofs.lemmas.List.{append-nil}
 use Rattle.node_tree.specs.Applying.{Step}
@@ -16,17 +16,17 @@ use Rattle.pf_session.specs.declared.fault.FlushFault.{FlushFault}
 use Rattle.pf_session.specs.declared.fault.Written.{Written}
 use Rattle.pf_script.specs.BookSeats.{Covers, KeepsUnder}
 use Rattle.pf_script.specs.Desk.{IsSeated, seat_on}
-use Rattle.pf_script.specs.DeskSteps.{Unfolds, in_the_end, CountsFault, SeatAsks, IsChange, TakesNone, SeatGoes, is_host_fault, is_words_fault}
+use Rattle.pf_script.specs.DeskSteps.{in_the_end, CountsFault, SeatAsks, IsChange, TakesNone, SeatGoes, is_host_fault, is_words_fault}
 use Rattle.pf_script.specs.Rules.{NoneRefuses, rules}
-use Rattle.pf_script.specs.Script.{OwnSeat, Own}
+use Rattle.pf_script.specs.Script.{Own}
 use Rattle.pf_script.specs.SeatReplies.{flush_reply}
 use Rattle.pf_script.specs.SeatSteps.{AsksFor, none_left}
 use Rattle.pf_script.specs.Turns.{Blame, IsChangeReply, flushes}
 use Rattle.pf_script.specs.declared.line.ScriptLine.{ScriptLine}
 use Rattle.pf_script.specs.declared.reply.Reply.{Reply}
 use Rattle.pf_script.specs.declared.reply.Reply.TheVariants as replies
-use Rattle.pf_script.proofs.ChangeEnds.{Continues, change_ends}
-use Rattle.pf_script.proofs.ChangeTold.{Grew, Outcome, Went, Broke, Lacked, Wanted, host_in, words_in, ChangeTold, ChangeSeen}
+use Rattle.pf_script.proofs.ChangeEnds.{change_ends}
+use Rattle.pf_script.proofs.ChangeTold.{Grew, Outcome, Went, Broke, Lacked, Wanted, ChangeTold, ChangeSeen}
 use Rattle.pf_script.proofs.Flushed.{FlushCase, lacked, failed, done, flush_case, host_blamed, fault_of}
 use Rattle.pf_script.proofs.OfScript.{of_changed}
 use Rattle.pf_script.proofs.SeatCalls.{seen_by, SheetTurns, whole_turns, host_reply, words_reply, false_true, goes_told, goes_wanting}

@@ -1,41 +1,28 @@
 -- What is told of a change of a session, and how a line goes on by it.
-use Rattle.std.proofs.Common.{◌≡◌, inl, inr, ⊎_elim, Bool, true, false, List, [], ◌∷◌, ◌++◌, ℕ, ◌*◌, refl, sym, ◌∙◌, ap, subst, Option, Some, None, Result, Ok, Err, length}
-use Rattle.std.specs.Prelude.{Contains}
-use Rattle.std.proofs.lemmas.List.{append-nil, append_assoc}
-use Rattle.std.proofs.lemmas.List.Elements.{Contains-append_left, Contains-append_right, Contains-push}
+use Rattle.std.proofs.Common.{◌≡◌, inl, inr, Bool, true, false, List, [], ◌∷◌, ◌++◌, ℕ, ◌*◌, refl, sym, ap, subst, None, Result, Ok, Err}
+use Rattle.std.proofs.lemmas.List.Elements.{Contains-append_left, Contains-append_right}
 use Rattle.node_layout.specs.declared.damage.Damage.{Damage}
 use Rattle.node_tree.specs.Applying.{Step}
-use Rattle.node_tree.specs.Opened.{Given}
 use Rattle.node_tree.specs.Sheet.{Sheet}
 use Rattle.node_tree.specs.State.{TreeState}
 use Rattle.node_tree.specs.declared.fault.TreeFault.{TreeFault}
 use Rattle.node_tree.specs.declared.fault.TreeFault.TheVariants as trees
-use Rattle.node_tree.specs.Unforged.{Unforged}
 use Rattle.pf_io.specs.Disk.{Name}
 use Rattle.pf_io.specs.Host.{Answer, Gave, HostState, Both, WhereTold}
 use Rattle.pf_io.specs.Words.{WordsState}
-use Rattle.pf_io.proofs.Telling.{told_by, told_then, told_weaker, told_none}
+use Rattle.pf_io.proofs.Telling.{told_by, told_then, told_weaker}
 use Rattle.pf_session.specs.Asking.{IsTaken as AreTaken}
 use Rattle.pf_session.specs.Backing.{StandsOn}
 use Rattle.pf_session.specs.Changing.{IsFlushedFirst, IsRoomy, StepGoes, StepState}
-use Rattle.pf_session.specs.Flushing.{FlushGoes}
 use Rattle.pf_session.specs.State.{SessionState}
 use Rattle.pf_session.specs.declared.fault.FlushFault.{FlushFault}
 use Rattle.pf_session.specs.declared.fault.FlushFault.TheVariants as faults
-use Rattle.pf_script.specs.BookActs.{Flush, Act}
-use Rattle.pf_script.specs.BookDebts.{seat_of}
 use Rattle.pf_script.specs.BookSeats.{IsOfScript}
-use Rattle.pf_script.specs.DeskSteps.{CountsFault, Unfolds, in_the_end, then_more}
-use Rattle.pf_script.specs.Script.{OwnSeat, sheets_of}
-use Rattle.pf_script.specs.SeatReplies.{flush_reply}
-use Rattle.pf_script.specs.SeatSteps.{AsksFor}
-use Rattle.pf_script.specs.Turns.{Blame, ByHost, ByDamage, flushes, BlamesFlush, BlamesFetch, IsShort, IsOther}
-use Rattle.pf_script.specs.declared.line.ScriptLine.{ScriptLine}
-use Rattle.pf_script.specs.declared.reply.Reply.TheVariants as replies
-use Rattle.pf_script.proofs.Flushed.{SeenOf, SealsOwn, FlushCase, lacked, failed, done, flush_case, host_blamed, fault_of}
+use Rattle.pf_script.specs.DeskSteps.{CountsFault}
+use Rattle.pf_script.specs.Turns.{Blame, ByHost, ByDamage, BlamesFlush, BlamesFetch, IsShort}
+use Rattle.pf_script.proofs.Flushed.{SealsOwn, FlushCase, lacked, failed, done, host_blamed, fault_of}
 use Rattle.pf_script.proofs.Refusing.{none_taken}
-use Rattle.pf_script.proofs.StepFacts.{StepFacts, host_of, counts_of, step_told, flushes_first, fits_at}
-use Rattle.pf_script.proofs.StepTurns.{flushes_on, Made, LineEnds, gives, fetch_failed, no_word, flush_failed, fetch_failed_after, made_more, made_after}
+use Rattle.pf_script.proofs.StepFacts.{StepFacts, host_of, counts_of, step_told}
 
 -- how a change ended: it was made, after a flush or without one; it failed; a word was wanting; or memory was
 pub data Outcome : Type 0 where

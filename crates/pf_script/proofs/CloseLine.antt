@@ -1,5 +1,5 @@
 -- The line `close`, from the contract of a closing.
-use Rattle.std.proofs.Common.{◌≡◌, ◌⊎◌, inl, inr, Bool, true, false, List, [], ◌∷◌, ◌++◌, ℕ, refl, sym, ◌∙◌, ap, subst, Option, Some, None, Result, Ok, Err}
+use Rattle.std.proofs.Common.{◌≡◌, ◌⊎◌, inl, inr, Bool, true, false, List, [], ◌∷◌, ℕ, refl, sym, ◌∙◌, ap, subst, Some, None, Result, Ok, Err}
 use Rattle.node_tree.specs.Sheet.{Sheet}
 use Rattle.pf_io.specs.Host.{Answer, HostState, Both, OnDisk, ReadsAsImage}
 use Rattle.pf_io.specs.Words.{WordsState}
@@ -10,9 +10,8 @@ use Rattle.pf_session.specs.Backing.{StandsOn}
 use Rattle.pf_session.specs.Ending.{CloseGoes, let_go, flushed_last}
 use Rattle.pf_session.specs.State.{SessionState}
 use Rattle.pf_session.specs.declared.fault.FlushFault.{FlushFault}
-use Rattle.pf_session.specs.declared.fault.FlushFault.TheVariants as faults
 use Rattle.pf_script.specs.BookSeats.{Covers, CoversNone, KeepsUnder}
-use Rattle.pf_script.specs.Desk.{IsSeated, Shows, no_file, seat_on}
+use Rattle.pf_script.specs.Desk.{IsSeated, no_file, seat_on}
 use Rattle.pf_script.specs.DeskSteps.{SeatTurns, SeatGoes}
 use Rattle.pf_script.specs.Rules.{NoneRefuses, rules}
 use Rattle.pf_script.specs.Script.{OwnSeat, Seat, Empty, Own}
@@ -24,10 +23,10 @@ use Rattle.pf_script.specs.declared.reply.Reply.{Reply}
 use Rattle.pf_script.specs.declared.reply.Reply.TheVariants as replies
 use Rattle.pf_script.proofs.CallKeeping.{close_keeps}
 use Rattle.pf_script.proofs.FlushLine.{flush_act}
-use Rattle.pf_script.proofs.Flushed.{SeenOf, SealsOwn, FlushCase, lacked, failed, done, flush_case, host_blamed, fault_of}
+use Rattle.pf_script.proofs.Flushed.{SealsOwn, FlushCase, lacked, failed, done, flush_case, host_blamed, fault_of}
 use Rattle.pf_script.proofs.Refusing.{at_last, not_empty, none_taken}
 use Rattle.pf_script.proofs.SeatCalls.{seen_by, SheetTurns, whole_turns, goes_out, host_reply, words_reply, false_true}
-use Rattle.pf_script.proofs.Showing.{shows_some, ShowsSome}
+use Rattle.pf_script.proofs.Showing.{shows_some}
 
 -- the reply to a closing; what was not flushed is lost where the session was broken
 abbrev pub close_result : Bool → Result (Unit {0}) FlushFault → Reply

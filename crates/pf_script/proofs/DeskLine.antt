@@ -1,5 +1,5 @@
 -- What a function on a desk owes, from what it says of one seat.
-use Rattle.std.proofs.Common.{◌≡◌, Bool, false, List, ℕ, ◌<◌, refl, sym, ◌∙◌, ap, subst, Option, Some, None, Result, get_or, set, length}
+use Rattle.std.proofs.Common.{◌≡◌, Bool, false, List, ℕ, ◌<◌, refl, sym, ◌∙◌, ap, subst, Option, Some, None, Result, get_or, set}
 use Rattle.std.specs.Prelude.{IfSome}
 use Rattle.std.proofs.lemmas.List.{get_or_default, set-get_or}
 use Rattle.pf_io.specs.Host.{HostState}

@@ -1,25 +1,23 @@
 -- A line on one seat of a desk, as one on the desk.
 use Rattle.std.proofs.Common.{◌≡◌, ◌≢◌, ◌⊎◌, inl, inr, ⊎_elim, Bool, true, false, List, [], ◌++◌, ℕ, ◌<◌, refl, sym, ◌∙◌, ap, subst, Option, Some, None, Result, Ok, Err, get_or, set, length}
-use Rattle.std.specs.Prelude.{IsTrue, ◌↔◌, IfSome, IsSomeAnd}
+use Rattle.std.specs.Prelude.{IsTrue, ◌↔◌, IfSome}
 use Rattle.std.proofs.lemmas.Bool.Decides.{eqb_tells}
 use Rattle.std.proofs.lemmas.List.{get_or-set_same, get_or-set_other, get_or_default, length-set}
 use Rattle.std.proofs.lemmas.Option.{IfSome_then}
 use Rattle.node_tree.specs.Sheet.{Sheet}
-use Rattle.node_tree.specs.Unforged.{Unforged}
 use Rattle.pf_io.specs.Disk.{Name}
 use Rattle.pf_io.specs.Host.{Answer, HostState, WhereTold}
 use Rattle.pf_io.specs.Moments.{Honest}
 use Rattle.pf_io.specs.Words.{WordsState}
 use Rattle.pf_io.specs.declared.faults.Memory.{Memory}
 use Rattle.pf_io.proofs.Telling.{told_weaker, both_weaker}
-use Rattle.pf_session.specs.Reading.{KeepsFields}
 use Rattle.pf_session.specs.State.{SessionState}
 use Rattle.pf_script.specs.Book.{Book, Seal}
 use Rattle.pf_script.specs.BookActs.{Act}
-use Rattle.pf_script.specs.BookSeats.{Covers, CoversNone, CoversEach, CoversBoth, KeepsUnder}
+use Rattle.pf_script.specs.BookSeats.{Covers, CoversEach, CoversBoth, KeepsUnder}
 use Rattle.pf_script.specs.Desk.{DeskState, session_at, IsSeated, IsSeatOf, IsDesk, Shows, IsStateOf}
-use Rattle.pf_script.specs.DeskSteps.{Unfolds, in_the_end, then_more, SeatAsks, Asks, HasItsName, OtherHas, Concerns, CoversSome, CoversDesk, AnyName, KeepsBooks, KeepsSession, NothingDone, IsBrokenSession, BreaksSeat, SeatIdle, SeatWants, Wants, WhereWanting, WhereReplied, SeatGoes, DeskGoes}
-use Rattle.pf_script.specs.Script.{Seat, Empty, Own, ScriptState, seat_at, HasThisName, IsTaken, state_with, seat_of_line, name_of_line}
+use Rattle.pf_script.specs.DeskSteps.{Unfolds, in_the_end, then_more, SeatAsks, Asks, HasItsName, OtherHas, Concerns, CoversSome, CoversDesk, AnyName, KeepsSession, NothingDone, IsBrokenSession, BreaksSeat, SeatIdle, SeatWants, Wants, WhereWanting, WhereReplied, SeatGoes, DeskGoes}
+use Rattle.pf_script.specs.Script.{Seat, Empty, ScriptState, seat_at, HasThisName, IsTaken, state_with, seat_of_line, name_of_line}
 use Rattle.pf_script.specs.Turns.{SeatTurn, on_seat, on_carried, SaysTaken}
 use Rattle.pf_script.specs.Words.{SEATS}
 use Rattle.pf_script.specs.declared.line.ScriptLine.{ScriptLine}

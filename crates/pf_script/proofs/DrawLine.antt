@@ -1,7 +1,7 @@
 -- The line `draw`, from the contract of a drawing.
-use Rattle.std.proofs.Common.{◌≡◌, Bool, true, false, List, [], ◌∷◌, ◌++◌, ℕ, refl, sym, ◌∙◌, ap, subst, Option, Some, None, Result, Ok, Err}
+use Rattle.std.proofs.Common.{◌≡◌, true, false, List, [], ◌∷◌, ◌++◌, ℕ, refl, sym, ◌∙◌, ap, subst, Option, Some, None, Result, Ok, Err}
 use Rattle.node_tree.specs.Sheet.{Sheet}
-use Rattle.pf_io.specs.Host.{Answer, HostState, Both, OnDisk}
+use Rattle.pf_io.specs.Host.{HostState, Both, OnDisk}
 use Rattle.pf_io.specs.Words.{WordsState}
 use Rattle.pf_io.specs.declared.faults.WordsFault.{WordsFault}
 use Rattle.pf_io.proofs.Telling.{both_same, told_none}
@@ -13,12 +13,11 @@ use Rattle.pf_session.specs.State.{SessionState}
 use Rattle.pf_script.specs.BookSeats.{Covers, KeepsUnder}
 use Rattle.pf_script.specs.Desk.{IsSeated, Shows, whole_file, seat_on}
 use Rattle.pf_script.specs.DeskSteps.{SeatGoes}
-use Rattle.pf_script.specs.Script.{Seat, Own}
+use Rattle.pf_script.specs.Script.{Own}
 use Rattle.pf_script.specs.Turns.{accepted, words_failed, drawn_again, drawn_now as draws_now, no_nonce}
 use Rattle.pf_script.specs.declared.line.ScriptLine.TheVariants as lines
 use Rattle.pf_script.specs.declared.reply.Reply.{Reply}
 use Rattle.pf_script.specs.declared.reply.Reply.TheVariants as replies
-use Rattle.pf_script.proofs.Flushed.{SeenOf}
 use Rattle.pf_script.proofs.OfScript.{of_drawn}
 use Rattle.pf_script.proofs.ReadKeeping.{draw_keeps}
 use Rattle.pf_script.proofs.Refusing.{at_last, none_then, none_taken}

@@ -1,6 +1,5 @@
 -- What a flush of a session seals, as a seat of a script sees it.
-use Rattle.std.proofs.Common.{◌≡◌, inl, inr, Bool, true, false, List, [], ◌∷◌, ◌++◌, ℕ, ◌*◌, ◌<◌, ◌≤◌, refl, sym, ◌∙◌, ap, subst, Option, Some, None, Result, Ok, Err, length}
-use Rattle.std.specs.Prelude.{Contains}
+use Rattle.std.proofs.Common.{◌≡◌, Bool, true, false, List, [], ◌∷◌, ◌++◌, ℕ, ◌*◌, ◌≤◌, refl, ap, subst, None, Result, Ok, Err, length}
 use Rattle.std.proofs.lemmas.List.FromFn.{length-map-range_with_len}
 use Rattle.std.proofs.lemmas.List.Elements.{Contains-push}
 use Rattle.node_layout.specs.Places.{node_count}
@@ -11,16 +10,15 @@ use Rattle.node_tree.specs.Next.{NextSheet}
 use Rattle.node_tree.specs.Sheet.{Sheet, IsLinked}
 use Rattle.node_tree.specs.State.{TreeState}
 use Rattle.pf_io.specs.Counts.{counted}
-use Rattle.pf_io.specs.Disk.{Name}
 use Rattle.pf_io.specs.Host.{Answer, Gave, Made, HostState, Both, IsMore}
 use Rattle.pf_io.specs.Names.{side_of}
 use Rattle.pf_io.specs.Words.{WordsState}
 use Rattle.pf_io.proofs.Telling.{told_none}
-use Rattle.pf_session.specs.Asking.{Failing, NoCall, AReading, AWriting, AnotherCall, faults_after, kind_of, Asked, Stopped, Took, TookFewer, IsTaken as AreTaken}
+use Rattle.pf_session.specs.Asking.{faults_after, kind_of, IsTaken as AreTaken}
 use Rattle.pf_session.specs.Backing.{IsBacked, StandsOn}
 use Rattle.pf_session.specs.Copying.{copied}
 use Rattle.pf_session.specs.Drawing.{WordsCame}
-use Rattle.pf_session.specs.Flushing.{Seals as SealsNext, SealsEach, FlushShort, FlushGoes, no_words, had_words, SealGoes, node_short, call_failed, flushed}
+use Rattle.pf_session.specs.Flushing.{Seals as SealsNext, FlushShort, FlushGoes, no_words, had_words, SealGoes, node_short, call_failed, flushed}
 use Rattle.pf_session.specs.Sealing.{Replaces}
 use Rattle.pf_session.specs.State.{SessionState}
 use Rattle.pf_session.specs.declared.fault.FlushFault.{FlushFault}

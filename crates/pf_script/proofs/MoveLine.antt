@@ -1,15 +1,12 @@
 -- The line `move`, from the contract of a move.
-use Rattle.std.proofs.Common.{◌≡◌, ◌⊎◌, inl, inr, ⊎_elim, Bool, true, false, List, [], ◌∷◌, ◌++◌, ℕ, ◌*◌, ◌<◌, refl, sym, ◌∙◌, ap, subst, Option, Some, None, Result, Ok, Err, length}
+use Rattle.std.proofs.Common.{◌≡◌, ◌⊎◌, inl, inr, Bool, true, false, List, [], ◌∷◌, ◌++◌, ℕ, ◌*◌, refl, sym, ◌∙◌, ap, subst, Option, Some, None, Result, Ok, Err}
 use Rattle.std.specs.Prelude.{Contains}
-use Rattle.std.proofs.lemmas.List.{append-nil, append_assoc}
-use Rattle.std.proofs.lemmas.List.Elements.{Contains-push, Contains-append_left, Contains-append_right}
+use Rattle.std.proofs.lemmas.List.{append_assoc}
+use Rattle.std.proofs.lemmas.List.Elements.{Contains-push, Contains-append_right}
 use Rattle.node_layout.specs.Places.{node_count}
 use Rattle.node_layout.specs.declared.damage.Damage.{Damage}
 use Rattle.node_tree.specs.Backing.{now}
-use Rattle.node_tree.specs.Next.{NextSheet}
 use Rattle.node_tree.specs.Sheet.{Sheet, IsLinked}
-use Rattle.node_tree.specs.State.{TreeState}
-use Rattle.node_tree.specs.Unforged.{Unforged}
 use Rattle.pf_io.specs.Disk.{Name}
 use Rattle.pf_io.specs.Host.{Answer, LengthWas, Gave, Made, HostState, Both, IsMore, OnDisk, ReadsAsImage}
 use Rattle.pf_io.specs.Names.{side_of}
@@ -17,10 +14,10 @@ use Rattle.pf_io.specs.Words.{WordsState}
 use Rattle.pf_io.specs.declared.faults.Memory.{Memory}
 use Rattle.pf_io.proofs.Telling.{told_by, told_on, told_none, both_then, both_weaker}
 use Rattle.pf_session.specs.Aside.{AsideBoth}
-use Rattle.pf_session.specs.Asking.{IsTaken as AreTaken, NoCall}
-use Rattle.pf_session.specs.Backing.{StandsOn, RestsOn}
+use Rattle.pf_session.specs.Asking.{IsTaken as AreTaken}
+use Rattle.pf_session.specs.Backing.{RestsOn}
 use Rattle.pf_session.specs.Copying.{clean_below, copied}
-use Rattle.pf_session.specs.Drawing.{IsDrawn, WordsCame}
+use Rattle.pf_session.specs.Drawing.{IsDrawn}
 use Rattle.pf_session.specs.Flushing.{SealGoes}
 use Rattle.pf_session.specs.Making.{ReplaceShort}
 use Rattle.pf_session.specs.Moving.{IsKeptOn, FlushesFirst, as_it_is, flushed, FlushFails, IsFree, CarryGoes, Moves, MovesOn, MoveGoes, misnamed, no_memory, look_up_failed, was_there, no_words, not_flushed, not_moved, moved, renamed as renamed_session}
@@ -31,8 +28,8 @@ use Rattle.pf_script.specs.BookActs.{Move, Flush, Act}
 use Rattle.pf_script.specs.BookDebts.{seat_of}
 use Rattle.pf_script.specs.BookSeats.{IsOfScript, Covers, KeepsUnder}
 use Rattle.pf_script.specs.Desk.{IsSeated, Shows, whole_file, broken_file, seat_on}
-use Rattle.pf_script.specs.DeskSteps.{CountsFault, SeatAsks, SeatGoes, CoversSome, Concerns, is_host_fault, is_words_fault, in_the_end}
-use Rattle.pf_script.specs.Rules.{Rule, NoneRefuses, IsFirst, rules, refuses}
+use Rattle.pf_script.specs.DeskSteps.{CountsFault, SeatAsks, SeatGoes, Concerns, is_host_fault, is_words_fault}
+use Rattle.pf_script.specs.Rules.{Rule, NoneRefuses, rules, refuses}
 use Rattle.pf_script.specs.SeatReplies.{flush_reply, move_reply}
 use Rattle.pf_script.specs.declared.line.ScriptLine.{ScriptLine}
 use Rattle.pf_script.specs.declared.line.ScriptLine.TheVariants as lines
@@ -53,10 +50,10 @@ use Rattle.pf_script.proofs.SeatCalls.{seen_by, own_with, SheetTurns, whole_turn
 use Rattle.pf_script.proofs.Showing.{shows_some}
 use Rattle.pf_script.proofs.WriteLine.{nothing_goes}
 use Rattle.pf_script.specs.Script.{OwnSeat, Own, Seat, sheet_of, sheets_of}
-use Rattle.pf_script.specs.SeatSteps.{IsNextSheet, Seals, SealsMoved, resealed, renamed, broken_seat}
-use Rattle.pf_script.specs.Turns.{FlushedToMove, as_it_was, was_changed, IsShort, Blame, ByHost, ByDamage, BlamesFlush, SeatTurn, Failed, Fails, refused, accepted, host_failed, was_damaged, words_failed, moved as moved_on, not_looked_up, not_flushed_to_move, not_moved as not_carried, no_move, flushes, on_carried}
+use Rattle.pf_script.specs.SeatSteps.{IsNextSheet, SealsMoved, renamed, broken_seat}
+use Rattle.pf_script.specs.Turns.{FlushedToMove, as_it_was, was_changed, IsShort, Blame, ByHost, ByDamage, BlamesFlush, SeatTurn, Fails, refused, accepted, host_failed, was_damaged, words_failed, moved as moved_on, not_looked_up, not_flushed_to_move, not_moved as not_carried, no_move, flushes, on_carried}
 use Rattle.pf_script.proofs.FlushLine.{resealed_own}
-use Rattle.pf_script.proofs.Flushed.{SeenOf, SealsOwn, FlushCase, lacked, failed, done, flush_case, next_of, counted_kind, host_blamed, fault_of, seal_ends, FlushEnds, not_begun, not_ended, was_ended}
+use Rattle.pf_script.proofs.Flushed.{SeenOf, next_of, counted_kind, host_blamed, fault_of, seal_ends, FlushEnds, not_begun, not_ended, was_ended}
 
 -- the sheets of acts one after the other
 pub sheets_then : (acts more : List Act) → sheets_of (acts ++ more) ≡ sheets_of acts ++ sheets_of more

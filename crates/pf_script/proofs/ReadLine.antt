@@ -1,5 +1,5 @@
 -- The line `read`, from the contract of a read.
-use Rattle.std.proofs.Common.{◌≡◌, inl, inr, Bool, true, false, List, [], ◌∷◌, ◌++◌, ℕ, ◌-◌, ◌<◌, ◌≤◌, min, refl, sym, ◌∙◌, ap, subst, Option, Some, None, Result, Ok, Err, length, take, drop, cond, arith}
+use Rattle.std.proofs.Common.{◌≡◌, inl, inr, true, false, List, [], ◌∷◌, ◌++◌, ℕ, ◌-◌, ◌<◌, ◌≤◌, min, refl, sym, ◌∙◌, ap, subst, Some, Result, Ok, Err, length, take, drop, cond, arith}
 use Rattle.std.proofs.lemmas.List.{append-nil, take_min, take_all, drop_all, length-drop}
 use Rattle.node_layout.specs.declared.damage.Damage.{Damage}
 use Rattle.node_tree.specs.Backing.{now}
@@ -19,7 +19,6 @@ use Rattle.pf_io.specs.Host.{Answer, HostState, KeepsRest, OnDisk, WhereTold}
 use Rattle.pf_io.specs.Names.{side_of}
 use Rattle.pf_io.specs.Unchanged.{KeepsDisk}
 use Rattle.pf_io.specs.Words.{WordsState}
-use Rattle.pf_io.specs.declared.faults.Memory.{Memory}
 use Rattle.pf_io.proofs.Telling.{told_weaker}
 use Rattle.pf_session.specs.Backing.{IsBacked}
 use Rattle.pf_session.specs.Moving.{IsKeptOn}
@@ -27,14 +26,13 @@ use Rattle.pf_session.specs.Reading.{KeepsFields, StaysRead, BackedRead, ReadsSt
 use Rattle.pf_session.specs.State.{SessionState, file_of}
 use Rattle.pf_script.specs.BookSeats.{Covers, KeepsUnder}
 use Rattle.pf_script.specs.Desk.{IsSeated, Shows, whole_file, seat_on}
-use Rattle.pf_script.specs.DeskSteps.{CountsFault, SeatAsks, SeatGoes}
-use Rattle.pf_script.specs.Rules.{NoneRefuses, rules, refuses}
-use Rattle.pf_script.specs.Script.{OwnSeat, Seat, Own, sheets_of}
+use Rattle.pf_script.specs.DeskSteps.{SeatAsks, SeatGoes}
+use Rattle.pf_script.specs.Rules.{refuses}
+use Rattle.pf_script.specs.Script.{Own}
 use Rattle.pf_script.specs.SeatReplies.{read_reply}
 use Rattle.pf_script.specs.SeatSteps.{PIECE}
-use Rattle.pf_script.specs.Turns.{Seen, SeatTurn, accepted, host_failed, was_damaged, read, not_read, ByHost, ByDamage, BlamesFetch, on_carried}
+use Rattle.pf_script.specs.Turns.{SeatTurn, accepted, host_failed, was_damaged, read, not_read, ByHost, ByDamage, BlamesFetch, on_carried}
 use Rattle.pf_script.specs.declared.line.ScriptLine.TheVariants as lines
-use Rattle.pf_script.specs.declared.reply.Reply.{Reply}
 use Rattle.pf_script.specs.declared.reply.Reply.TheVariants as replies
 use Rattle.pf_script.specs.declared.reply.Why.TheVariants as whys
 use Rattle.pf_script.proofs.Flushed.{length_now}
@@ -42,7 +40,7 @@ use Rattle.pf_script.proofs.OfScript.{of_read}
 use Rattle.pf_script.proofs.ReadKeeping.{read_keeps}
 use Rattle.pf_script.proofs.Refusing.{at_last, none_then, none_taken}
 use Rattle.pf_script.proofs.SeatCalls.{seen_by, own_same, SheetTurns, whole_turns, shows_same, goes_told, goes_wanting}
-use Rattle.pf_script.proofs.StepFacts.{told_also, told_came, given_part}
+use Rattle.pf_script.proofs.StepFacts.{told_also, told_came}
 use Rattle.std.specs.Prelude.{Contains, IfOk, OnErr}
 
 -- all of a buffer was lent

@@ -1,10 +1,10 @@
 -- Lines that are refused by a rule: nothing is done.
-use Rattle.std.proofs.Common.{◌≡◌, ◌≢◌, inl, inr, Bool, true, false, List, [], ◌∷◌, ◌++◌, ℕ, refl, sym, ◌∙◌, ap, subst, Option, Some, None, Result, Ok, Err}
+use Rattle.std.proofs.Common.{◌≡◌, inl, inr, Bool, true, false, List, [], ◌++◌, ℕ, refl, sym, ◌∙◌, subst, Option, Some, None, Result, Ok, Err}
 use Rattle.std.proofs.lemmas.List.{append-nil}
 use Rattle.node_tree.specs.Sheet.{Sheet}
 use Rattle.node_tree.specs.Unforged.{Unforged}
 use Rattle.pf_io.specs.Disk.{Name}
-use Rattle.pf_io.specs.Host.{Answer, HostState, Both, IsMore}
+use Rattle.pf_io.specs.Host.{Answer, HostState, Both}
 use Rattle.pf_io.specs.Disk.{IsImage}
 use Rattle.pf_io.specs.Moments.{Honest, Ran}
 use Rattle.pf_io.specs.Steps.{Stays}
@@ -16,17 +16,16 @@ use Rattle.pf_session.specs.State.{SessionState}
 use Rattle.pf_script.specs.BookActs.{Act}
 use Rattle.pf_script.specs.BookSeats.{Covering, KeepsUnder}
 use Rattle.pf_script.specs.Desk.{IsSeatOf, IsSeated, Shows}
-use Rattle.pf_script.specs.DeskSteps.{Unfolds, in_the_end, then_more, WasSeen, SeatAsks, CoversSome, Concerns, KeepsSession, TakesNone, SeatGoes}
+use Rattle.pf_script.specs.DeskSteps.{Unfolds, in_the_end, then_more, SeatAsks, CoversSome, Concerns, KeepsSession, TakesNone, SeatGoes}
 use Rattle.pf_script.specs.Rules.{Rule, IsFirst, NoneRefuses, IsBroken, rules, seated_rules}
 use Rattle.pf_script.specs.Script.{OwnSeat, Seat, Empty, Own, sheets_of}
-use Rattle.pf_script.specs.Turns.{Seen, SeatTurn, refused, on_carried}
+use Rattle.pf_script.specs.Turns.{Seen, refused}
 use Rattle.pf_script.specs.declared.line.ScriptLine.{ScriptLine}
 use Rattle.pf_script.specs.declared.reply.Reply.{Reply}
 use Rattle.pf_script.specs.declared.reply.Reply.TheVariants as replies
 use Rattle.pf_script.specs.declared.reply.Why.{Why}
 use Rattle.pf_script.specs.declared.reply.Why.TheVariants as whys
 use Rattle.pf_script.proofs.ActKeeping.{unchanged_now}
-use Rattle.pf_script.proofs.Showing.{shows_none, shows_some, ShowsSome}
 
 abbrev pub idle_seen : Seen
 idle_seen = record { given = []; words = []; host_failed = false; words_failed = false }

@@ -1,5 +1,5 @@
 -- A line on a seat, from what was seen of a call on its session.
-use Rattle.std.proofs.Common.{◌≡◌, inl, inr, Bool, true, false, List, [], ◌∷◌, ◌++◌, ℕ, refl, sym, ◌∙◌, ap, subst, Option, Some, None, Result, Ok, Err}
+use Rattle.std.proofs.Common.{◌≡◌, inl, Bool, true, false, List, [], ◌++◌, ℕ, refl, sym, ◌∙◌, ap, subst, Option, Some, None, Ok, Err}
 use Rattle.std.proofs.lemmas.List.{append-nil}
 use Rattle.std.specs.Prelude.{Contains}
 use Rattle.node_tree.specs.Sheet.{Sheet, IsLinked}
@@ -11,9 +11,8 @@ use Rattle.pf_io.specs.declared.faults.Memory.{Memory}
 use Rattle.pf_io.proofs.Telling.{told_by, both_weaker}
 use Rattle.pf_session.specs.State.{SessionState}
 use Rattle.pf_script.specs.BookSeats.{Covering, Covers, CoversNone, KeepsUnder}
-use Rattle.pf_script.specs.BookActs.{Act}
 use Rattle.pf_script.specs.Desk.{IsSeated, Shows, seat_on}
-use Rattle.pf_script.specs.DeskSteps.{Unfolds, CountsFault, SeatTurns, SeatAsks, CoversSome, Concerns, HasItsName, CountsReply, SeatWants, SeatGoes, is_host_fault, is_words_fault}
+use Rattle.pf_script.specs.DeskSteps.{Unfolds, CountsFault, SeatTurns, SeatAsks, Concerns, CountsReply, SeatWants, SeatGoes, is_host_fault, is_words_fault}
 use Rattle.pf_script.specs.Script.{OwnSeat, Seat, Own, sheets_of}
 use Rattle.pf_script.specs.SeatReplies.{flush_reply}
 use Rattle.pf_script.specs.Turns.{Seen, SeatTurn, on_carried, Blame, ByHost, ByDamage}

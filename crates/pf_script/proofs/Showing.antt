@@ -1,5 +1,5 @@
 -- Which seat shows a session.
-use Rattle.std.proofs.Common.{◌≡◌, true, false, List, [], ◌++◌, ℕ, refl, sym, ◌∙◌, ap, subst, Option, Some, None}
+use Rattle.std.proofs.Common.{◌≡◌, true, false, List, ◌++◌, sym, ◌∙◌, ap, subst, Option, Some, None}
 use Rattle.std.specs.Prelude.{Contains}
 use Rattle.std.proofs.lemmas.List.Elements.{Contains-append_left}
 use Rattle.node_tree.specs.Sheet.{Sheet, IsLinked}

@@ -1,5 +1,5 @@
 -- The line `size`, from the contracts of the changes of size that it makes.
-use Rattle.std.proofs.Common.{◌≡◌, inl, inr, Bool, true, false, List, [], ◌∷◌, ◌++◌, ℕ, ◌+◌, ◌^◌, ◌<◌, ◌≤◌, refl, sym, ◌∙◌, ap, subst, Option, Some, None, Result, Ok, Err, length, arith}
+use Rattle.std.proofs.Common.{◌≡◌, inr, Bool, true, false, List, [], ◌∷◌, ℕ, ◌^◌, ◌<◌, ◌≤◌, refl, sym, subst, Some, Result, Ok, Err, length, arith}
 use Rattle.node_tree.specs.Applying.{Step}
 use Rattle.node_tree.specs.Backing.{now}
 use Rattle.node_tree.specs.Sheet.{Sheet}

@@ -1,12 +1,12 @@
 -- What is seen of a change of size that is made piece by piece.
-use Rattle.std.proofs.Common.{◌≡◌, ◌≢◌, inl, inr, Bool, true, false, List, [], ◌∷◌, ◌++◌, ℕ, ◌+◌, ◌^◌, ◌<◌, ◌≤◌, refl, sym, ◌∙◌, ap, subst, Option, Some, None, Result, Ok, Err, length, arith}
+use Rattle.std.proofs.Common.{◌≡◌, ◌≢◌, Bool, true, false, List, [], ◌++◌, ℕ, ◌+◌, ◌^◌, ◌<◌, ◌≤◌, refl, sym, ◌∙◌, ap, subst, Option, Some, None, Result, Ok, Err, arith}
 use Rattle.std.specs.Prelude.{IfSome}
-use Rattle.std.proofs.lemmas.List.{append-nil, append_assoc}
+use Rattle.std.proofs.lemmas.List.{append_assoc}
 use Rattle.node_tree.specs.Applying.{Size}
 use Rattle.node_tree.specs.declared.fault.TreeFault.{TreeFault}
 use Rattle.node_tree.specs.declared.fault.TreeFault.TheVariants as trees
-use Rattle.pf_io.specs.Disk.{Name, IsImage, reading}
-use Rattle.pf_io.specs.Host.{Answer, HostState, Both, WhereTold, OnDisk, ReadsAsImage}
+use Rattle.pf_io.specs.Disk.{IsImage, reading}
+use Rattle.pf_io.specs.Host.{HostState, Both, WhereTold, OnDisk}
 use Rattle.pf_io.specs.Moments.{Honest}
 use Rattle.pf_io.specs.Words.{WordsState}
 use Rattle.pf_io.specs.declared.faults.Memory.{Memory}
@@ -26,10 +26,9 @@ use Rattle.pf_script.specs.DeskSteps.{CountsFault}
 use Rattle.pf_script.specs.SeatReplies.{size_reply, SetsSize, IsNextSize, last_size, piece_size, SizesGo, set_last, set_failed, set_piece}
 use Rattle.pf_script.specs.declared.reply.Reply.{Reply}
 use Rattle.pf_script.specs.declared.reply.Reply.TheVariants as replies
-use Rattle.pf_script.proofs.CallKeeping.{read_image}
 use Rattle.pf_script.proofs.ChangeKeeping.{change_keeps}
 use Rattle.pf_script.proofs.ChangeLine.{outcome_reply, change_seated}
-use Rattle.pf_script.proofs.ChangeTold.{Outcome, Went, Broke, Lacked, Wanted, outcome_of, flush_outcome, host_in, words_in, ChangeTold, ChangeSeen, seen_once, seen_unflushed, seen_after}
+use Rattle.pf_script.proofs.ChangeTold.{Outcome, Went, Wanted, outcome_of, flush_outcome, host_in, words_in, ChangeTold, ChangeSeen, seen_once, seen_unflushed, seen_after}
 use Rattle.pf_script.proofs.Flushed.{flush_case}
 use Rattle.pf_script.proofs.OfScript.{of_flushed}
 use Rattle.pf_script.proofs.Refusing.{none_taken}

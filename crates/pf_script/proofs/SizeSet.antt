@@ -1,8 +1,6 @@
 -- A size that was set.
-use Rattle.std.proofs.Common.{◌≡◌, ◌+◌, ◌<◌, ◌≤◌, subst, arith, Bool, true, false, List, refl, sym, ◌∙◌, ap, ℕ, Option, Some, None, Result, Ok, Err}
+use Rattle.std.proofs.Common.{◌≡◌, ◌+◌, ◌<◌, ◌≤◌, subst, arith, Bool, true, false, List, refl, sym, ◌∙◌, ap, ℕ, Result, Ok, Err}
 use Rattle.node_tree.specs.Applying.{Size}
-use Rattle.node_tree.specs.State.{TreeState}
-use Rattle.node_tree.specs.Stepping.{StepEnds}
 use Rattle.node_tree.specs.declared.fault.TreeFault.{TreeFault}
 use Rattle.pf_io.specs.Host.{HostState, ReadsAsImage}
 use Rattle.pf_io.specs.Words.{WordsState}
@@ -10,7 +8,6 @@ use Rattle.pf_session.specs.Aside.{Aside}
 use Rattle.pf_session.specs.Changing.{refused, unchanged, changed, not_flushed, flushed_and_changed, SizeGoes, StepGoes, stepped}
 use Rattle.pf_session.specs.Faults.{size_of_tree}
 use Rattle.pf_session.specs.State.{SessionState}
-use Rattle.pf_session.specs.declared.fault.FlushFault.{FlushFault}
 use Rattle.pf_session.specs.declared.fault.SizeFault.{SizeFault}
 use Rattle.pf_session.specs.declared.fault.Written.{Written}
 use Rattle.pf_session.specs.Flushing.{FlushGoes, no_words, had_words, SealGoes, node_short, call_failed, flushed}

@@ -1,5 +1,5 @@
 -- What is told of a change of size that is made piece by piece, and how its line goes on.
-use Rattle.std.proofs.Common.{◌≡◌, ◌≢◌, ◌⊎◌, inl, inr, ⊎_elim, Bool, true, false, List, [], ◌∷◌, ◌++◌, ℕ, zero, suc, ◌+◌, ◌^◌, ◌<◌, ◌≤◌, refl, sym, ◌∙◌, ap, subst, Option, Some, None, Result, Ok, Err, length, arith}
+use Rattle.std.proofs.Common.{◌≡◌, ◌≢◌, ⊎_elim, Bool, true, false, List, [], ◌∷◌, ◌++◌, ℕ, zero, suc, ◌+◌, ◌<◌, ◌≤◌, refl, sym, ◌∙◌, subst, length, arith}
 use Rattle.std.proofs.lemmas.Bool.{cases_lt}
 use Rattle.std.proofs.lemmas.Bool.Decides.{eqb_tells}
 use Rattle.std.proofs.lemmas.List.{append-nil, append_assoc}
@@ -12,11 +12,11 @@ use Rattle.pf_script.specs.DeskSteps.{Unfolds, in_the_end}
 use Rattle.pf_script.specs.Rules.{NoneRefuses, rules}
 use Rattle.pf_script.specs.Script.{OwnSeat, Own}
 use Rattle.pf_script.specs.SeatReplies.{flush_reply, IsNextSize, last_size, piece_size}
-use Rattle.pf_script.specs.SeatSteps.{PIECE, IsResize, same, last, piece}
+use Rattle.pf_script.specs.SeatSteps.{IsResize, same, last, piece}
 use Rattle.pf_script.specs.Turns.{Blame, flushes, to_size}
 use Rattle.pf_script.specs.declared.line.ScriptLine.TheVariants as lines
 use Rattle.pf_script.specs.declared.reply.Reply.TheVariants as replies
-use Rattle.pf_script.proofs.ChangeEnds.{Continues, change_ends}
+use Rattle.pf_script.proofs.ChangeEnds.{change_ends}
 use Rattle.pf_script.proofs.ChangeTold.{Outcome, Went, Broke, Lacked, Wanted, ChangeTold}
 use Rattle.pf_script.proofs.Flushed.{host_blamed, fault_of}
 use Rattle.pf_script.proofs.StepTurns.{Made, LineEnds, all_made}

@@ -1,18 +1,17 @@
 -- One step on the tree of a session, as a seat of a script sees it.
-use Rattle.std.proofs.Common.{◌≡◌, ◌≢◌, ◌⊎◌, inl, inr, ◌↔◌, Bool, true, false, List, [], ◌∷◌, ◌++◌, ℕ, ◌*◌, ◌<◌, refl, sym, ◌∙◌, ap, subst, Option, Some, None, Result, Ok, Err, length, cond}
+use Rattle.std.proofs.Common.{◌≡◌, ◌⊎◌, inl, inr, ◌↔◌, Bool, true, false, List, ◌++◌, ℕ, ◌*◌, ◌<◌, sym, ◌∙◌, ap, subst, Option, Some, None, Result, Ok, Err, length, cond}
 use Rattle.std.specs.Prelude.{Contains}
 use Rattle.std.proofs.lemmas.List.Elements.{Contains-append_left, Contains-append_right}
 use Rattle.node_layout.specs.Places.{node_count}
 use Rattle.node_layout.specs.declared.damage.Damage.{Damage}
-use Rattle.node_tree.specs.Applying.{Step, applied, size_after, from_of, to_of, Touches}
+use Rattle.node_tree.specs.Applying.{Step, applied, size_after, Touches}
 use Rattle.node_tree.specs.Backing.{Backs, now}
 use Rattle.node_tree.specs.Fetching.{host_part}
-use Rattle.node_tree.specs.Marks.{MayChange}
 use Rattle.node_tree.specs.Opened.{Given, Fails, is_short, root_fails, child_fails}
 use Rattle.node_tree.specs.Reading.{KeepsFields, IsForeign}
 use Rattle.node_tree.specs.Sheet.{Sheet}
 use Rattle.node_tree.specs.State.{TreeState, Held, root_in}
-use Rattle.node_tree.specs.Stepping.{Steps, StepEnds, Stepped, BreaksAt, BacksWith, StepLeaves, StepDamageComes, BackedStep}
+use Rattle.node_tree.specs.Stepping.{StepEnds, Stepped, BreaksAt, StepLeaves, StepDamageComes, BackedStep}
 use Rattle.node_tree.specs.Unforged.{GivenOf}
 use Rattle.node_tree.specs.declared.fault.TreeFault.{TreeFault}
 use Rattle.node_tree.specs.declared.fault.TreeFault.TheVariants as trees
@@ -29,7 +28,7 @@ use Rattle.pf_script.specs.BookSeats.{IsOfScript}
 use Rattle.pf_script.specs.Desk.{seat_on}
 use Rattle.pf_script.specs.DeskSteps.{CountsFault}
 use Rattle.pf_script.specs.SeatSteps.{FlushesFirst, Fits, IsStepped}
-use Rattle.pf_script.specs.Turns.{Blame, ByHost, ByDamage, IsShort, IsOther, BlamesFetch}
+use Rattle.pf_script.specs.Turns.{ByDamage, BlamesFetch}
 use Rattle.pf_script.proofs.Flushed.{length_now}
 use Rattle.pf_script.proofs.SeatCalls.{own_with}
 

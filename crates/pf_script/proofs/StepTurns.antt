@@ -1,5 +1,5 @@
 -- The steps of a line one after the other, and how it ends.
-use Rattle.std.proofs.Common.{◌≡◌, inl, inr, ⊎_elim, Bool, true, false, List, [], ◌∷◌, ◌++◌, ℕ, refl, sym, ◌∙◌, ap, subst, Option, Some, None, length}
+use Rattle.std.proofs.Common.{◌≡◌, Bool, true, false, List, [], ◌∷◌, ◌++◌, ℕ, refl, sym, ◌∙◌, ap, subst, Some, None, length}
 use Rattle.std.specs.Prelude.{Contains}
 use Rattle.std.proofs.lemmas.List.{append-nil, append_assoc}
 use Rattle.std.proofs.lemmas.List.Elements.{Contains-push}
@@ -18,19 +18,18 @@ use Rattle.pf_session.specs.State.{SessionState}
 use Rattle.pf_script.specs.BookActs.{Flush, Act}
 use Rattle.pf_script.specs.BookDebts.{seat_of}
 use Rattle.pf_script.specs.Desk.{Shows, whole_file, broken_file, seat_on}
-use Rattle.pf_script.specs.DeskSteps.{Unfolds, in_the_end, then_more}
 use Rattle.pf_script.specs.Rules.{NoneRefuses, rules}
 use Rattle.pf_script.specs.Script.{OwnSeat, Seat, Own, sheets_of}
 use Rattle.pf_script.specs.SeatReplies.{flush_reply}
 use Rattle.pf_script.specs.SeatSteps.{FlushesFirst, Fits, Seals, resealed, broken_seat, IsStepped, Makes, at_once, once_flushed, MakesAll, none_left, one_more, AsksFor, MadeSome}
-use Rattle.pf_script.specs.Turns.{Seen, Blame, ByHost, ByDamage, SeatTurn, accepted, host_failed, was_damaged, words_failed, changed, Accepts, Fails, not_fetched, not_fetched_after, not_flushed_before, Loses, no_flush_before, flushes, IsChangeReply, on_carried, BlamesFlush, BlamesFetch}
+use Rattle.pf_script.specs.Turns.{Blame, ByHost, ByDamage, SeatTurn, accepted, host_failed, was_damaged, words_failed, changed, Fails, not_fetched, not_fetched_after, not_flushed_before, no_flush_before, flushes, IsChangeReply, on_carried, BlamesFlush, BlamesFetch}
 use Rattle.pf_script.specs.declared.line.ScriptLine.{ScriptLine}
 use Rattle.pf_script.specs.declared.reply.Reply.{Reply}
 use Rattle.pf_script.specs.declared.reply.Reply.TheVariants as replies
-use Rattle.pf_script.proofs.Flushed.{SealsOwn, host_blamed, fault_of}
+use Rattle.pf_script.proofs.Flushed.{host_blamed, fault_of}
 use Rattle.pf_script.proofs.FlushLine.{resealed_own}
 use Rattle.pf_script.proofs.SeatCalls.{seen_by, false_true}
-use Rattle.pf_script.proofs.StepFacts.{StepFacts, given_part}
+use Rattle.pf_script.proofs.StepFacts.{given_part}
 
 -- the sheets of flushes
 pub sheets_flushed : (own : OwnSeat) (sheets : List Sheet) → sheets_of (flushes own sheets) ≡ sheets

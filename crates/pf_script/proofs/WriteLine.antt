@@ -1,20 +1,17 @@
 -- The lines `write` and `fill`, from the contract of a write.
-use Rattle.std.proofs.Common.{◌≡◌, ◌≢◌, ◌⊎◌, inl, inr, ⊎_elim, Bool, true, false, List, [], ◌∷◌, ◌++◌, ℕ, ◌+◌, ◌^◌, ◌<◌, ◌≤◌, refl, sym, ◌∙◌, ap, subst, Option, Some, None, Result, Ok, Err, length, replicate, arith}
-use Rattle.std.specs.Prelude.{Contains}
-use Rattle.std.proofs.lemmas.List.{append-nil, length-replicate}
+use Rattle.std.proofs.Common.{◌≡◌, ◌≢◌, inl, inr, Bool, true, false, List, [], ◌∷◌, ◌++◌, ℕ, ◌+◌, ◌^◌, ◌<◌, ◌≤◌, refl, sym, ◌∙◌, ap, subst, Some, Result, Ok, Err, length, replicate, arith}
+use Rattle.std.proofs.lemmas.List.{length-replicate}
 use Rattle.node_tree.specs.Applying.{Write}
 use Rattle.node_tree.specs.Backing.{now}
-use Rattle.node_tree.specs.Sheet.{Sheet, IsLinked}
+use Rattle.node_tree.specs.Sheet.{Sheet}
 use Rattle.node_tree.specs.declared.fault.TreeFault.{TreeFault}
 use Rattle.node_tree.specs.declared.fault.TreeFault.TheVariants as trees
-use Rattle.pf_io.specs.Disk.{Name}
-use Rattle.pf_io.specs.Host.{Answer, HostState, OnDisk, ReadsAsImage, WhereTold}
+use Rattle.pf_io.specs.Host.{Answer, HostState, OnDisk, ReadsAsImage}
 use Rattle.pf_io.specs.Words.{WordsState}
 use Rattle.pf_io.specs.declared.faults.Memory.{Memory}
 use Rattle.pf_io.proofs.Telling.{told_none, both_same}
 use Rattle.pf_session.specs.Aside.{Aside}
-use Rattle.pf_session.specs.Backing.{IsBacked}
-use Rattle.pf_session.specs.Changing.{ChangeGoes, refused, unchanged, changed, not_flushed, flushed_and_changed, WriteRefused, WriteGoes, stepped, StepState}
+use Rattle.pf_session.specs.Changing.{refused, unchanged, changed, not_flushed, flushed_and_changed, WriteRefused, WriteGoes, stepped, StepState}
 use Rattle.pf_session.specs.Faults.{write_of_flush, write_of_tree}
 use Rattle.pf_session.specs.State.{SessionState}
 use Rattle.pf_session.specs.declared.fault.FlushFault.{FlushFault}
@@ -23,12 +20,12 @@ use Rattle.pf_session.specs.declared.fault.WriteFault.{WriteFault}
 use Rattle.pf_session.specs.declared.fault.WriteFault.TheVariants as writes
 use Rattle.pf_session.specs.declared.fault.Written.{Written}
 use Rattle.pf_script.specs.BookSeats.{Covers, KeepsUnder}
-use Rattle.pf_script.specs.Desk.{IsSeated, Shows, seat_on}
-use Rattle.pf_script.specs.DeskSteps.{SeatTurns, SeatAsks, CoversSome, Concerns, IsChange, TakesNone, SeatWants, SeatGoes}
+use Rattle.pf_script.specs.Desk.{IsSeated, seat_on}
+use Rattle.pf_script.specs.DeskSteps.{IsChange, TakesNone, SeatGoes}
 use Rattle.pf_script.specs.Rules.{IsFirst, NoneRefuses, rules, seated_rules, writing_rules}
-use Rattle.pf_script.specs.Script.{OwnSeat, Seat, Own}
+use Rattle.pf_script.specs.Script.{Seat, Own}
 use Rattle.pf_script.specs.SeatReplies.{write_reply}
-use Rattle.pf_script.specs.SeatSteps.{IsWrite, nothing, at_place, AsksFor, none_left}
+use Rattle.pf_script.specs.SeatSteps.{IsWrite, nothing, at_place, AsksFor}
 use Rattle.pf_script.specs.Turns.{IsChangeReply, to_write, to_fill, some_sheet}
 use Rattle.pf_script.specs.declared.line.ScriptLine.{ScriptLine}
 use Rattle.pf_script.specs.declared.line.ScriptLine.TheVariants as lines

@@ -1,5 +1,5 @@
 -- What a line does under a book: the book goes on beside the state of the script.
-use Rattle.std.specs.Prelude.{⊤, ◌≡◌, ◌⊎◌, ℕ, Bool, true, false, List, length, Contains, Option, Some, None, IfSome, IsSome, IsSomeAnd, Result, Ok, Err}
+use Rattle.std.specs.Prelude.{⊤, ◌≡◌, ◌⊎◌, ℕ, Bool, true, false, List, length, Contains, Option, Some, None, IfSome, IsSome, IsSomeAnd, Result, Ok}
 use Rattle.node_tree.specs.Sheet.{Sheet}
 use Rattle.pf_io.specs.Disk.{Name, Files, IsImage, reading}
 use Rattle.pf_io.specs.Host.{HostState, Both, IsMore, OnDisk}
@@ -11,7 +11,7 @@ use Rattle.pf_session.specs.Asking.{IsTaken as AreTaken}
 use Rattle.pf_session.specs.Moving.{IsKeptOn}
 use Rattle.pf_session.specs.Reopening.{ReopensAs}
 use Rattle.pf_session.specs.State.{SessionState}
-use Rattle.pf_script.specs.Book.{Book, Entry, Seal, Agrees}
+use Rattle.pf_script.specs.Book.{Book, Seal, Agrees}
 use Rattle.pf_script.specs.BookActs.{Act, Among, booked_all, speaks}
 use Rattle.pf_script.specs.BookDebts.{DidAll, seat_of}
 use Rattle.pf_script.specs.BookSeats.{SparesSeats}

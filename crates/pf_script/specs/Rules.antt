@@ -9,7 +9,7 @@ use Rattle.pf_io.specs.Disk.{Name}
 use Rattle.pf_io.specs.Host.{Answer, LengthWas}
 use Rattle.pf_io.specs.Names.{IsTarget}
 use Rattle.pf_session.specs.Carries.{IsLast}
-use Rattle.pf_script.specs.Script.{OwnSeat, Seat, Empty, Own}
+use Rattle.pf_script.specs.Script.{Seat, Empty, Own}
 use Rattle.pf_script.specs.SeatSteps.{PIECE, LARGEST}
 use Rattle.pf_script.specs.declared.line.ScriptLine.{ScriptLine}
 use Rattle.pf_script.specs.declared.line.ScriptLine.TheVariants as lines

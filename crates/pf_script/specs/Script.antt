@@ -2,7 +2,6 @@
 use Rattle.std.specs.Prelude.{◌≡◌, ◌≢◌, ℕ, Bool, List, [], ◌∷◌, ◌++◌, get_or, set, Option, Some, None}
 use Rattle.pf_io.specs.Disk.{Name}
 use Rattle.node_tree.specs.Sheet.{Sheet}
-use Rattle.pf_script.specs.Book.{Seal}
 use Rattle.pf_script.specs.BookActs.{Deed, Opening, Creation, Flush, Move, Act}
 use Rattle.pf_script.specs.declared.line.ScriptLine.{ScriptLine}
 use Rattle.pf_script.specs.declared.line.ScriptLine.TheVariants as lines

@@ -1,5 +1,5 @@
 -- The turns of a script: what a line may be answered, and what it leaves, by cases on the reply.
-use Rattle.std.specs.Prelude.{◌≡◌, ◌≢◌, ◌⊎◌, ◌↔◌, IsTrue, ℕ, ◌*◌, ◌<◌, Bool, true, false, List, [], ◌∷◌, ◌++◌, length, take, drop, Option, Some, None, Contains, IfSome}
+use Rattle.std.specs.Prelude.{◌≡◌, ◌⊎◌, ◌↔◌, IsTrue, ℕ, ◌<◌, Bool, true, false, List, [], ◌∷◌, ◌++◌, length, take, drop, Option, Some, None, IfSome}
 use Rattle.node_layout.specs.Opening.{IsOpenFault}
 use Rattle.node_layout.specs.declared.damage.Damage.{Damage}
 use Rattle.node_layout.specs.declared.damage.Kind.{Kind}
@@ -12,11 +12,10 @@ use Rattle.node_tree.specs.Unforged.{Carries}
 use Rattle.pf_io.specs.Disk.{Name}
 use Rattle.pf_io.specs.Host.{Answer}
 use Rattle.pf_session.specs.Carries.{IsLast, IsFirst as IsFirstSheet}
-use Rattle.pf_script.specs.Book.{Seal}
 use Rattle.pf_script.specs.BookActs.{Opening, Creation, Flush, Move, Act}
 use Rattle.pf_script.specs.BookDebts.{seat_of}
 use Rattle.pf_script.specs.Rules.{IsFirst, NoneRefuses, rules}
-use Rattle.pf_script.specs.Script.{OwnSeat, Seat, Empty, Own, ScriptState, seat_at, IsTaken, sheets_of, state_with, seat_of_line, name_of_line}
+use Rattle.pf_script.specs.Script.{OwnSeat, Seat, Empty, Own, ScriptState, seat_at, IsTaken, state_with, seat_of_line, name_of_line}
 use Rattle.pf_script.specs.SeatSteps.{FlushesFirst, Fits, Seals, resealed, SealsEmpty, SealsMoved, renamed, broken_seat, MakesAll, AsksFor, MadeSome}
 use Rattle.pf_script.specs.declared.line.ScriptLine.{ScriptLine}
 use Rattle.pf_script.specs.declared.line.ScriptLine.TheVariants as lines

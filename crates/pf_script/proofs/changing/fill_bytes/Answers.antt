@@ -1,7 +1,6 @@
-use Rattle.std.proofs.Common.{◌≡◌, ℕ, List, [], true, false, inl, refl, sym, ◌∙◌, ap, subst, Option, Some, None, Result, Ok, Err, length, replicate}
+use Rattle.std.proofs.Common.{◌≡◌, false, inl, refl, sym, ◌∙◌, subst, Option, Some, Result, Ok, replicate}
 use Rattle.std.proofs.lemmas.Result.{err_from_is_err_and}
 use Rattle.pf_io.specs.declared.faults.Memory.{Memory}
-use Rattle.pf_session.specs.Changing.{WriteGoes}
 use Rattle.pf_session.specs.State.{SessionState}
 use Rattle.pf_script.specs.Desk.{IsSeatOf, Shows}
 use Rattle.pf_script.specs.DeskSteps.{SeatGoes}

@@ -1,4 +1,4 @@
-use Rattle.std.proofs.Common.{◌≡◌, refl, sym, ◌∙◌, subst, false, Result, Ok, Err, arith, ◌+◌, ◌<◌}
+use Rattle.std.proofs.Common.{refl, sym, ◌∙◌, subst, Result, Ok, Err, ◌+◌, ◌<◌}
 use Rattle.std.proofs.lemmas.Result.{err_from_is_err_and}
 use Rattle.pf_session.specs.declared.fault.SizeFault.{SizeFault}
 use Rattle.pf_script.specs.SeatReplies.{SizesGo}

@@ -1,9 +1,9 @@
-use Rattle.std.proofs.Common.{◌≡◌, ◌∷◌, ℕ, ◌<◌, List, [], true, false, inl, refl, sym, ◌∙◌, ap, subst, Option, Some, None, Result, Ok, Err, arith}
+use Rattle.std.proofs.Common.{◌∷◌, ◌<◌, [], false, inl, refl, sym, ◌∙◌, subst, Option, Some, Result, Ok, Err}
 use Rattle.pf_io.specs.declared.faults.Memory.{Memory}
 use Rattle.pf_session.specs.State.{SessionState}
 use Rattle.pf_script.specs.Desk.{IsSeatOf, Shows}
 use Rattle.pf_script.specs.DeskSteps.{SeatGoes}
-use Rattle.pf_script.specs.Rules.{Rule, refuses}
+use Rattle.pf_script.specs.Rules.{refuses}
 use Rattle.pf_script.specs.SeatSteps.{LARGEST}
 use Rattle.pf_script.specs.declared.line.ScriptLine.TheVariants as lines
 use Rattle.pf_script.specs.declared.reply.Reply.{Reply}

@@ -1,4 +1,4 @@
-use Rattle.std.proofs.Common.{◌≡◌, ℕ, List, [], true, false, refl, sym, ◌∙◌, ap, subst, Option, Some, None, Result, Ok, Err, length}
+use Rattle.std.proofs.Common.{false, sym, ◌∙◌, subst, Option, Some, Result, Ok, length}
 use Rattle.pf_io.specs.declared.faults.Memory.{Memory}
 use Rattle.pf_session.specs.State.{SessionState}
 use Rattle.pf_script.specs.Desk.{IsSeatOf, Shows}

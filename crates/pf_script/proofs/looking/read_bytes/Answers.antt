@@ -1,4 +1,4 @@
-use Rattle.std.proofs.Common.{◌≡◌, ◌∷◌, ℕ, ◌<◌, List, [], true, false, inl, refl, sym, ◌∙◌, ap, subst, Option, Some, None, Result, Ok, Err}
+use Rattle.std.proofs.Common.{◌∷◌, ◌<◌, [], false, inl, refl, sym, ◌∙◌, subst, Option, Some, Ok}
 use Rattle.pf_session.specs.State.{SessionState}
 use Rattle.pf_script.specs.Desk.{IsSeatOf, Shows}
 use Rattle.pf_script.specs.Rules.{refuses}

@@ -1,9 +1,9 @@
-use Rattle.std.proofs.Common.{◌≡◌, ℕ, ◌-◌, min, List, true, false, refl, sym, ◌∙◌, ap, subst, Option, Some, None, Result, Ok, Err, length}
+use Rattle.std.proofs.Common.{◌≡◌, ℕ, ◌-◌, min, List, false, sym, ◌∙◌, ap, subst, Some, Result, length}
 use Rattle.std.proofs.lemmas.List.{length-replicate}
 use Rattle.std.proofs.lemmas.Result.{err_from_is_err_and}
 use Rattle.pf_io.specs.declared.faults.Memory.{Memory}
 use Rattle.node_tree.specs.Reading.{DamageComes}
-use Rattle.pf_session.specs.State.{SessionState, file_of}
+use Rattle.pf_session.specs.State.{file_of}
 use Rattle.pf_script.specs.SeatReplies.{read_reply}
 use Rattle.pf_script.specs.DeskSteps.{SeatGoes}
 use Rattle.pf_script.specs.declared.line.ScriptLine.TheVariants as lines

@@ -1,4 +1,4 @@
-use Rattle.std.proofs.Common.{◌≡◌, ℕ, List, inl, inr, true, false, refl, sym, ◌∙◌, subst, Option, None}
+use Rattle.std.proofs.Common.{inl, inr, false, refl, sym, ◌∙◌, subst, Option}
 use Rattle.pf_session.specs.State.{SessionState}
 use Rattle.pf_script.specs.Desk.{Shows}
 use Rattle.pf_script.specs.declared.line.ScriptLine.TheVariants as lines

@@ -1,4 +1,4 @@
-use Rattle.std.proofs.Common.{Bool, ◌≡◌, ◌∷◌, ℕ, List, [], true, false, inl, inr, refl, sym, ◌∙◌, ap, subst, Option, Some, None, Result, Ok, Err}
+use Rattle.std.proofs.Common.{Bool, ◌≡◌, ◌∷◌, ℕ, List, [], true, inl, refl, sym, ◌∙◌, subst, Option, Some, Result, Ok}
 use Rattle.pf_io.specs.Host.{Answer, LengthWas}
 use Rattle.pf_io.specs.Disk.{Name}
 use Rattle.pf_io.specs.Names.{IsTarget}
@@ -8,7 +8,7 @@ use Rattle.pf_script.specs.Rules.{Rule, refuses}
 use Rattle.pf_script.specs.SeatReplies.{move_reply}
 use Rattle.pf_script.specs.declared.reply.Reply.{Reply}
 use Rattle.pf_session.specs.State.{SessionState}
-use Rattle.pf_script.specs.Desk.{IsSeatOf, Shows}
+use Rattle.pf_script.specs.Desk.{Shows}
 use Rattle.pf_script.specs.declared.line.ScriptLine.TheVariants as lines
 use Rattle.pf_script.specs.declared.reply.Reply.TheVariants as replies
 use Rattle.pf_script.specs.declared.reply.Why.TheVariants as whys

@@ -1,4 +1,4 @@
-use Rattle.std.proofs.Common.{◌≡◌, ℕ, List, [], true, false, refl, sym, ◌∙◌, ap, subst, Option, Some, None, Ok, Err}
+use Rattle.std.proofs.Common.{[], false, sym, ◌∙◌, subst, Option, Some, Ok, Err}
 use Rattle.pf_session.specs.State.{SessionState}
 use Rattle.pf_script.specs.Desk.{IsSeatOf, Shows}
 use Rattle.pf_script.specs.declared.line.ScriptLine.TheVariants as lines

@@ -1,9 +1,8 @@
-use Rattle.std.proofs.Common.{◌≡◌, ◌<◌, false, refl, sym, ◌∙◌, subst, None, Some, Ok}
+use Rattle.std.proofs.Common.{◌<◌, false, refl, sym, ◌∙◌, subst, None, Ok}
 use Rattle.std.proofs.lemmas.List.{get_or-set_same}
-use Rattle.pf_io.specs.Words.{WordsState}
 use Rattle.pf_script.specs.Desk.{DeskState}
 use Rattle.pf_script.specs.declared.line.ScriptLine.TheVariants as lines
-use Rattle.pf_script.proofs.DeskLine.{line_made, named_at}
+use Rattle.pf_script.proofs.DeskLine.{line_made}
 use Rattle.pf_script.proofs.desk.Desk.close.Goals as goal
 
 pub invariant_of-self : goal.invariant_of-self

@@ -1,4 +1,4 @@
-use Rattle.std.proofs.Common.{◌≢◌, ◌<◌, ℕ, Option, None, get_or}
+use Rattle.std.proofs.Common.{◌≢◌, ◌<◌, ℕ, None, get_or}
 use Rattle.pf_script.specs.DeskSteps.{HasPath}
 use Rattle.pf_script.proofs.desk.Desk.is_taken.Given as goal
 

@@ -1,5 +1,4 @@
-use Rattle.std.proofs.Common.{◌≡◌, false, refl, None, Some, Ok}
-use Rattle.pf_io.specs.Host.{HostState}
+use Rattle.std.proofs.Common.{false, refl, None}
 use Rattle.pf_io.specs.Words.{WordsState}
 use Rattle.pf_script.specs.Desk.{DeskState}
 use Rattle.pf_script.specs.declared.line.ScriptLine.TheVariants as lines

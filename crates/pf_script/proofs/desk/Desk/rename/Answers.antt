@@ -1,4 +1,4 @@
-use Rattle.std.proofs.Common.{◌≡◌, false, refl, None, Some, Ok}
+use Rattle.std.proofs.Common.{refl}
 use Rattle.pf_script.specs.Desk.{DeskState}
 use Rattle.pf_script.specs.declared.line.ScriptLine.TheVariants as lines
 use Rattle.pf_script.proofs.DeskLine.{line_goes, named_at}

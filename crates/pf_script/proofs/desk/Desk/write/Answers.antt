@@ -1,6 +1,4 @@
-use Rattle.std.proofs.Common.{◌≡◌, false, refl, None, Some, Ok}
-use Rattle.pf_io.specs.Host.{HostState}
-use Rattle.pf_io.specs.Words.{WordsState}
+use Rattle.std.proofs.Common.{false, refl}
 use Rattle.pf_script.specs.Desk.{DeskState}
 use Rattle.pf_script.specs.declared.line.ScriptLine.TheVariants as lines
 use Rattle.pf_script.proofs.DeskLine.{line_made}
