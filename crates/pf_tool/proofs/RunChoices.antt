@@ -205,7 +205,7 @@ done_rendered values template output es stop is stands = manifest_given values t
 pub run_content : (request : Request) (old new : World) (status : ℕ) → Runs request old new status → Content request old new status
 run_content (Decrypt key input) old new status run = took_content key input old new status run
 run_content (Encrypt key input output) old new status run = sealing_content key input output old new status run.ended run.goes run.concludes
-run_content (Session key) old new status run = script_content (λ line none d0 d1 h0 h1 r0 r1 goes. goes.wants.told) key old new status run
+run_content (Session key) old new status run = script_content key old new status run
 run_content (Manifest values template output) old new status run = λ these told zero_is.
     let es = run.outcome.events in
     let done = done_at_zero run.stop old.log new.log status run.reports zero_is in

@@ -31,7 +31,7 @@ use Rattle.pf_tool.proofs.ContentRuns.{told_of, these_told}
 use Rattle.pf_tool.proofs.RunStops.{reported_said}
 use Rattle.pf_tool.proofs.ScriptSeen.{given_in, words_seen, host_flags, words_flags, both_some, told_more}
 use Rattle.pf_tool.proofs.ScriptParts.{Behind}
-use Rattle.pf_tool.proofs.ScriptText.{WantsTold, stops_first, stops, stops_closing, stops_end, ends}
+use Rattle.pf_tool.proofs.ScriptText.{stops_first, stops, stops_closing, stops_end, ends}
 
 -- an item of a list of one value
 pub same_all : {A : Type 0} (n k : ℕ) (a : A) → get_or (replicate n a) k a ≡ a
@@ -150,8 +150,8 @@ stream_says old new status says = ⊎_elim (λ both. both.0) (λ both. both.0) (
 memory_says : (old begun new : World) (status : ℕ) → begun.log ≡ old.log → SaysScript (Err faults.Memory) old.log new.log status → IsStarved begun new status
 memory_says old begun new status same says = ⊎_elim (λ both. inl both.0) (λ both. inr (both.0, both.1 ∙ ap (λ (s : SinkState). counted s.faults) (sym same))) (reported_said _ _ old.log new.log status says)
 
-pub script_content : WantsTold → (key : Name) (old new : World) (status : ℕ) → RunsScript key old new status → TookScript key old new status
-script_content wants_told key old new status run user2 behind long told = by_goes run.ending run.goes run.says
+pub script_content : (key : Name) (old new : World) (status : ℕ) → RunsScript key old new status → TookScript key old new status
+script_content key old new status run user2 behind long told = by_goes run.ending run.goes run.says
   where
     by_goes : (ending : Result ℕ Fault) → ScriptGoes key ending old (with_log new old.log) → SaysScript ending old.log new.log status → (transcript : Transcript) × TookTranscript user2 behind transcript old new status
     by_goes ending (no_key fault falls is) says =
@@ -164,7 +164,7 @@ script_content wants_told key old new status run user2 behind long told = by_goe
     by_goes ending (no_line user begun earlier last now fault read lines stopped same is) says =
         let says2 : SaysScript (Err fault) old.log new.log status = subst (λ (r : Result ℕ Fault). SaysScript r old.log new.log status) is says in
         took_behind key user old begun new status read told.before told.was user2 behind told.now
-        (stops user begun (told.before ++ key_and key user []) (begun_told key user old begun new status read told.before told.was) wants_told fault earlier last now status new lines stopped
+        (stops user begun (told.before ++ key_and key user []) (begun_told key user old begun new status read told.before told.was) fault earlier last now status new lines stopped
         (ap (λ (w : World). w.host) same) (ap (λ (w : World). w.random) same) (ap (λ (w : World). w.out) same)
         (λ memory. memory_says old begun new status read.passed.log (subst (λ (f : Fault). SaysScript (Err f) old.log new.log status) memory says2)) (λ stream. stream_says old.log new.log status (subst (λ (f : Fault). SaysScript (Err f) old.log new.log status) stream says2)))
     by_goes ending (no_closing earlier seat more read last now script closings stopped same is) says =

@@ -29,10 +29,6 @@ use Rattle.pf_tool.proofs.ScriptReading.{lines_on, line_told, text_on, status_on
 use Rattle.pf_tool.proofs.ScriptClosing.{closing_texts, closing_statuses, closing_texts_on, one_closing, seats_on, Closed, seats_closed}
 use Rattle.pf_tool.proofs.ScriptParts.{AllTold, all_told, lines_only, lines_part, with_closings, closed_part, ended_input, Behind}
 
--- the answers of a host go on also in a step for which there was no memory
-abbrev pub WantsTold : Type 0
-WantsTold = (line : ScriptLine) (none : Memory) (d0 d1 : DeskState) (h0 h1 : HostState) (r0 r1 : WordsState) → DeskGoes line (Err none) d0 d1 h0 h1 r0 r1 → WhereTold h0 h1 (λ given. ⊤)
-
 wrote_front : (text all : List ℕ) (old new : SinkState) → all ≡ text → WroteAll text old new → Both old.bytes new.bytes (TakesFront all)
 wrote_front text all old new is wrote = both_weaker (IsMore text) (TakesFront all) old.bytes new.bytes wrote.told (λ before now more. front_taken text [] all before now (is ∙ sym (append-nil text)) more)
 
@@ -68,9 +64,9 @@ module _ (user : List ℕ) (begun : World) (before : List Answer) (was : begun.h
       )
 
   -- the run was cut off at a line
-  pub stops : (wants_told : WantsTold) (fault : Fault) (earlier : ℕ) (last now : At) (status : ℕ) (new : World) → Lines Start earlier last → LineStops fault last now → new.host ≡ now.world.host → new.random ≡ now.world.random → new.out ≡ now.world.out
+  pub stops : (fault : Fault) (earlier : ℕ) (last now : At) (status : ℕ) (new : World) → Lines Start earlier last → LineStops fault last now → new.host ≡ now.world.host → new.random ≡ now.world.random → new.out ≡ now.world.out
       → (fault ≡ faults.Memory → IsStarved begun new status) → (fault ≡ faults.Stream → status ≡ 7) → (transcript : Transcript) × Behind user transcript begun new status
-  stops wants_told fault earlier last now status new lines cause host random out starved seven =
+  stops fault earlier last now status new lines cause host random out starved seven =
       let so_far = lines_answered Start earlier last before was refl lines in
       let told_before = so_far.lines.spoke.told.before ++ given_in (flat_map exchange_of so_far.items) in
       by_cause so_far told_before so_far.lines.spoke.told.now cause
@@ -105,7 +101,7 @@ module _ (user : List ℕ) (begun : World) (before : List Answer) (was : begun.h
           on_step : (told : List Answer) → last.world.host.given ≡ Some told → (none : Memory) → Answers now.reader.line (Err none) last now → (more : List Answer) × WereTold more last.world.host new.host
           on_step told at_last none (inl nothing) = ([], told_nothing told last.world.host new.host at_last (ap (λ (h : HostState). h.given) (host ∙ nothing.same_host)))
           on_step told at_last none (inr step) =
-              let found = both_some (λ b n. IsMore (since b n) b n × ⊤) last.world.host.given now.world.host.given told at_last (wants_told step.0 none last.desk now.desk last.world.host now.world.host last.world.random now.world.random step.2) in
+              let found = both_some (λ b n. IsMore (since b n) b n × ⊤) last.world.host.given now.world.host.given told at_last step.2.wants.told in
               (since told found.0, record { before = told; was = at_last; now = ap (λ (h : HostState). h.given) host ∙ found.1 ∙ ap (λ (l : List Answer). Some l) found.2.0 })
       by_cause so_far told at_last (not_said reply answered failed is) =
           let one = line_told reply last now told at_last answered in
