@@ -109,37 +109,35 @@ module _ (key : List ℕ) (old : SessionState) (seated : IsSeated key old) (whol
     one_name next n (inr none) = absurd none
 
     pub first_known : (mid : SessionState) (words : List (List ℕ)) (start between : HostState) → start.honest ≡ Some m → FirstLeft mid start between words → (t : Honest) × (between.honest ≡ Some t) × FirstKnown mid words t
-    first_known mid words start between is_m (no_flush calm same stays none) =
-        (
-          m,
-          ap (λ (h : HostState). h.honest) stays ∙ is_m,
-          record {
-            sheets = [];
-            base_now = base;
-            first = subst (λ (w : List (List ℕ)). FlushedToMove own w [] (seat_on base mid)) (sym none) (subst (λ (s : SessionState). FlushedToMove own [] [] (seat_on base s)) (sym same) (as_it_was calm));
-            left = seats;
-            did = (unchanged_now m, λ s has. has);
-            spares = λ s has apart. has;
-            only = λ n none. absurd none;
-            entry_now = entry;
-            in_book = was;
-            there_now = there;
-            stood_now = stood;
-            rests = subst (λ (s : SessionState). RestsOn base s) (sym same) (kept.rests calm);
-            key_is = ap (λ (s : SessionState). s.key) same;
-            name_is = ap (λ (s : SessionState). s.name) same;
-            whole_mid = ap (λ (s : SessionState). s.broken) same ∙ whole;
-            calm = ap (λ (s : SessionState). s.changed) same ∙ calm;
-            image_now = image;
-          },
-        )
+    first_known mid words start between is_m (no_flush calm same stays none) = (
+      m,
+      ap (λ (h : HostState). h.honest) stays ∙ is_m,
+      record {
+        sheets = [];
+        base_now = base;
+        first = subst (λ (w : List (List ℕ)). FlushedToMove own w [] (seat_on base mid)) (sym none) (subst (λ (s : SessionState). FlushedToMove own [] [] (seat_on base s)) (sym same) (as_it_was calm));
+        left = seats;
+        did = (unchanged_now m, λ s has. has);
+        spares = λ s has apart. has;
+        only = λ n none. absurd none;
+        entry_now = entry;
+        in_book = was;
+        there_now = there;
+        stood_now = stood;
+        rests = subst (λ (s : SessionState). RestsOn base s) (sym same) (kept.rests calm);
+        key_is = ap (λ (s : SessionState). s.key) same;
+        name_is = ap (λ (s : SessionState). s.name) same;
+        whole_mid = ap (λ (s : SessionState). s.broken) same ∙ whole;
+        calm = ap (λ (s : SessionState). s.changed) same ∙ calm;
+        image_now = image;
+      },
+    )
     first_known mid words start between is_m (one_flush changed seals same dirty aside reads) =
         let t = on_to (Ran (LeavesApart old.name) (KeepsApart old.name)) start.honest between.honest m is_m aside in
         let next = seals base stood.as_sheet.stands.linked kept.backed in
         let ran = at_both (Where (Stood old.key old.name base) (Ran (AsEither old.key old.name base next.0) (StoodIf true old.key old.name next.0))) start.honest between.honest m t.0 is_m t.1 next.2.1 stood in
         let entry_is = (agrees.stand (seat_of old.key old.name base) entry there was).entry_is in
-        let now_entry = sealed_entry old.key next.0.content (Some base.content) true in
-        (
+        let now_entry = sealed_entry old.key next.0.content (Some base.content) true in (
           t.0,
           t.1,
           record {

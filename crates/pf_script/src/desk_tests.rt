@@ -84,19 +84,26 @@ fn a_new_file_is_written_and_read(rt: HostRuntime) -> Result<(), Fail> {
     let mut host = MemHost::new(alloc);
     let mut random = words_of(alloc, 4)?;
     let mut desk = Desk::new(alloc, KEY);
-    expect_all(&rt, alloc, &mut desk, &mut host, &mut random, &[
-        ("create 0 c.pf", "ok create\n"),
-        ("write 0 0 68656c6c6f", "ok write 5\n"),
-        ("write 0 5 21", "ok write 1\n"),
-        ("write 0 7 00", "refused past end 6\n"),
-        ("fill 0 0 32769 00", "refused too long\n"),
-        ("write 0 4294967296 00", "refused too large\n"),
-        ("read 0 0 32769", "refused too long\n"),
-        ("read 0 0 10", "ok read 6 68656c6c6f21\n"),
-        ("read 0 6 1", "ok read 0\n"),
-        ("flush 0", "ok flush\n"),
-        ("close 0", "ok close\n"),
-    ]);
+    expect_all(
+        &rt,
+        alloc,
+        &mut desk,
+        &mut host,
+        &mut random,
+        &[
+            ("create 0 c.pf", "ok create\n"),
+            ("write 0 0 68656c6c6f", "ok write 5\n"),
+            ("write 0 5 21", "ok write 1\n"),
+            ("write 0 7 00", "refused past end 6\n"),
+            ("fill 0 0 32769 00", "refused too long\n"),
+            ("write 0 4294967296 00", "refused too large\n"),
+            ("read 0 0 32769", "refused too long\n"),
+            ("read 0 0 10", "ok read 6 68656c6c6f21\n"),
+            ("read 0 6 1", "ok read 0\n"),
+            ("flush 0", "ok flush\n"),
+            ("close 0", "ok close\n"),
+        ],
+    );
     Ok(())
 }
 
@@ -106,15 +113,22 @@ fn a_shrink_leaves_no_old_bytes(rt: HostRuntime) -> Result<(), Fail> {
     let mut host = MemHost::new(alloc);
     let mut random = words_of(alloc, 8)?;
     let mut desk = Desk::new(alloc, KEY);
-    expect_all(&rt, alloc, &mut desk, &mut host, &mut random, &[
-        ("create 0 d.pf", "ok create\n"),
-        ("fill 0 0 5000 ff", "ok write 5000\n"),
-        ("size 0 100", "ok size 100\n"),
-        ("size 0 5000", "ok size 5000\n"),
-        ("read 0 98 4", "ok read 4 ffff0000\n"),
-        ("read 0 4996 4", "ok read 4 00000000\n"),
-        ("close 0", "ok close\n"),
-    ]);
+    expect_all(
+        &rt,
+        alloc,
+        &mut desk,
+        &mut host,
+        &mut random,
+        &[
+            ("create 0 d.pf", "ok create\n"),
+            ("fill 0 0 5000 ff", "ok write 5000\n"),
+            ("size 0 100", "ok size 100\n"),
+            ("size 0 5000", "ok size 5000\n"),
+            ("read 0 98 4", "ok read 4 ffff0000\n"),
+            ("read 0 4996 4", "ok read 4 00000000\n"),
+            ("close 0", "ok close\n"),
+        ],
+    );
     assert_eq!(&rt; host.bytes("d.pf").map(|bytes| bytes.len()), Some(12288));
     Ok(())
 }
@@ -125,15 +139,22 @@ fn a_write_that_would_make_too_many_nodes_dirty_flushes(rt: HostRuntime) -> Resu
     let mut host = MemHost::new(alloc);
     let mut random = words_of(alloc, 100)?;
     let mut desk = Desk::new(alloc, KEY);
-    expect_all(&rt, alloc, &mut desk, &mut host, &mut random, &[
-        ("create 0 e.pf", "ok create\n"),
-        ("fill 0 0 32768 61", "ok write 32768\n"),
-        ("fill 0 32768 32768 61", "ok write 32768\n"),
-        ("fill 0 65536 32768 61", "ok write 32768\n"),
-        ("fill 0 98304 32768 61", "ok write 32768\n"),
-        ("fill 0 131072 32768 61", "ok write 32768\n"),
-        ("fill 0 163840 32768 61", "ok write 32768 flushed\n"),
-    ]);
+    expect_all(
+        &rt,
+        alloc,
+        &mut desk,
+        &mut host,
+        &mut random,
+        &[
+            ("create 0 e.pf", "ok create\n"),
+            ("fill 0 0 32768 61", "ok write 32768\n"),
+            ("fill 0 32768 32768 61", "ok write 32768\n"),
+            ("fill 0 65536 32768 61", "ok write 32768\n"),
+            ("fill 0 98304 32768 61", "ok write 32768\n"),
+            ("fill 0 131072 32768 61", "ok write 32768\n"),
+            ("fill 0 163840 32768 61", "ok write 32768 flushed\n"),
+        ],
+    );
     Ok(())
 }
 
@@ -143,29 +164,42 @@ fn seats_and_names_are_told_apart(rt: HostRuntime) -> Result<(), Fail> {
     let mut host = MemHost::new(alloc);
     let mut random = words_of(alloc, 20)?;
     let mut desk = Desk::new(alloc, KEY);
-    expect_all(&rt, alloc, &mut desk, &mut host, &mut random, &[
-        ("", ""),
-        ("# a comment", ""),
-        ("flush 3", "refused seat empty\n"),
-        ("create 0 x.new", "refused bad name\n"),
-        ("create 0 a.pf", "ok create\n"),
-        ("create 0 b.pf", "refused seat busy\n"),
-        ("create 1 a.pf", "refused name busy\n"),
-        ("open 1 a.pf", "refused name busy\n"),
-        ("open 1 b.pf", "refused not found b.pf\n"),
-        ("create 1 b.pf", "ok create\n"),
-        ("view 0 /a", "refused seat busy\n"),
-        ("view 2 /a", "refused no manifest\n"),
-        ("close 0", "ok close\n"),
-        ("create 0 a.pf", "refused exists a.pf\n"),
-        ("open 0 a.pf", "ok open 0\n"),
-        ("size 0 100000", "ok size 100000\n"),
-        ("size 0 4294967297", "refused too large\n"),
-        ("draw 0", "ok draw 0404040404040404040404040404040405050505050505050505050505050505\n"),
-        ("draw 0", "ok draw 0404040404040404040404040404040405050505050505050505050505050505\n"),
-        ("close 0", "random fault\n"),
-        ("close 0", "refused seat empty\n"),
-    ]);
+    expect_all(
+        &rt,
+        alloc,
+        &mut desk,
+        &mut host,
+        &mut random,
+        &[
+            ("", ""),
+            ("# a comment", ""),
+            ("flush 3", "refused seat empty\n"),
+            ("create 0 x.new", "refused bad name\n"),
+            ("create 0 a.pf", "ok create\n"),
+            ("create 0 b.pf", "refused seat busy\n"),
+            ("create 1 a.pf", "refused name busy\n"),
+            ("open 1 a.pf", "refused name busy\n"),
+            ("open 1 b.pf", "refused not found b.pf\n"),
+            ("create 1 b.pf", "ok create\n"),
+            ("view 0 /a", "refused seat busy\n"),
+            ("view 2 /a", "refused no manifest\n"),
+            ("close 0", "ok close\n"),
+            ("create 0 a.pf", "refused exists a.pf\n"),
+            ("open 0 a.pf", "ok open 0\n"),
+            ("size 0 100000", "ok size 100000\n"),
+            ("size 0 4294967297", "refused too large\n"),
+            (
+                "draw 0",
+                "ok draw 0404040404040404040404040404040405050505050505050505050505050505\n",
+            ),
+            (
+                "draw 0",
+                "ok draw 0404040404040404040404040404040405050505050505050505050505050505\n",
+            ),
+            ("close 0", "random fault\n"),
+            ("close 0", "refused seat empty\n"),
+        ],
+    );
     Ok(())
 }
 
@@ -175,20 +209,34 @@ fn the_seats_are_closed_at_the_end(rt: HostRuntime) -> Result<(), Fail> {
     let mut host = MemHost::new(alloc);
     let mut random = words_of(alloc, 20)?;
     let mut desk = Desk::new(alloc, KEY);
-    expect_all(&rt, alloc, &mut desk, &mut host, &mut random, &[
-        ("create 2 a.pf", "ok create\n"),
-        ("write 2 0 6869", "ok write 2\n"),
-    ]);
+    expect_all(
+        &rt,
+        alloc,
+        &mut desk,
+        &mut host,
+        &mut random,
+        &[
+            ("create 2 a.pf", "ok create\n"),
+            ("write 2 0 6869", "ok write 2\n"),
+        ],
+    );
     assert!(&rt; desk.end(&mut host, &mut random, 0).is_none());
     match desk.end(&mut host, &mut random, 2) {
         Some(Reply::Closed { lost }) => assert!(&rt; !lost),
         _other => panic!(&rt; "not closed"),
     }
     assert!(&rt; desk.end(&mut host, &mut random, 2).is_none());
-    expect_all(&rt, alloc, &mut desk, &mut host, &mut random, &[
-        ("open 2 a.pf", "ok open 2\n"),
-        ("read 2 0 9", "ok read 2 6869\n"),
-    ]);
+    expect_all(
+        &rt,
+        alloc,
+        &mut desk,
+        &mut host,
+        &mut random,
+        &[
+            ("open 2 a.pf", "ok open 2\n"),
+            ("read 2 0 9", "ok read 2 6869\n"),
+        ],
+    );
     Ok(())
 }
 
@@ -198,22 +246,29 @@ fn a_move_takes_the_file_to_another_name(rt: HostRuntime) -> Result<(), Fail> {
     let mut host = MemHost::new(alloc);
     let mut random = words_of(alloc, 20)?;
     let mut desk = Desk::new(alloc, KEY);
-    expect_all(&rt, alloc, &mut desk, &mut host, &mut random, &[
-        ("move 0 g.pf", "refused seat empty\n"),
-        ("create 0 f.pf", "ok create\n"),
-        ("write 0 0 6869", "ok write 2\n"),
-        ("create 1 b.pf", "ok create\n"),
-        ("move 0 b.pf", "refused name busy\n"),
-        ("close 1", "ok close\n"),
-        ("move 0 b.pf", "refused target exists\n"),
-        ("move 0 f.pf", "refused target exists\n"),
-        ("move 0 x.new", "refused bad name\n"),
-        ("move 0 g.pf", "ok move\n"),
-        ("read 0 0 9", "ok read 2 6869\n"),
-        ("open 1 f.pf", "refused not found f.pf\n"),
-        ("close 0", "ok close\n"),
-        ("open 1 g.pf", "ok open 2\n"),
-    ]);
+    expect_all(
+        &rt,
+        alloc,
+        &mut desk,
+        &mut host,
+        &mut random,
+        &[
+            ("move 0 g.pf", "refused seat empty\n"),
+            ("create 0 f.pf", "ok create\n"),
+            ("write 0 0 6869", "ok write 2\n"),
+            ("create 1 b.pf", "ok create\n"),
+            ("move 0 b.pf", "refused name busy\n"),
+            ("close 1", "ok close\n"),
+            ("move 0 b.pf", "refused target exists\n"),
+            ("move 0 f.pf", "refused target exists\n"),
+            ("move 0 x.new", "refused bad name\n"),
+            ("move 0 g.pf", "ok move\n"),
+            ("read 0 0 9", "ok read 2 6869\n"),
+            ("open 1 f.pf", "refused not found f.pf\n"),
+            ("close 0", "ok close\n"),
+            ("open 1 g.pf", "ok open 2\n"),
+        ],
+    );
     assert!(&rt; host.bytes("f.pf").is_none());
     Ok(())
 }
@@ -224,19 +279,33 @@ fn a_fault_breaks_its_own_seat(rt: HostRuntime) -> Result<(), Fail> {
     let mut host = MemHost::new(alloc);
     let mut random = words_of(alloc, 20)?;
     let mut desk = Desk::new(alloc, KEY);
-    expect_all(&rt, alloc, &mut desk, &mut host, &mut random, &[
-        ("create 0 a.pf", "ok create\n"),
-        ("create 1 b.pf", "ok create\n"),
-        ("write 0 0 61", "ok write 1\n"),
-    ]);
+    expect_all(
+        &rt,
+        alloc,
+        &mut desk,
+        &mut host,
+        &mut random,
+        &[
+            ("create 0 a.pf", "ok create\n"),
+            ("create 1 b.pf", "ok create\n"),
+            ("write 0 0 61", "ok write 1\n"),
+        ],
+    );
     host.fail_at(15)?;
-    expect_all(&rt, alloc, &mut desk, &mut host, &mut random, &[
-        ("flush 0", "host fault\n"),
-        ("read 0 0 1", "refused broken\n"),
-        ("write 1 0 62", "ok write 1\n"),
-        ("close 0", "ok close lost\n"),
-        ("open 0 a.pf", "ok open 0\n"),
-        ("close 1", "ok close\n"),
-    ]);
+    expect_all(
+        &rt,
+        alloc,
+        &mut desk,
+        &mut host,
+        &mut random,
+        &[
+            ("flush 0", "host fault\n"),
+            ("read 0 0 1", "refused broken\n"),
+            ("write 1 0 62", "ok write 1\n"),
+            ("close 0", "ok close lost\n"),
+            ("open 0 a.pf", "ok open 0\n"),
+            ("close 1", "ok close\n"),
+        ],
+    );
     Ok(())
 }

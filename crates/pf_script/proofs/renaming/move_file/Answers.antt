@@ -37,9 +37,9 @@ returns-then-broken g c key k =
     let random = g.R.Words.state c.args.random.now in
     at_some key c.args.taken (lines.Move k c.args.name.now) (Ok (replies.Refused whys.Broken)) c.args.seat.now s (Some s) before before random random c.in-Some.is
     (λ seated. refused_goes key c.args.taken (lines.Move k c.args.name.now) whys.Broken (Some s) before random
-        (λ sealed seat shows.
-        let shown = shows_some sealed seat s shows in
-        first_broken (move_rest c.args.taken c.args.name.now) seat shown.shown shown.seat_is (shown.broken_is ∙ sym c.broken.ensures ∙ c.if-broken.true)) seated)
+    (λ sealed seat shows.
+    let shown = shows_some sealed seat s shows in
+    first_broken (move_rest c.args.taken c.args.name.now) seat shown.shown shown.seat_is (shown.broken_is ∙ sym c.broken.ensures ∙ c.if-broken.true)) seated)
 
 pub returns-then-taken : goal.returns-then-taken
 returns-then-taken g c key k =
@@ -48,9 +48,9 @@ returns-then-taken g c key k =
     let random = g.R.Words.state c.args.random.now in
     at_some key c.args.taken (lines.Move k c.args.name.now) (Ok (replies.Refused whys.NameBusy)) c.args.seat.now s (Some s) before before random random c.in-Some.is
     (λ seated. refused_goes key c.args.taken (lines.Move k c.args.name.now) whys.NameBusy (Some s) before random
-        (λ sealed seat shows.
-        let shown = shows_some sealed seat s shows in
-        first_then (move_rest c.args.taken c.args.name.now) whys.NameBusy seat shown.shown shown.seat_is (shown.broken_is ∙ sym c.broken.ensures ∙ c.if-broken.false) (inl (refl, c.if-taken.true))) seated)
+    (λ sealed seat shows.
+    let shown = shows_some sealed seat s shows in
+    first_then (move_rest c.args.taken c.args.name.now) whys.NameBusy seat shown.shown shown.seat_is (shown.broken_is ∙ sym c.broken.ensures ∙ c.if-broken.false) (inl (refl, c.if-taken.true))) seated)
 
 pub returns : goal.returns
 returns g c key k =
@@ -62,6 +62,6 @@ returns g c key k =
     let line = lines.Move k c.args.name.now in
     at_some key c.args.taken line c.move_reply.result c.args.seat.now s (Some c.move_to-moved.new.self) before after random random2 c.in-Some.is
     (λ seated. subst (λ (r : Result Reply Memory). SeatGoes key c.args.taken line r (Some s) (Some c.move_to-moved.new.self) before after random random2) (sym c.move_reply.ensures)
-        (subst (λ (taken : Bool). SeatGoes key taken line (move_reply c.move_to-moved.result) (Some s) (Some c.move_to-moved.new.self) before after random random2) (sym c.if-taken.false)
-        (move_goes key k c.args.name.now s c.move_to-moved.new.self c.move_to-moved.result before after random random2 seated (sym c.broken.ensures ∙ c.if-broken.false)
-            c.move_to-moved.ensures.goes c.move_to-moved.ensures.aside (g.met.H.Host.reads_as_image c.move_to-moved.new.host))))
+    (subst (λ (taken : Bool). SeatGoes key taken line (move_reply c.move_to-moved.result) (Some s) (Some c.move_to-moved.new.self) before after random random2) (sym c.if-taken.false)
+    (move_goes key k c.args.name.now s c.move_to-moved.new.self c.move_to-moved.result before after random random2 seated (sym c.broken.ensures ∙ c.if-broken.false)
+    c.move_to-moved.ensures.goes c.move_to-moved.ensures.aside (g.met.H.Host.reads_as_image c.move_to-moved.new.host))))

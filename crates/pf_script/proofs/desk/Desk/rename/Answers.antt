@@ -8,13 +8,13 @@ pub invariant_of-self : goal.invariant_of-self
 invariant_of-self g c =
     let inside : DeskState = record { key = c.self.inside.key; seats = c.self.inside.seats } in
     (line_goes inside c.self.invariant c.args.self.now c.self.view_is c.args.seat c.requires c.index-self-seat.result c.is_taken-taken.result (lines.Move c.args.seat c.args.name.now) refl c.is_taken-taken.ensures c.move_file.new.seat c.move_file.result (g.H.Host.state c.args.host.now) (g.H.Host.state c.move_file.new.host)
-        (g.R.Words.state c.args.random.now) (g.R.Words.state c.move_file.new.random) (c.move_file.ensures c.self.inside.key c.args.seat)).well
+    (g.R.Words.state c.args.random.now) (g.R.Words.state c.move_file.new.random) (c.move_file.ensures c.self.inside.key c.args.seat)).well
 
 pub returns : goal.returns
 returns g c =
     let inside : DeskState = record { key = c.self.inside.key; seats = c.self.inside.seats } in
     (line_goes inside c.self.invariant c.args.self.now c.self.view_is c.args.seat c.requires c.index-self-seat.result c.is_taken-taken.result (lines.Move c.args.seat c.args.name.now) refl c.is_taken-taken.ensures c.move_file.new.seat c.move_file.result (g.H.Host.state c.args.host.now) (g.H.Host.state c.move_file.new.host)
-        (g.R.Words.state c.args.random.now) (g.R.Words.state c.move_file.new.random) (c.move_file.ensures c.self.inside.key c.args.seat)).goes
+    (g.R.Words.state c.args.random.now) (g.R.Words.state c.move_file.new.random) (c.move_file.ensures c.self.inside.key c.args.seat)).goes
 
 pub move_file-requires : goal.move_file-requires
 move_file-requires g c =
