@@ -1,6 +1,6 @@
 //! Scripts on a desk over a host in memory.
-use crate::{Desk, LineFault, Reply, ScriptLine, Why, read_line, write_reply};
 use pf_io::{ListWords, MemHost, MemSink, Memory};
+use pf_script::{Desk, LineFault, Reply, ScriptLine, Why, read_line, write_reply};
 use std::alloc::Global;
 use std::process::Abort;
 use std::test::Fail;
