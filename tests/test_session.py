@@ -5,7 +5,7 @@ import signal
 import subprocess
 import time
 
-from harness import KEY, PROGRAM, encrypt, holds, put, run, same
+from harness import KEY, PROGRAM, TOP, encrypt, holds, put, run, same
 
 SESSION = [PROGRAM, "session", "-w", "key"]
 LONGEST = 131072
@@ -25,6 +25,13 @@ def test_session_of_no_lines():
     answers(b"", b"end\n")
     answers(b"\n# a comment\n", b"end\n")
     same(sorted(os.listdir(".")), ["in", "key"], "no file is made")
+
+
+def test_session_of_the_example():
+    with open(f"{TOP}/examples/notes.script", "rb") as script, open(f"{TOP}/examples/notes.replies", "rb") as replies:
+        answers(script.read(), replies.read(), 3)
+    same(os.path.exists("notes.pf"), False, "the old name")
+    holds(b"hell", "kept.pf")
 
 
 def test_session_writes_and_reads():
