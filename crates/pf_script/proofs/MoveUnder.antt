@@ -1,38 +1,34 @@
 -- The line `move` under a book, from the contract of a move.
-use Rattle.std.proofs.Common.{◌≡◌, ◌≢◌, ◌⊎◌, inl, inr, Bool, true, false, List, [], ◌∷◌, ◌++◌, ℕ, refl, sym, ◌∙◌, ap, subst, Option, Some, None, Result, Ok, Err}
-use Rattle.std.proofs.lemmas.List.{append-nil}
-use Rattle.std.proofs.lemmas.List.Elements.{Contains-push}
-use Rattle.std.specs.Prelude.{Contains, IfSome, option_map}
+use Rattle.std.proofs.Common.{◌≡◌, ◌⊎◌, inl, inr, Bool, true, false, List, [], ◌∷◌, ◌++◌, ℕ, refl, sym, ◌∙◌, ap, subst, Option, Some, None, Ok}
+use Rattle.std.specs.Prelude.{Contains}
 use Rattle.node_tree.specs.Backing.{now}
-use Rattle.node_tree.specs.Sheet.{Sheet, Stands}
+use Rattle.node_tree.specs.Sheet.{Sheet}
 use Rattle.node_tree.specs.State.{TreeState}
-use Rattle.pf_io.specs.Counts.{counted}
-use Rattle.pf_io.specs.Disk.{Name, Disk, File, IsImage, reading, read_of}
-use Rattle.pf_io.specs.Host.{Answer, LengthWas, HostState, Both, IsMore, OnDisk, ReadsAsImage, contents}
+use Rattle.pf_io.specs.Disk.{Name, IsImage, reading}
+use Rattle.pf_io.specs.Host.{Answer, HostState, Both, IsMore, ReadsAsImage}
 use Rattle.pf_io.specs.Moments.{Honest, Ran, Where}
-use Rattle.pf_io.specs.Names.{IsTarget, recovery_of}
+use Rattle.pf_io.specs.Names.{IsTarget}
 use Rattle.pf_io.specs.Words.{WordsState}
-use Rattle.pf_io.specs.declared.faults.Memory.{Memory}
-use Rattle.pf_io.proofs.Telling.{told_none, told_on, both_same, both_then, both_weaker}
-use Rattle.pf_session.specs.Aside.{Aside, LeavesApart, KeepsApart, LeavesApartBoth, KeepsApartBoth, AsideBoth}
+use Rattle.pf_io.proofs.Telling.{told_none}
+use Rattle.pf_session.specs.Aside.{Aside, LeavesApart, KeepsApart, LeavesApartBoth, KeepsApartBoth}
 use Rattle.pf_session.specs.Asking.{IsTaken as AreTaken}
 use Rattle.pf_session.specs.Backing.{StandsOn, RestsOn}
 use Rattle.pf_session.specs.Drawing.{IsDrawn}
-use Rattle.pf_session.specs.Moving.{MoveGoes, MovesOn as MovesAs, FlushesFirst, as_it_is, flushed, Moves, Carries, IsKeptOn, renamed, MovedAs, MovedIf, IsFree, UndamagedMove, IsUndamagedMove}
+use Rattle.pf_session.specs.Moving.{MovesOn as MovesAs, FlushesFirst, as_it_is, flushed, Carries, IsKeptOn, renamed, MovedAs, MovedIf}
 use Rattle.pf_session.specs.Reopening.{AsEither, Stood}
 use Rattle.pf_session.specs.Sealing.{StoodIf, Replaces}
-use Rattle.pf_session.specs.State.{SessionState, file_of}
+use Rattle.pf_session.specs.State.{SessionState}
 use Rattle.pf_script.specs.Book.{Book, Entry, Seal, Agrees}
 use Rattle.pf_script.specs.BookActs.{Flush, Move, Act, Among, booked_all, flushed as flushed_book, sealed_entry}
-use Rattle.pf_script.specs.BookDebts.{Unchanged, DidAll, Owes, seat_of}
+use Rattle.pf_script.specs.BookDebts.{DidAll, Owes, seat_of}
 use Rattle.pf_script.specs.BookSeats.{SparesSeats}
 use Rattle.pf_script.specs.Desk.{IsSeated, seat_on}
-use Rattle.pf_script.specs.Script.{OwnSeat, Own}
+use Rattle.pf_script.specs.Script.{OwnSeat}
 use Rattle.pf_script.specs.SeatSteps.{SealsMoved, IsNextSheet, renamed as renamed_own}
 use Rattle.pf_script.specs.Turns.{FlushedToMove, as_it_was, was_changed, flushes}
 use Rattle.pf_script.proofs.ActKeeping.{one_act, one_spares, unchanged_now}
 use Rattle.pf_script.proofs.CallKeeping.{at_both, on_to, read_image}
-use Rattle.pf_script.proofs.Composing.{all_agrees, did_on, booked_on}
+use Rattle.pf_script.proofs.Composing.{did_on}
 use Rattle.pf_script.proofs.During.{leaves_more}
 use Rattle.pf_script.proofs.Flushed.{SealsWith, FlushEnds, not_begun, not_ended, was_ended, seal_ends, next_of}
 use Rattle.pf_script.proofs.FlushLine.{flush_act, resealed_own}
