@@ -112,7 +112,7 @@ def test_script_gives_an_unproved_build_whole_names():
     for words in (("encrypt", "-w", "key", "-i", "in", "-o", "out"), ("manifest", "t", "out")):
         ran = script(*words)
         same((ran.status, ran.out, ran.log), (126, b"", f"{NONE}, and an unproved build takes no OUT that does not begin with /\n"), "OUT")
-    for command in ("sums", "measure"):
+    for command in ("sums", "measure", "session"):
         ran = script(command, "m")
         same((ran.status, ran.out, ran.log), (126, b"", f"{NONE}, and an unproved build does no {command}\n"), command)
 

@@ -22,7 +22,7 @@ def test_status_0_the_example_is_decrypted():
 
 
 def test_status_0_what_was_encrypted_is_decrypted():
-    for size in (0, 1, 3071, 3072):
+    for size in (0, 1, 3071, 3072, 3073):
         put("in", os.urandom(size))
         ends(encrypt(), 0)
         holds(got("in"))

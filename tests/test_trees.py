@@ -1,7 +1,7 @@
 """Protected files of an independent writer, of one to three levels of hash-tree nodes."""
 import os
 
-from harness import KEY, PROGRAM, Skip, decrypt, of_program, put, same, traced
+from harness import KEY, PROGRAM, Skip, decrypt, encrypt, of_program, put, same, traced
 
 try:
     import cryptography

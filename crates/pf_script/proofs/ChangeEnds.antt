@@ -69,9 +69,9 @@ module _ (key : List ℕ) (sealed : List Sheet) (own : OwnSeat) (line : ScriptLi
     once_failed blame go blames key_is name_is broken =
         in_the_end (flushes own sheets)
         (λ unforged. go.broke blame refl (flushes own sheets)
-            (subst (λ (w : List (List ℕ)). LineEnds key sealed own line given w (host_blamed blame) false (flush_reply (fault_of blame)) new (flushes own sheets)) (sym words_are)
-            (fetch_failed key sealed own line given old made words sheets base was step steps asks new key_is name_is blame (fits_at base old step roomy)
-                (fetch_blames base old.name before_it these blame was.name_is split (blames (gives key sealed own line given sheets base old.name before_it these rest was.among split unforged))) broken)))
+        (subst (λ (w : List (List ℕ)). LineEnds key sealed own line given w (host_blamed blame) false (flush_reply (fault_of blame)) new (flushes own sheets)) (sym words_are)
+        (fetch_failed key sealed own line given old made words sheets base was step steps asks new key_is name_is blame (fits_at base old step roomy)
+        (fetch_blames base old.name before_it these blame was.name_is split (blames (gives key sealed own line given sheets base old.name before_it these rest was.among split unforged))) broken)))
 
     once : (r : Result (Unit {0}) TreeFault) → Continues (outcome_of false r) → StepFacts r step old new these → StepState r old new → Unfolds key sealed P given (flushes own sheets)
     once (Ok ok) go facts state =
@@ -81,7 +81,7 @@ module _ (key : List ℕ) (sealed : List Sheet) (own : OwnSeat) (line : ScriptLi
         go.went false refl sheets base refl
         (subst (λ (w : List (List ℕ)). Made sealed own new (made ++ step ∷ []) w sheets base) (sym words_are)
         (made_more key sealed own line given old made words sheets base was step new (ap (λ (s : SessionState). s.changed) state) (ap (λ (s : SessionState). s.key) state) (ap (λ (s : SessionState). s.name) state) (ap (λ (s : SessionState). s.broken) state ∙ was.whole)
-            (fits_at base old step roomy) out.0 out.1)))
+        (fits_at base old step roomy) out.0 out.1)))
     once (Err (trees.Damaged damage)) go facts state =
         once_failed (ByDamage damage) go (facts base was.kept.backed) (ap (λ (s : SessionState). s.key) state) (ap (λ (s : SessionState). s.name) state) (ap (λ (s : SessionState). s.broken) state)
     once (Err trees.Host) go facts state = once_failed ByHost go (λ of_base. tt) (ap (λ (s : SessionState). s.key) state) (ap (λ (s : SessionState). s.name) state) (ap (λ (s : SessionState). s.broken) state)
@@ -107,10 +107,10 @@ module _ (key : List ℕ) (sealed : List Sheet) (own : OwnSeat) (line : ScriptLi
     after_failed blame go blames key_is name_is broken =
         in_the_end (flushes own (sheets ++ next ∷ []))
         (λ unforged. go.broke blame refl (flushes own (sheets ++ next ∷ []))
-            (fetch_failed_after key sealed own line given old made words sheets base was step steps asks new (key_is ∙ ap (λ (s : SessionState). s.key) same) (name_is ∙ ap (λ (s : SessionState). s.name) same) blame more next
-                (flushes_first base old step first) (seals base was.linked was.kept.backed).1
-                (fetch_blames next mid.name (before_it ++ front) those blame own_name (split_at front those parts)
-                    (blames (gives key sealed own line given (sheets ++ next ∷ []) next mid.name (before_it ++ front) those rest next_among (split_at front those parts) unforged))) broken))
+        (fetch_failed_after key sealed own line given old made words sheets base was step steps asks new (key_is ∙ ap (λ (s : SessionState). s.key) same) (name_is ∙ ap (λ (s : SessionState). s.name) same) blame more next
+        (flushes_first base old step first) (seals base was.linked was.kept.backed).1
+        (fetch_blames next mid.name (before_it ++ front) those blame own_name (split_at front those parts)
+        (blames (gives key sealed own line given (sheets ++ next ∷ []) next mid.name (before_it ++ front) those rest next_among (split_at front those parts) unforged))) broken))
 
     after : (r : Result (Unit {0}) TreeFault) → Continues (outcome_of true r) → StepFacts r step mid new those → StepState r mid new → Unfolds key sealed P given (flushes own sheets)
     after (Ok ok) go facts state =
@@ -121,7 +121,7 @@ module _ (key : List ℕ) (sealed : List Sheet) (own : OwnSeat) (line : ScriptLi
         let out = facts next sealed_next.2.backed of_next in
         go.went true refl (sheets ++ next ∷ []) next (next, refl)
         (made_after key sealed own line given old made words sheets base was step mid new more next (flushes_first base old step first) sealed_next.1 sealed_next.2 same dirty
-            (ap (λ (s : SessionState). s.changed) state) (ap (λ (s : SessionState). s.key) state) (ap (λ (s : SessionState). s.name) state) (ap (λ (s : SessionState). s.broken) state ∙ ap (λ (s : SessionState). s.broken) same ∙ was.whole) out.0 out.1)))
+        (ap (λ (s : SessionState). s.changed) state) (ap (λ (s : SessionState). s.key) state) (ap (λ (s : SessionState). s.name) state) (ap (λ (s : SessionState). s.broken) state ∙ ap (λ (s : SessionState). s.broken) same ∙ was.whole) out.0 out.1)))
     after (Err (trees.Damaged damage)) go facts state =
         flushed_then
         (after_failed (ByDamage damage) go (facts next (seals base was.linked was.kept.backed).2.backed) (ap (λ (s : SessionState). s.key) state) (ap (λ (s : SessionState). s.name) state) (ap (λ (s : SessionState). s.broken) state))
@@ -137,15 +137,15 @@ module _ (key : List ℕ) (sealed : List Sheet) (own : OwnSeat) (line : ScriptLi
       let acts : List Act = record { deed = Flush (seat_of own.key own.name next.0); done = false } ∷ [] in
       then_more (flushes own sheets) acts [] given refl
       (λ unforged. in_the_end (flushes own sheets ++ acts)
-          (λ unforged. go.broke blame refl (flushes own sheets ++ acts)
-              (flush_failed key sealed own line given old made words sheets base was step steps asks new key_is name_is blame more next.0 (flushes_first base old step first) next.1
-                  (subst (λ (n : Name). BlamesFlush n given blame) was.name_is (subst (λ (l : List Answer). BlamesFlush old.name l blame) (sym split) (flush_more old.name before_it these rest blame blames))) broken)))
+      (λ unforged. go.broke blame refl (flushes own sheets ++ acts)
+      (flush_failed key sealed own line given old made words sheets base was step steps asks new key_is name_is blame more next.0 (flushes_first base old step first) next.1
+      (subst (λ (n : Name). BlamesFlush n given blame) was.name_is (subst (λ (l : List Answer). BlamesFlush old.name l blame) (sym split) (flush_more old.name before_it these rest blame blames))) broken)))
 
   pub change_ends : (outcome : Outcome) → Continues outcome → ChangeTold step old new these more outcome → Unfolds key sealed P given (flushes own sheets)
   change_ends _ go (told_once one roomy none facts state) = once roomy none one go facts state
   change_ends _ go (told_lacked first same) =
       in_the_end (flushes own sheets)
       (λ unforged. go.lack refl (flushes own sheets)
-          (no_word key sealed own line given old made words sheets base was step steps asks new (ap (λ (s : SessionState). s.key) same) (ap (λ (s : SessionState). s.name) same) more (flushes_first base old step first) same))
+      (no_word key sealed own line given old made words sheets base was step steps asks new (ap (λ (s : SessionState). s.key) same) (ap (λ (s : SessionState). s.name) same) more (flushes_first base old step first) same))
   change_ends _ go (told_unflushed blame first blames seals key_is name_is broken) = unflushed blame go first blames seals key_is name_is broken
   change_ends _ go (told_after mid one front those parts first seals same dirty facts state) = after first mid front those parts seals same dirty one go facts state

@@ -123,7 +123,7 @@ module _ (key : List ℕ) (line : ScriptLine) (old new : SessionState) (whole : 
           went = λ f is sheets' base' grew made.
               in_the_end (flushes own sheets')
               (λ unforged. all_made key sealed own line given new (step ∷ []) words sheets' base' made (asks (length own.content)) (replied flushed)
-                  (replies_to flushed sheets' (subst (λ (b : Bool). Grew b [] sheets') (sym (same_flag flushed f is)) grew)) (passes base given));
+              (replies_to flushed sheets' (subst (λ (b : Bool). Grew b [] sheets') (sym (same_flag flushed f is)) grew)) (passes base given));
           broke = λ blame is acts ends. absurd (cc);
           lack = λ is acts ends. absurd (cc);
           memory = λ is. absurd (cc);
@@ -167,27 +167,27 @@ module _ (key : List ℕ) (line : ScriptLine) (old new : SessionState) (whole : 
         goes_told key false line old before after random random' (replied flushed)
         (subst (λ b. CountsFault b before.faults after.faults) (sym (calm flushed).0) seen.on_host, subst (λ b. CountsFault b random.faults random'.faults) (sym (calm flushed).1) seen.on_words) new
         (told_weaker (λ given. ChangeTold step old new given seen.words (Went flushed)) (λ given. SeatAsks key false line (replied flushed) (Some old) (Some new) given before after random random') before after seen.told
-            (λ given told. record {
-              seen = seen_by given seen.words false false;
-              was_seen = record { answers = refl; words = seen.taken; of_host = seen.on_host; of_words = seen.on_words };
-              turns = whole_turns key false line (seen_by given seen.words false false) (replied flushed) old (Some new) given whole (went_turns given seen.words flushed told);
-            })) books seated name_is
+        (λ given told. record {
+          seen = seen_by given seen.words false false;
+          was_seen = record { answers = refl; words = seen.taken; of_host = seen.on_host; of_words = seen.on_words };
+          turns = whole_turns key false line (seen_by given seen.words false false) (replied flushed) old (Some new) given whole (went_turns given seen.words flushed told);
+        })) books seated name_is
     line_goes (Broke blame) seen breaks =
         goes_told key false line old before after random random' (flush_reply (fault_of blame))
         (subst (λ b. CountsFault b before.faults after.faults) (sym (host_reply blame)) seen.on_host, subst (λ b. CountsFault b random.faults random'.faults) (sym (words_reply blame)) seen.on_words) new
         (told_weaker (λ given. ChangeTold step old new given seen.words (Broke blame)) (λ given. SeatAsks key false line (flush_reply (fault_of blame)) (Some old) (Some new) given before after random random') before after seen.told
-            (λ given told. record {
-              seen = seen_by given seen.words (host_blamed blame) false;
-              was_seen = record { answers = refl; words = seen.taken; of_host = seen.on_host; of_words = seen.on_words };
-              turns = whole_turns key false line (seen_by given seen.words (host_blamed blame) false) (flush_reply (fault_of blame)) old (Some new) given whole (broke_turns given seen.words blame told);
-            })) books seated name_is
+        (λ given told. record {
+          seen = seen_by given seen.words (host_blamed blame) false;
+          was_seen = record { answers = refl; words = seen.taken; of_host = seen.on_host; of_words = seen.on_words };
+          turns = whole_turns key false line (seen_by given seen.words (host_blamed blame) false) (flush_reply (fault_of blame)) old (Some new) given whole (broke_turns given seen.words blame told);
+        })) books seated name_is
     line_goes Lacked seen breaks =
         goes_told key false line old before after random random' replies.WordsFault (seen.on_host, seen.on_words) new
         (told_weaker (λ given. ChangeTold step old new given seen.words Lacked) (λ given. SeatAsks key false line replies.WordsFault (Some old) (Some new) given before after random random') before after seen.told
-            (λ given told. record {
-              seen = seen_by given seen.words false true;
-              was_seen = record { answers = refl; words = seen.taken; of_host = seen.on_host; of_words = seen.on_words };
-              turns = whole_turns key false line (seen_by given seen.words false true) replies.WordsFault old (Some new) given whole (lacked_turns given seen.words told);
-            })) books seated name_is
+        (λ given told. record {
+          seen = seen_by given seen.words false true;
+          was_seen = record { answers = refl; words = seen.taken; of_host = seen.on_host; of_words = seen.on_words };
+          turns = whole_turns key false line (seen_by given seen.words false true) replies.WordsFault old (Some new) given whole (lacked_turns given seen.words told);
+        })) books seated name_is
     line_goes Wanted seen breaks =
         goes_wanting key false line old before after random random' (record {}) new (record { takes = takes; told = told_weaker (λ given. ChangeTold step old new given seen.words Wanted) (λ given. Unit {0}) before after seen.told (λ given facts. tt); ends = inr (changes, breaks refl) }) books seated name_is seen.on_host seen.on_words

@@ -138,7 +138,7 @@ module _ (key : List ℕ) (own : OwnSeat) (line : ScriptLine) (book : Book) (sea
     did_flush done next path_is sealed =
         did_on book seats progress.left (left_now next done) (flushes own sheets) (act next done ∷ []) a m b progress.did
         (flush_did mid_book progress.left done own.key own.name base next m b progress.entry target (subst (λ (n : Name). Ran (LeavesApart n) (KeepsApart n) m b) was.name_is others) well progress.in_book progress.seated
-            (record { path_is = path_is; sealed = sealed }))
+        (record { path_is = path_is; sealed = sealed }))
 
     spares_flush : (done : Bool) (next : Sheet) → SparesSeats (flushes own sheets ++ act next done ∷ []) seats (left_now next done)
     spares_flush done next = spares_on (flushes own sheets) (act next done ∷ []) seats progress.left (left_now next done) progress.spares (one_spares progress.left (Flush (seat_of own.key own.name next)) done)
@@ -169,21 +169,26 @@ module _ (key : List ℕ) (own : OwnSeat) (line : ScriptLine) (book : Book) (sea
 
       once : (one : Result (Unit {0}) TreeFault) → StepGoes one step old new before after → StandingStep one step base old.tree new.tree → Unchanged m b → ChangeKnown (outcome_of false one)
       once (Ok ok) goes stands only =
-          record { sheets_now = sheets; base_now = base; grew = refl; progress_now = record {
-            was = subst (λ (w : List (List ℕ)). Made (first ∷ []) own new (made ++ step ∷ []) w sheets base) (sym words_are)
-                (made_more key (first ∷ []) own line [] old made words sheets base was step new (ap (λ (s : SessionState). s.changed) goes.state) (ap (λ (s : SessionState). s.key) goes.state) (ap (λ (s : SessionState). s.name) goes.state)
-                    (ap (λ (s : SessionState). s.broken) goes.state ∙ was.whole) (fits_at base old step roomy)
-                    (record { path_is = ap (λ (s : SessionState). s.path) goes.state ∙ was.kept.backed.path_is; nonce_is = ap (λ (s : SessionState). s.nonce) goes.state ∙ was.kept.backed.nonce_is; backs = stands.backs })
-                    (stepped_is old mine new (Ok ok) step before after goes base goes.steps.mid goes.steps.rest goes.steps.ends stands.content_is goes.state));
-            left = progress.left;
-            did = did_reads only;
-            spares = progress.spares;
-            only = progress.only;
-            entry = progress.entry;
-            in_book = progress.in_book;
-            seated = progress.seated;
-            stood = stood_reads only;
-          } }
+          record {
+            sheets_now = sheets;
+            base_now = base;
+            grew = refl;
+            progress_now = record {
+              was = subst (λ (w : List (List ℕ)). Made (first ∷ []) own new (made ++ step ∷ []) w sheets base) (sym words_are)
+                  (made_more key (first ∷ []) own line [] old made words sheets base was step new (ap (λ (s : SessionState). s.changed) goes.state) (ap (λ (s : SessionState). s.key) goes.state) (ap (λ (s : SessionState). s.name) goes.state)
+                  (ap (λ (s : SessionState). s.broken) goes.state ∙ was.whole) (fits_at base old step roomy)
+                  (record { path_is = ap (λ (s : SessionState). s.path) goes.state ∙ was.kept.backed.path_is; nonce_is = ap (λ (s : SessionState). s.nonce) goes.state ∙ was.kept.backed.nonce_is; backs = stands.backs })
+                  (stepped_is old mine new (Ok ok) step before after goes base goes.steps.mid goes.steps.rest goes.steps.ends stands.content_is goes.state));
+              left = progress.left;
+              did = did_reads only;
+              spares = progress.spares;
+              only = progress.only;
+              entry = progress.entry;
+              in_book = progress.in_book;
+              seated = progress.seated;
+              stood = stood_reads only;
+            };
+          }
       once (Err (trees.Damaged damage)) goes stands only = absurd stands
       once (Err trees.Host) goes stands only =
           record {
@@ -204,7 +209,7 @@ module _ (key : List ℕ) (own : OwnSeat) (line : ScriptLine) (book : Book) (sea
     change_once one roomy none goes =
         once roomy none one goes
         (subst (λ (o : Option Honest). IfSome (option_map (λ host. reading host.now) o) (λ files. (sheet : Sheet) → Stands (contents (files (file_of old))) old.key sheet → IsBacked sheet old → StandingStep one step sheet old.tree new.tree)) is_m
-            goes.standing base (stands_there old mine m base stood_old) was.kept.backed)
+        goes.standing base (stands_there old mine m base stood_old) was.kept.backed)
         (at_both (Ran IsImage Stays) before.honest after.honest m b is_m is_b goes.disk)
 
     -- no word came for the flush before
@@ -219,7 +224,7 @@ module _ (key : List ℕ) (own : OwnSeat) (line : ScriptLine) (book : Book) (sea
           only = progress.only;
           shows = subst (λ (s : SessionState). ShowsUnder mid_book progress.left (Own (seat_on base old)) (Some s)) (sym same)
               (of_book base old was.whole
-                  (subst (λ (k : List ℕ). Contains progress.left (seat_of k old.name base)) (sym was.key_is) (subst (λ (n : Name). Contains progress.left (seat_of own.key n base)) (sym was.name_is) progress.seated)) was.kept refl refl);
+              (subst (λ (k : List ℕ). Contains progress.left (seat_of k old.name base)) (sym was.key_is) (subst (λ (n : Name). Contains progress.left (seat_of own.key n base)) (sym was.name_is) progress.seated)) was.kept refl refl);
           turn = λ given. words_failed (record { host = refl; random = refl }) (no_flush_before own (seat_on base old) line step words more sheets some (flushes_first base old step is_first) refl) refl;
         }
 
@@ -289,25 +294,30 @@ module _ (key : List ℕ) (own : OwnSeat) (line : ScriptLine) (book : Book) (sea
 
       after_step : (one : Result (Unit {0}) TreeFault) → StepGoes one step mid new between after → StandingStep one step next mid.tree new.tree → ChangeKnown (outcome_of true one)
       after_step (Ok ok) goes stands =
-          record { sheets_now = sheets ++ next ∷ []; base_now = next; grew = (next, refl); progress_now = record {
-            was = made_after key (first ∷ []) own line [] old made words sheets base was step mid new more next (flushes_first base old step is_first) own_seals (seals base was.linked was.kept.backed).2.0 same dirty
-                (ap (λ (s : SessionState). s.changed) goes.state) (ap (λ (s : SessionState). s.key) goes.state) (ap (λ (s : SessionState). s.name) goes.state)
-                (ap (λ (s : SessionState). s.broken) goes.state ∙ ap (λ (s : SessionState). s.broken) same ∙ was.whole)
-                (record {
-                  path_is = ap (λ (s : SessionState). s.path) goes.state ∙ (seals base was.linked was.kept.backed).2.0.backed.path_is;
-                  nonce_is = ap (λ (s : SessionState). s.nonce) goes.state ∙ (seals base was.linked was.kept.backed).2.0.backed.nonce_is;
-                  backs = stands.backs;
-                })
-                (stepped_is mid of_mid new (Ok ok) step between after goes next goes.steps.mid goes.steps.rest goes.steps.ends stands.content_is goes.state);
-            left = left_now next true;
-            did = subst (λ (l : List Act). DidAll book seats l (left_now next true) a b) as_flushes did_all;
-            spares = subst (λ (l : List Act). SparesSeats l seats (left_now next true)) as_flushes (spares_flush true next);
-            only = subst (λ (l : List Act). OnlyOf own.name l) as_flushes (only_flush true next);
-            entry = entry_now;
-            in_book = in_book_now;
-            seated = seat_is_left (Flush (seat_of own.key own.name next)) progress.left;
-            stood = stood_next;
-          } }
+          record {
+            sheets_now = sheets ++ next ∷ [];
+            base_now = next;
+            grew = (next, refl);
+            progress_now = record {
+              was = made_after key (first ∷ []) own line [] old made words sheets base was step mid new more next (flushes_first base old step is_first) own_seals (seals base was.linked was.kept.backed).2.0 same dirty
+                  (ap (λ (s : SessionState). s.changed) goes.state) (ap (λ (s : SessionState). s.key) goes.state) (ap (λ (s : SessionState). s.name) goes.state)
+                  (ap (λ (s : SessionState). s.broken) goes.state ∙ ap (λ (s : SessionState). s.broken) same ∙ was.whole)
+                  (record {
+                    path_is = ap (λ (s : SessionState). s.path) goes.state ∙ (seals base was.linked was.kept.backed).2.0.backed.path_is;
+                    nonce_is = ap (λ (s : SessionState). s.nonce) goes.state ∙ (seals base was.linked was.kept.backed).2.0.backed.nonce_is;
+                    backs = stands.backs;
+                  })
+                  (stepped_is mid of_mid new (Ok ok) step between after goes next goes.steps.mid goes.steps.rest goes.steps.ends stands.content_is goes.state);
+              left = left_now next true;
+              did = subst (λ (l : List Act). DidAll book seats l (left_now next true) a b) as_flushes did_all;
+              spares = subst (λ (l : List Act). SparesSeats l seats (left_now next true)) as_flushes (spares_flush true next);
+              only = subst (λ (l : List Act). OnlyOf own.name l) as_flushes (only_flush true next);
+              entry = entry_now;
+              in_book = in_book_now;
+              seated = seat_is_left (Flush (seat_of own.key own.name next)) progress.left;
+              stood = stood_next;
+            };
+          }
       after_step (Err (trees.Damaged damage)) goes stands = absurd stands
       after_step (Err trees.Host) goes stands =
           record {

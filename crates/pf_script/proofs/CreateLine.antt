@@ -129,8 +129,8 @@ module _ (key : List ℕ) (k : ℕ) (name : Name) (utf8 : IsUtf8 name) (before a
   by_case result aside reads keeps (misnamed bad stays same said) =
       subst (λ (r : Result SessionState CreateFault). Both (create_result name r) (made_seat r)) (sym said)
       (empty_idle key line name refl before after random random' (replies.Refused whys.BadName) [] [] false false (stays_so stays)
-          (record { told = told_none before after (ap (λ (h : HostState). h.given) stays); taken = none_taken_now same; on_host = ap (λ (h : HostState). h.faults) stays; on_words = ap (λ (w : WordsState). w.faults) same }) refl refl
-          (λ standing. refused whys.BadName (seat_first (naming_rules name []) whys.BadName (inl (refl, λ target. bad (named_target name utf8 target)))) (record { host = refl; random = refl }) refl refl refl refl))
+      (record { told = told_none before after (ap (λ (h : HostState). h.given) stays); taken = none_taken_now same; on_host = ap (λ (h : HostState). h.faults) stays; on_words = ap (λ (w : WordsState). w.faults) same }) refl refl
+      (λ standing. refused whys.BadName (seat_first (naming_rules name []) whys.BadName (inl (refl, λ target. bad (named_target name utf8 target)))) (record { host = refl; random = refl }) refl refl refl refl))
   by_case result aside reads keeps (no_memory good stays same said) =
       subst (λ (r : Result SessionState CreateFault). Both (create_result name r) (made_seat r)) (sym said)
       (record {
@@ -142,20 +142,20 @@ module _ (key : List ℕ) (k : ℕ) (name : Name) (utf8 : IsUtf8 name) (before a
   by_case result aside reads keeps (look_up_failed good fails same said) =
       subst (λ (r : Result SessionState CreateFault). Both (create_result name r) (made_seat r)) (sym said)
       (empty_idle key line name refl before after random random' replies.HostFault [] [] true false fails.disk
-          (record { told = fails.asked.asked.told; taken = none_taken_now same; on_host = fails.asked.asked.faults; on_words = ap (λ (w : WordsState). w.faults) same }) refl refl
-          (λ standing. host_failed (record { host = refl; random = refl }) (not_asked k name refl) refl))
+      (record { told = fails.asked.asked.told; taken = none_taken_now same; on_host = fails.asked.asked.faults; on_words = ap (λ (w : WordsState). w.faults) same }) refl refl
+      (λ standing. host_failed (record { host = refl; random = refl }) (not_asked k name refl) refl))
   by_case result aside reads keeps (was_there size good looks same said) =
       let given = LengthWas name (Some size) ∷ [] in
       subst (λ (r : Result SessionState CreateFault). Both (create_result name r) (made_seat r)) (sym said)
       (empty_idle key line name refl before after random random' (replies.Refused (whys.Exists name)) given [] false false looks.disk
-          (record { told = looks.asked.asked.told; taken = none_taken_now same; on_host = looks.asked.asked.faults; on_words = ap (λ (w : WordsState). w.faults) same }) refl refl
-          (λ standing. refused (whys.Exists name)
-          (seat_first (naming_rules name given) (whys.Exists name) (inr ((λ other refuses. refuses.1 good.is_target), inl (refl, (size, Contains-push [] (LengthWas name (Some size))))))) (record { host = refl; random = refl }) refl refl refl refl))
+      (record { told = looks.asked.asked.told; taken = none_taken_now same; on_host = looks.asked.asked.faults; on_words = ap (λ (w : WordsState). w.faults) same }) refl refl
+      (λ standing. refused (whys.Exists name)
+      (seat_first (naming_rules name given) (whys.Exists name) (inr ((λ other refuses. refuses.1 good.is_target), inl (refl, (size, Contains-push [] (LengthWas name (Some size))))))) (record { host = refl; random = refl }) refl refl refl refl))
   by_case result aside reads keeps (no_words good looks fewer said) =
       subst (λ (r : Result SessionState CreateFault). Both (create_result name r) (made_seat r)) (sym said)
       (empty_idle key line name refl before after random random' replies.WordsFault (LengthWas name None ∷ []) fewer.words false true looks.disk
-          (record { told = looks.asked.asked.told; taken = fewer.told; on_host = looks.asked.asked.faults; on_words = fewer.once }) refl refl
-          (λ standing. words_failed (record { host = refl; random = refl }) (no_creation k name) refl))
+      (record { told = looks.asked.asked.told; taken = fewer.told; on_host = looks.asked.asked.faults; on_words = fewer.once }) refl refl
+      (λ standing. words_failed (record { host = refl; random = refl }) (no_creation k name) refl))
   by_case result aside reads keeps (create_stopped nonce between good looks drawn stopped said) =
       let those = stopped.stopped.answered in
       let these = LengthWas name None ∷ those in
@@ -167,7 +167,7 @@ module _ (key : List ℕ) (k : ℕ) (name : Name) (utf8 : IsUtf8 name) (before a
         on_words = drawn.took.calm;
       } in
       let turn : (standing : Standing) → SeatTurn standing key false Empty line (seen_by these words true false) replies.HostFault (act nonce these drawn false ∷ []) Empty = λ standing.
-          host_failed (record { host = refl; random = refl }) (not_created k name (empty_sheet name nonce) (seals_empty nonce these drawn stopped.linked)) refl in
+      host_failed (record { host = refl; random = refl }) (not_created k name (empty_sheet name nonce) (seals_empty nonce these drawn stopped.linked)) refl in
       subst (λ (r : Result SessionState CreateFault). Both (create_result name r) (made_seat r)) (sym said)
       (record {
         goes = empty_goes key line name refl None before after random random' (subst (λ (r : Result SessionState CreateFault). OnDisk before after (KeepsUnder CoversNone (CoversMade r) (λ n. n ≡ name))) said (keeps good.is_target)) tt (λ n none. absurd none)
@@ -192,8 +192,8 @@ module _ (key : List ℕ) (k : ℕ) (name : Name) (utf8 : IsUtf8 name) (before a
         on_words = drawn.took.calm;
       } in
       let turn : (standing : Standing) → SeatTurn standing key false Empty line (seen_by these words false false) replies.Created (act nonce these drawn true ∷ []) (Own (new_seat key name sheet)) = λ standing.
-          accepted (seat_none (naming_rules name these) ((λ other refuses. refuses.1 good.is_target), ((λ other refuses. was_absent name (empty_node key name nonce) refuses.1.0 refuses.1.1), tt))) (record { host = refl; random = refl })
-          (creates_file k name sheet (seals_empty nonce these drawn is_fresh.linked)) in
+      accepted (seat_none (naming_rules name these) ((λ other refuses. refuses.1 good.is_target), ((λ other refuses. was_absent name (empty_node key name nonce) refuses.1.0 refuses.1.1), tt))) (record { host = refl; random = refl })
+      (creates_file k name sheet (seals_empty nonce these drawn is_fresh.linked)) in
       let same : new_seat key name sheet ≡ seat_on sheet made = own_same sheet key key name name [] (now sheet made.tree) [] [] false false None None false false refl refl (sym is_fresh.stands.now_is) refl refl refl refl in
       subst (λ (r : Result SessionState CreateFault). Both (create_result name r) (made_seat r)) (sym said)
       (record {
@@ -201,7 +201,7 @@ module _ (key : List ℕ) (k : ℕ) (name : Name) (utf8 : IsUtf8 name) (before a
             (record { of_script = of_created key name nonce good; key_is = refl; clean = λ whole calm. refl }) (λ n has. has)
             replies.Created these words false false seen refl refl
             (empty_turns key line name refl (seen_by these words false false) replies.Created (Some made) these (act nonce these drawn true ∷ []) (Own (new_seat key name sheet)) turn
-                (λ sealed. whole_file sheet made refl (Contains-push sealed sheet) is_fresh.linked (record { backed = is_fresh.stands.backed; rests = λ calm. record { stands = is_fresh.stands; clean = refl } }) (ap Own same) refl));
+            (λ sealed. whole_file sheet made refl (Contains-push sealed sheet) is_fresh.linked (record { backed = is_fresh.stands.backed; rests = λ calm. record { stands = is_fresh.stands; clean = refl } }) (ap Own same) refl));
         booked = record {
           seen = seen_by these words false false;
           was_seen = seen_in these words false false before after random random' seen;

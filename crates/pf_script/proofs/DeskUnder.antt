@@ -82,7 +82,7 @@ module _ (old : DeskState) (desk : IsDesk old) (k : ℕ) (below : k < SEATS) (ta
           subst (λ (x : Seat). ShowsUnder (booked_all under.acts book) under.left x (session_at new j)) (sym (get_or-set_other state.seats k j under.after Empty apart))
           (subst (λ (o : Option SessionState). ShowsUnder (booked_all under.acts book) under.left (seat_at state j) o) (sym (desking.there old desk k below taken line names says left j apart))
           (other_shows under.acts under.left book seats (seat_at state j) (session_at old j)
-              (λ own is among. others_apart old desk k below taken line names says left j own apart is (under.concerned own.name among)) under.spares (is_state.shows j)))
+          (λ own is among. others_apart old desk k below taken line names says left j own apart is (under.concerned own.name among)) under.spares (is_state.shows j)))
 
       turn_of : Knows book state.key (seat_at state k) line reply → SeatTurn (stands_on state.key (reading a.now)) state.key taken (seat_at state k) line seen reply under.acts under.after
       turn_of knows =

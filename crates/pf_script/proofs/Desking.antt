@@ -125,8 +125,8 @@ module _ (old : DeskState) (desk : IsDesk old) (k : ℕ) (below : k < SEATS) (ta
         (covers_less (CoversBoth (CoversSome (session_at old k)) (CoversEach Of)) (CoversDesk old) (CoversBoth (CoversSome left) (CoversEach Of)) (CoversDesk new) (Concerns taken line (session_at old k)) a b
         (λ book seats covers. (covers_at (session_at old k) book seats (λ s is. covers k s is), λ s of. covers of.0 s of.2))
         (λ book seats covers j s is. ⊎_elim
-            (λ e. covers_of left s book seats (sym here ∙ ap (session_at new) (sym e) ∙ is) covers.0)
-            (λ apart. covers.1 s (j, apart, sym (there j apart) ∙ is)) (same_or_not j k))
+        (λ e. covers_of left s book seats (sym here ∙ ap (session_at new) (sym e) ∙ is) covers.0)
+        (λ apart. covers.1 s (j, apart, sym (there j apart) ∙ is)) (same_or_not j k))
         (others_too (CoversSome (session_at old k)) (CoversSome left) (Concerns taken line (session_at old k)) Of a b (λ s of. others_apart of.0 s of.1 of.2) keeps))
 
     -- the state of a script after it

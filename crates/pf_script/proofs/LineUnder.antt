@@ -79,7 +79,7 @@ module _ (key : List ℕ) (line : ScriptLine) (old new : SessionState) (seated :
           let own = seat_on base old in
           let standing = stands_on key (reading a.now) in
           let out = change_known key own line book seats a agrees on.image base seated.of_script.is_target standing a b old new [] [] is.words [] base step [] (asks (length (now base old.tree))) seated.of_script
-              (begins key line (seen_by is.these is.words false false) (replied flushed) old whole (Some new) a b book seats agrees base on seated standing) before after is_a is_b ran (read_image after.honest b is_b reads) (Went flushed) is.left in
+          (begins key line (seen_by is.these is.words false false) (replied flushed) old whole (Some new) a b book seats agrees base on seated standing) before after is_a is_b ran (read_image after.honest b is_b reads) (Went flushed) is.left in
           let then = out.progress_now in record {
             acts = flushes own out.sheets_now;
             left = then.left;
@@ -102,8 +102,8 @@ module _ (key : List ℕ) (line : ScriptLine) (old new : SessionState) (seated :
           let standing = stands_on key (reading a.now) in
           fell_under key line old new seated (seen_by is.these is.words (host_blamed blame) false) (flush_reply (fault_of blame)) is.these is.words (host_blamed blame) false refl a b book seats agrees base on.image
           (change_known key (seat_on base old) line book seats a agrees on.image base seated.of_script.is_target standing a b old new [] [] is.words [] base step [] (asks (length (now base old.tree))) seated.of_script
-              (begins key line (seen_by is.these is.words (host_blamed blame) false) (flush_reply (fault_of blame)) old whole (Some new) a b book seats agrees base on seated standing) before after is_a is_b ran (read_image after.honest b is_b reads)
-              (Broke blame) is.left));
+          (begins key line (seen_by is.these is.words (host_blamed blame) false) (flush_reply (fault_of blame)) old whole (Some new) a b book seats agrees base on seated standing) before after is_a is_b ran (read_image after.honest b is_b reads)
+          (Broke blame) is.left));
     }
     line_under Lacked is = record {
       seen = seen_by is.these is.words false true;
@@ -113,6 +113,6 @@ module _ (key : List ℕ) (line : ScriptLine) (old new : SessionState) (seated :
           let standing = stands_on key (reading a.now) in
           fell_under key line old new seated (seen_by is.these is.words false true) replies.WordsFault is.these is.words false true refl a b book seats agrees base on.image
           (change_known key (seat_on base old) line book seats a agrees on.image base seated.of_script.is_target standing a b old new [] [] is.words [] base step [] (asks (length (now base old.tree))) seated.of_script
-              (begins key line (seen_by is.these is.words false true) replies.WordsFault old whole (Some new) a b book seats agrees base on seated standing) before after is_a is_b ran (read_image after.honest b is_b reads) Lacked is.left));
+          (begins key line (seen_by is.these is.words false true) replies.WordsFault old whole (Some new) a b book seats agrees base on seated standing) before after is_a is_b ran (read_image after.honest b is_b reads) Lacked is.left));
     }
     line_under Wanted is = tt

@@ -275,22 +275,21 @@ module _ (key : List ℕ) (k : ℕ) (to : Name) (old : SessionState) (seated : I
         subst (λ (f : FlushFault). SeatGoes key false line (move_reply (Err (move_of_flush f))) (Some old) (Some new) before after random random') (sym fault_is)
         (subst (λ (r : Result Reply Memory). SeatGoes key false line r (Some old) (Some new) before after random random') (blamed_reply blame)
         (broken_on blame given all
-            (record {
-              told = told_on (looked None ∷ []) these before start after free.looks.asked.asked.told seen.told;
-              taken = taken_then words (first ∷ second ∷ []) random fails.between random' seen.taken fails.drawn.took.told;
-              on_host = subst (λ n. CountsFault (host_blamed blame) n after.faults) free.looks.asked.asked.faults seen.on_host;
-              on_words = fails.drawn.took.calm ∙ seen.on_words;
-            }) key_is name_is broken
-            (λ base linked kept.
-            let on = seals base linked kept.backed in
-            (
-              record { deed = Flush (seat_of old.key old.name on.0); done = false } ∷ [],
-              broken_seat (seat_on base old),
-              not_flushed_to_move k to (seat_on base old) words on.0 first second blame fails.is_changed on.1 refl (short_more (looked None ∷ []) these old.name blame blames),
-              refl,
-              refl,
-              refl,
-            ))))
+        (record {
+          told = told_on (looked None ∷ []) these before start after free.looks.asked.asked.told seen.told;
+          taken = taken_then words (first ∷ second ∷ []) random fails.between random' seen.taken fails.drawn.took.told;
+          on_host = subst (λ n. CountsFault (host_blamed blame) n after.faults) free.looks.asked.asked.faults seen.on_host;
+          on_words = fails.drawn.took.calm ∙ seen.on_words;
+        }) key_is name_is broken
+        (λ base linked kept.
+        let on = seals base linked kept.backed in (
+          record { deed = Flush (seat_of old.key old.name on.0); done = false } ∷ [],
+          broken_seat (seat_on base old),
+          not_flushed_to_move k to (seat_on base old) words on.0 first second blame fails.is_changed on.1 refl (short_more (looked None ∷ []) these old.name blame blames),
+          refl,
+          refl,
+          refl,
+        ))))
 
     module _ (start between : HostState) (mid : SessionState) (nonce : List ℕ) (free : IsFree to before start) (first : FlushesFirst old mid nonce start between random random') where
       f : FlushedFirst old mid nonce start between random random'
@@ -323,21 +322,20 @@ module _ (key : List ℕ) (k : ℕ) (to : Name) (old : SessionState) (seated : I
           subst (λ (x : FlushFault). SeatGoes key false line (move_reply (Err (move_of_flush x))) (Some old) (Some new) before after random random') (sym by.fault_is)
           (subst (λ (r : Result Reply Memory). SeatGoes key false line r (Some old) (Some new) before after random random') (blamed_reply by.blame)
           (broken_on by.blame (all_given by.these) all_words
-              (record { told = all_told by.these by.told; taken = f.taken; on_host = subst (λ n. CountsFault (host_blamed by.blame) n after.faults) up_to by.on_host; on_words = f.on_words })
-              (ap (λ (s : SessionState). s.key) same ∙ f.key_is) (ap (λ (s : SessionState). s.name) same ∙ f.name_is) (ap (λ (s : SessionState). s.broken) same)
-              (λ base linked kept.
-              let each = f.each base linked kept in
-              let base' = each.1 in
-              let on = carries.carries.each base' each.4 each.3 in
-              (
-                flushes (seat_on base old) each.0 ++ record { deed = Move old.name (seat_of old.key to on.next); done = false } ∷ [],
-                broken_seat (seat_on base' mid),
-                not_carried k to (seat_on base old) (seat_on base' mid) f.words (f.first ∷ f.second ∷ []) each.0 on.next by.blame each.2 (seals_moved false base' each.3 on) refl
-                    (short_more (looked None ∷ []) (f.these ++ by.these) old.name by.blame (short_more f.these by.these old.name by.blame (subst (λ (n : Name). BlamesFlush n by.these by.blame) f.name_is by.blames))),
-                refl,
-                f.key_is,
-                f.name_is,
-              ))))
+          (record { told = all_told by.these by.told; taken = f.taken; on_host = subst (λ n. CountsFault (host_blamed by.blame) n after.faults) up_to by.on_host; on_words = f.on_words })
+          (ap (λ (s : SessionState). s.key) same ∙ f.key_is) (ap (λ (s : SessionState). s.name) same ∙ f.name_is) (ap (λ (s : SessionState). s.broken) same)
+          (λ base linked kept.
+          let each = f.each base linked kept in
+          let base' = each.1 in
+          let on = carries.carries.each base' each.4 each.3 in (
+            flushes (seat_on base old) each.0 ++ record { deed = Move old.name (seat_of old.key to on.next); done = false } ∷ [],
+            broken_seat (seat_on base' mid),
+            not_carried k to (seat_on base old) (seat_on base' mid) f.words (f.first ∷ f.second ∷ []) each.0 on.next by.blame each.2 (seals_moved false base' each.3 on) refl
+                (short_more (looked None ∷ []) (f.these ++ by.these) old.name by.blame (short_more f.these by.these old.name by.blame (subst (λ (n : Name). BlamesFlush n by.these by.blame) f.name_is by.blames))),
+            refl,
+            f.key_is,
+            f.name_is,
+          ))))
 
       -- the seat under its new name
       shows_moved : (sealed : List Sheet) (base' : Sheet) (acts : List Act) → RestsOn base' mid → (on : MovesOn true to nonce base' mid between after) → Contains (sealed ++ sheets_of acts) on.next → new ≡ renamed_session to nonce mid
@@ -345,7 +343,7 @@ module _ (key : List ℕ) (k : ℕ) (to : Name) (old : SessionState) (seated : I
       shows_moved sealed base' acts rests on among same =
           subst (λ (s : SessionState). Shows (sealed ++ sheets_of acts) (Own (renamed (seat_on base' mid) to on.next)) (Some s)) (sym same)
           (whole_file on.next (renamed_session to nonce mid) f.whole among on.is_next.linked (record { backed = on.on_next.stands.backed; rests = λ unchanged. on.on_next })
-              (ap (λ (content : List ℕ). Own (own_with mid.key to on.next content mid.tree.dirty mid.changed mid.drawn mid.broken)) (rests.stands.now_is ∙ sym on.same_content ∙ sym on.on_next.stands.now_is)) refl)
+          (ap (λ (content : List ℕ). Own (own_with mid.key to on.next content mid.tree.dirty mid.changed mid.drawn mid.broken)) (rests.stands.now_is ∙ sym on.same_content ∙ sym on.on_next.stands.now_is)) refl)
 
       passes : (base : Sheet) (more : List Answer) → NoneRefuses (rules key false (Own (seat_on base old)) line (all_given more))
       passes base more =
@@ -379,10 +377,10 @@ module _ (key : List ℕ) (k : ℕ) (to : Name) (old : SessionState) (seated : I
     move_cases result (misnamed bad same stays words said) =
         by_result (Err moves.BadName) said
         (nothing_goes key line (Ok (replies.Refused whys.BadName)) old new before after random random' same stays words
-            (refused_goes key false line whys.BadName (Some old) before random
-                (λ sealed seat shows.
-                let shown = shows_some sealed seat old shows in
-                first_then (move_rules []) whys.BadName seat shown.shown shown.seat_is (shown.broken_is ∙ whole) (inr (not_busy, inl (refl, bad)))) seated))
+        (refused_goes key false line whys.BadName (Some old) before random
+        (λ sealed seat shows.
+        let shown = shows_some sealed seat old shows in
+        first_then (move_rules []) whys.BadName seat shown.shown shown.seat_is (shown.broken_is ∙ whole) (inr (not_busy, inl (refl, bad)))) seated))
       where
         by_result : (r : Result (Unit {0}) MoveFault) → result ≡ r → SeatGoes key false line (move_reply r) (Some old) (Some new) before after random random' → SeatGoes key false line (move_reply result) (Some old) (Some new) before after random random'
         by_result r said = subst (λ (x : Result (Unit {0}) MoveFault). SeatGoes key false line (move_reply x) (Some old) (Some new) before after random random') (sym said)
@@ -392,22 +390,22 @@ module _ (key : List ℕ) (k : ℕ) (to : Name) (old : SessionState) (seated : I
     move_cases result (look_up_failed good fails same words said) =
         subst (λ (x : Result (Unit {0}) MoveFault). SeatGoes key false line (move_reply x) (Some old) (Some new) before after random random') (sym said)
         (as_before replies.HostFault [] [] true false
-            (record { told = fails.asked.asked.told; taken = subst (λ (w : WordsState). Both random.left w.left (AreTaken [])) (sym words) (none_taken random); on_host = fails.asked.asked.faults; on_words = ap (λ (w : WordsState). w.faults) words })
-            refl refl same (λ sealed base. host_failed (record { host = refl; random = refl }) (not_looked_up k to (seat_on base old) refl) refl))
+        (record { told = fails.asked.asked.told; taken = subst (λ (w : WordsState). Both random.left w.left (AreTaken [])) (sym words) (none_taken random); on_host = fails.asked.asked.faults; on_words = ap (λ (w : WordsState). w.faults) words })
+        refl refl same (λ sealed base. host_failed (record { host = refl; random = refl }) (not_looked_up k to (seat_on base old) refl) refl))
     move_cases result (was_there size good looks same words said) =
         subst (λ (x : Result (Unit {0}) MoveFault). SeatGoes key false line (move_reply x) (Some old) (Some new) before after random random') (sym said)
         (as_before (replies.Refused whys.TargetExists) (looked (Some size) ∷ []) [] false false
-            (record { told = looks.asked.asked.told; taken = subst (λ (w : WordsState). Both random.left w.left (AreTaken [])) (sym words) (none_taken random); on_host = looks.asked.asked.faults; on_words = ap (λ (w : WordsState). w.faults) words })
-            refl refl same
-            (λ sealed base. refused whys.TargetExists
-                (first_then (move_rules (looked (Some size) ∷ [])) whys.TargetExists (Own (seat_on base old)) (seat_on base old) refl whole
-                    (inr (not_busy, inr ((λ other bad. bad.1 good), inl (refl, (size, [], refl))))))
-                (record { host = refl; random = refl }) refl refl refl refl))
+        (record { told = looks.asked.asked.told; taken = subst (λ (w : WordsState). Both random.left w.left (AreTaken [])) (sym words) (none_taken random); on_host = looks.asked.asked.faults; on_words = ap (λ (w : WordsState). w.faults) words })
+        refl refl same
+        (λ sealed base. refused whys.TargetExists
+        (first_then (move_rules (looked (Some size) ∷ [])) whys.TargetExists (Own (seat_on base old)) (seat_on base old) refl whole
+        (inr (not_busy, inr ((λ other bad. bad.1 good), inl (refl, (size, [], refl))))))
+        (record { host = refl; random = refl }) refl refl refl refl))
     move_cases result (no_words free fewer same said) =
         subst (λ (x : Result (Unit {0}) MoveFault). SeatGoes key false line (move_reply x) (Some old) (Some new) before after random random') (sym said)
         (as_before replies.WordsFault (looked None ∷ []) fewer.words false true
-            (record { told = free.looks.asked.asked.told; taken = fewer.told; on_host = free.looks.asked.asked.faults; on_words = fewer.once })
-            refl refl same (λ sealed base. words_failed (record { host = refl; random = refl }) (no_move k to (seat_on base old)) refl))
+        (record { told = free.looks.asked.asked.told; taken = fewer.told; on_host = free.looks.asked.asked.faults; on_words = fewer.once })
+        refl refl same (λ sealed base. words_failed (record { host = refl; random = refl }) (no_move k to (seat_on base old)) refl))
     move_cases result (not_flushed start fault free fails said) =
         subst (λ (x : Result (Unit {0}) MoveFault). SeatGoes key false line (move_reply x) (Some old) (Some new) before after random random') (sym said)
         (unflushed start fault free fails (seal_ends old seated.of_script new start after random fails.between (Err fault) fails.sealed fails.keys fails.came fails.goes))
@@ -423,8 +421,8 @@ pub move_goes : (key : List ℕ) (k : ℕ) (to : Name) (old new : SessionState) 
 move_goes key k to old new result before after random random' seated whole goes aside reads =
     move_cases key k to old seated whole new before after random random'
     (both_weaker (KeepsUnder (Covers old) (Covers new) (λ name. (name ≡ to) ⊎ (name ≡ old.name))) (KeepsUnder (Covers old) (Covers new) (Concerns false (lines.Move k to) (Some old))) before.honest after.honest
-        (move_keeps old seated.of_script whole to result new before after random random' goes aside reads)
-        (λ a b keeps. keeps_more (Covers old) (Covers new) (λ name. (name ≡ to) ⊎ (name ≡ old.name)) (Concerns false (lines.Move k to) (Some old)) a b concerned keeps))
+    (move_keeps old seated.of_script whole to result new before after random random' goes aside reads)
+    (λ a b keeps. keeps_more (Covers old) (Covers new) (λ name. (name ≡ to) ⊎ (name ≡ old.name)) (Concerns false (lines.Move k to) (Some old)) a b concerned keeps))
     (of_moved old new seated.of_script result to before after random random' goes) result goes
   where
     concerned : (name : Name) → (name ≡ to) ⊎ (name ≡ old.name) → Concerns false (lines.Move k to) (Some old) name

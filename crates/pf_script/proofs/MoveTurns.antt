@@ -1,30 +1,26 @@
 -- The line `move` under a book: how it ends.
-use Rattle.std.proofs.Common.{◌≡◌, ◌≢◌, ◌⊎◌, inl, inr, Bool, true, false, List, [], ◌∷◌, ◌++◌, ℕ, refl, sym, ◌∙◌, ap, subst, Option, Some, None, Result, Ok, Err}
-use Rattle.std.proofs.lemmas.List.Elements.{Contains-push}
-use Rattle.std.specs.Prelude.{Contains, IfSome, option_map}
-use Rattle.node_tree.specs.Sheet.{Sheet, Stands}
-use Rattle.pf_io.specs.Counts.{counted}
+use Rattle.std.proofs.Common.{◌≡◌, ◌≢◌, ◌⊎◌, inl, inr, Bool, true, false, List, [], ◌∷◌, ◌++◌, ℕ, refl, sym, ◌∙◌, ap, subst, Option, Some, None, Result, Err}
+use Rattle.std.specs.Prelude.{Contains}
+use Rattle.node_tree.specs.Sheet.{Sheet}
 use Rattle.pf_io.specs.Disk.{Name, Disk, File, IsImage, reading, read_of}
-use Rattle.pf_io.specs.Host.{Answer, LengthWas, HostState, Both, IsMore, OnDisk, ReadsAsImage, contents}
+use Rattle.pf_io.specs.Host.{Answer, LengthWas, HostState, Both, IsMore, OnDisk, ReadsAsImage}
 use Rattle.pf_io.specs.Moments.{Honest, Ran, Where}
 use Rattle.pf_io.specs.Names.{IsTarget, recovery_of}
 use Rattle.pf_io.specs.Words.{WordsState}
 use Rattle.pf_io.specs.declared.faults.Memory.{Memory}
-use Rattle.pf_io.proofs.Telling.{told_none, told_on, both_same, both_then, both_weaker}
+use Rattle.pf_io.proofs.Telling.{told_none, told_on, both_same}
 use Rattle.pf_session.specs.Aside.{LeavesApart, KeepsApart, LeavesApartBoth, KeepsApartBoth, AsideBoth}
 use Rattle.pf_session.specs.Creating.{LooksUp}
 use Rattle.pf_session.specs.Faults.{move_of_flush}
 use Rattle.pf_session.specs.Reopening.{AsEither, Stood}
 use Rattle.pf_session.specs.Sealing.{StoodIf}
 use Rattle.pf_session.specs.Asking.{IsTaken as AreTaken}
-use Rattle.pf_session.specs.Flushing.{SealGoes, node_short, call_failed}
-use Rattle.pf_session.specs.Moving.{MoveGoes, misnamed, no_memory, look_up_failed, was_there, no_words, not_flushed, not_moved, moved, IsFree, FlushFails, FlushesFirst, CarryGoes, Moves, UndamagedMove, IsUndamagedMove, IsKeptOn, renamed}
+use Rattle.pf_session.specs.Moving.{MoveGoes, misnamed, no_memory, look_up_failed, was_there, no_words, not_flushed, not_moved, moved, IsFree, FlushFails, FlushesFirst, Moves, UndamagedMove, IsKeptOn, renamed}
 use Rattle.pf_session.specs.State.{SessionState}
 use Rattle.pf_session.specs.declared.fault.FlushFault.{FlushFault}
-use Rattle.pf_session.specs.declared.fault.FlushFault.TheVariants as faults
 use Rattle.pf_session.specs.declared.fault.MoveFault.{MoveFault}
 use Rattle.pf_script.specs.Book.{Book, Entry, Seal, Agrees}
-use Rattle.pf_script.specs.BookActs.{Flush, Move, Act, Among}
+use Rattle.pf_script.specs.BookActs.{Flush, Move, Act}
 use Rattle.pf_script.specs.BookDebts.{Unchanged, DidAll, seat_of}
 use Rattle.pf_script.specs.BookSeats.{Covers, KeepsUnder}
 use Rattle.pf_script.specs.BookTurns.{SeenIn, ShowsUnder, of_book, other_file, SeatUnder, SeatAgrees, SeatBooked}
@@ -39,7 +35,6 @@ use Rattle.pf_script.specs.declared.line.ScriptLine.{ScriptLine}
 use Rattle.pf_script.specs.declared.line.ScriptLine.TheVariants as lines
 use Rattle.pf_script.specs.declared.reply.Reply.{Reply}
 use Rattle.pf_script.specs.declared.reply.Reply.TheVariants as replies
-use Rattle.pf_script.specs.declared.reply.Why.{Why}
 use Rattle.pf_script.specs.declared.reply.Why.TheVariants as whys
 use Rattle.pf_script.proofs.ActKeeping.{unchanged_now, one_spares}
 use Rattle.pf_script.proofs.CallKeeping.{at_both, both_with, on_to, read_image}

@@ -1,38 +1,34 @@
 -- The line `move` under a book, from the contract of a move.
-use Rattle.std.proofs.Common.{◌≡◌, ◌≢◌, ◌⊎◌, inl, inr, Bool, true, false, List, [], ◌∷◌, ◌++◌, ℕ, refl, sym, ◌∙◌, ap, subst, Option, Some, None, Result, Ok, Err}
-use Rattle.std.proofs.lemmas.List.{append-nil}
-use Rattle.std.proofs.lemmas.List.Elements.{Contains-push}
-use Rattle.std.specs.Prelude.{Contains, IfSome, option_map}
+use Rattle.std.proofs.Common.{◌≡◌, ◌⊎◌, inl, inr, Bool, true, false, List, [], ◌∷◌, ◌++◌, ℕ, refl, sym, ◌∙◌, ap, subst, Option, Some, None, Ok}
+use Rattle.std.specs.Prelude.{Contains}
 use Rattle.node_tree.specs.Backing.{now}
-use Rattle.node_tree.specs.Sheet.{Sheet, Stands}
+use Rattle.node_tree.specs.Sheet.{Sheet}
 use Rattle.node_tree.specs.State.{TreeState}
-use Rattle.pf_io.specs.Counts.{counted}
-use Rattle.pf_io.specs.Disk.{Name, Disk, File, IsImage, reading, read_of}
-use Rattle.pf_io.specs.Host.{Answer, LengthWas, HostState, Both, IsMore, OnDisk, ReadsAsImage, contents}
+use Rattle.pf_io.specs.Disk.{Name, IsImage, reading}
+use Rattle.pf_io.specs.Host.{Answer, HostState, Both, IsMore, ReadsAsImage}
 use Rattle.pf_io.specs.Moments.{Honest, Ran, Where}
-use Rattle.pf_io.specs.Names.{IsTarget, recovery_of}
+use Rattle.pf_io.specs.Names.{IsTarget}
 use Rattle.pf_io.specs.Words.{WordsState}
-use Rattle.pf_io.specs.declared.faults.Memory.{Memory}
-use Rattle.pf_io.proofs.Telling.{told_none, told_on, both_same, both_then, both_weaker}
-use Rattle.pf_session.specs.Aside.{Aside, LeavesApart, KeepsApart, LeavesApartBoth, KeepsApartBoth, AsideBoth}
+use Rattle.pf_io.proofs.Telling.{told_none}
+use Rattle.pf_session.specs.Aside.{Aside, LeavesApart, KeepsApart, LeavesApartBoth, KeepsApartBoth}
 use Rattle.pf_session.specs.Asking.{IsTaken as AreTaken}
 use Rattle.pf_session.specs.Backing.{StandsOn, RestsOn}
 use Rattle.pf_session.specs.Drawing.{IsDrawn}
-use Rattle.pf_session.specs.Moving.{MoveGoes, MovesOn as MovesAs, FlushesFirst, as_it_is, flushed, Moves, Carries, IsKeptOn, renamed, MovedAs, MovedIf, IsFree, UndamagedMove, IsUndamagedMove}
+use Rattle.pf_session.specs.Moving.{MovesOn as MovesAs, FlushesFirst, as_it_is, flushed, Carries, IsKeptOn, renamed, MovedAs, MovedIf}
 use Rattle.pf_session.specs.Reopening.{AsEither, Stood}
 use Rattle.pf_session.specs.Sealing.{StoodIf, Replaces}
-use Rattle.pf_session.specs.State.{SessionState, file_of}
+use Rattle.pf_session.specs.State.{SessionState}
 use Rattle.pf_script.specs.Book.{Book, Entry, Seal, Agrees}
 use Rattle.pf_script.specs.BookActs.{Flush, Move, Act, Among, booked_all, flushed as flushed_book, sealed_entry}
-use Rattle.pf_script.specs.BookDebts.{Unchanged, DidAll, Owes, seat_of}
+use Rattle.pf_script.specs.BookDebts.{DidAll, Owes, seat_of}
 use Rattle.pf_script.specs.BookSeats.{SparesSeats}
 use Rattle.pf_script.specs.Desk.{IsSeated, seat_on}
-use Rattle.pf_script.specs.Script.{OwnSeat, Own}
+use Rattle.pf_script.specs.Script.{OwnSeat}
 use Rattle.pf_script.specs.SeatSteps.{SealsMoved, IsNextSheet, renamed as renamed_own}
 use Rattle.pf_script.specs.Turns.{FlushedToMove, as_it_was, was_changed, flushes}
 use Rattle.pf_script.proofs.ActKeeping.{one_act, one_spares, unchanged_now}
 use Rattle.pf_script.proofs.CallKeeping.{at_both, on_to, read_image}
-use Rattle.pf_script.proofs.Composing.{all_agrees, did_on, booked_on}
+use Rattle.pf_script.proofs.Composing.{did_on}
 use Rattle.pf_script.proofs.During.{leaves_more}
 use Rattle.pf_script.proofs.Flushed.{SealsWith, FlushEnds, not_begun, not_ended, was_ended, seal_ends, next_of}
 use Rattle.pf_script.proofs.FlushLine.{flush_act, resealed_own}
@@ -119,37 +115,35 @@ module _ (key : List ℕ) (old : SessionState) (seated : IsSeated key old) (whol
     one_name next n (inr none) = absurd none
 
     pub first_known : (mid : SessionState) (words : List (List ℕ)) (start between : HostState) → start.honest ≡ Some m → FirstLeft mid start between words → (t : Honest) × (between.honest ≡ Some t) × FirstKnown mid words t
-    first_known mid words start between is_m (no_flush calm same stays none) =
-        (
-          m,
-          ap (λ (h : HostState). h.honest) stays ∙ is_m,
-          record {
-            sheets = [];
-            base_now = base;
-            first = subst (λ (w : List (List ℕ)). FlushedToMove own w [] (seat_on base mid)) (sym none) (subst (λ (s : SessionState). FlushedToMove own [] [] (seat_on base s)) (sym same) (as_it_was calm));
-            left = seats;
-            did = (unchanged_now m, λ s has. has);
-            spares = λ s has apart. has;
-            only = λ n none. absurd none;
-            entry_now = entry;
-            in_book = was;
-            there_now = there;
-            stood_now = stood;
-            rests = subst (λ (s : SessionState). RestsOn base s) (sym same) (kept.rests calm);
-            key_is = ap (λ (s : SessionState). s.key) same;
-            name_is = ap (λ (s : SessionState). s.name) same;
-            whole_mid = ap (λ (s : SessionState). s.broken) same ∙ whole;
-            calm = ap (λ (s : SessionState). s.changed) same ∙ calm;
-            image_now = image;
-          },
-        )
+    first_known mid words start between is_m (no_flush calm same stays none) = (
+      m,
+      ap (λ (h : HostState). h.honest) stays ∙ is_m,
+      record {
+        sheets = [];
+        base_now = base;
+        first = subst (λ (w : List (List ℕ)). FlushedToMove own w [] (seat_on base mid)) (sym none) (subst (λ (s : SessionState). FlushedToMove own [] [] (seat_on base s)) (sym same) (as_it_was calm));
+        left = seats;
+        did = (unchanged_now m, λ s has. has);
+        spares = λ s has apart. has;
+        only = λ n none. absurd none;
+        entry_now = entry;
+        in_book = was;
+        there_now = there;
+        stood_now = stood;
+        rests = subst (λ (s : SessionState). RestsOn base s) (sym same) (kept.rests calm);
+        key_is = ap (λ (s : SessionState). s.key) same;
+        name_is = ap (λ (s : SessionState). s.name) same;
+        whole_mid = ap (λ (s : SessionState). s.broken) same ∙ whole;
+        calm = ap (λ (s : SessionState). s.changed) same ∙ calm;
+        image_now = image;
+      },
+    )
     first_known mid words start between is_m (one_flush changed seals same dirty aside reads) =
         let t = on_to (Ran (LeavesApart old.name) (KeepsApart old.name)) start.honest between.honest m is_m aside in
         let next = seals base stood.as_sheet.stands.linked kept.backed in
         let ran = at_both (Where (Stood old.key old.name base) (Ran (AsEither old.key old.name base next.0) (StoodIf true old.key old.name next.0))) start.honest between.honest m t.0 is_m t.1 next.2.1 stood in
         let entry_is = (agrees.stand (seat_of old.key old.name base) entry there was).entry_is in
-        let now_entry = sealed_entry old.key next.0.content (Some base.content) true in
-        (
+        let now_entry = sealed_entry old.key next.0.content (Some base.content) true in (
           t.0,
           t.1,
           record {

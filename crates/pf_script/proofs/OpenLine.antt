@@ -126,12 +126,23 @@ module _ (key : List ℕ) (name : Name) (target : IsTarget name) (size : ℕ) (b
   none_refuses : IsOpenable block → (secret : MetaSecret) → OpensTo key block secret → name ≡ secret.path → NoneRefuses (opening_rules key name given)
   none_refuses openable secret opens same = (
     λ why refuses. refuses.1 target,
-    (was_there,
-    (magic_is openable.plain.magic_is,
-    (no_flag openable.flag,
-    (no_version openable,
-    (λ why refuses.
-    refuses.4 (same ∙ ap (λ (m : MetaSecret). m.path) (opens_to_one key block secret refuses.1 opens (subst (λ (b : List ℕ). OpensTo key b refuses.1) (last_one name size block refuses.0 refuses.2) refuses.3))), tt))))),
+    (
+      was_there,
+      (
+        magic_is openable.plain.magic_is,
+        (
+          no_flag openable.flag,
+          (
+            no_version openable,
+            (
+              λ why refuses.
+                  refuses.4 (same ∙ ap (λ (m : MetaSecret). m.path) (opens_to_one key block secret refuses.1 opens (subst (λ (b : List ℕ). OpensTo key b refuses.1) (last_one name size block refuses.0 refuses.2) refuses.3))),
+              tt,
+            ),
+          ),
+        ),
+      ),
+    ),
   )
 
 -- the reply to an opening
@@ -217,7 +228,7 @@ module _ (key : List ℕ) (k : ℕ) (name : Name) (utf8 : IsUtf8 name) (before a
     turn standing sheet on stands =
         subst (λ n. SeatTurn standing key false Empty line seen (replies.Opened n) (record { deed = Opening (seat_of key name sheet); done = true } ∷ []) (Own (new_seat key name sheet))) (sym (ap (λ (c : List ℕ). length c) on.now_is) ∙ length_now sheet session.tree)
         (accepts (seat_none (opening_rules key name came) (none_refuses key name target size block openable secret is.opened is.path_is)) (record { host = refl; random = refl })
-            (opened k name sheet stands (sym on.backed.path_is ∙ sym is.path_is) refl))
+        (opened k name sheet stands (sym on.backed.path_is ∙ sym is.path_is) refl))
 
     turns : ((sheets : List Sheet) → Unforged key sheets came → OnFirst sheets session came) → SeatTurns key false line seen (replies.Opened session.tree.size) None (Some session) came
     turns first sealed seat shows =
@@ -228,7 +239,7 @@ module _ (key : List ℕ) (k : ℕ) (name : Name) (utf8 : IsUtf8 name) (before a
         on_first unforged =
             let on = first sealed unforged in
             let among : Contains sealed on.sheet = subst (λ (l : List Sheet). Contains l on.sheet) (sym on.first.split)
-                (Contains-append_right on.first.before (on.sheet ∷ on.first.after) on.sheet (Contains-append_left (on.sheet ∷ []) on.first.after on.sheet (Contains-push [] on.sheet))) in
+            (Contains-append_right on.first.before (on.sheet ∷ on.first.after) on.sheet (Contains-append_left (on.sheet ∷ []) on.first.after on.sheet (Contains-push [] on.sheet))) in
             let acts = record { deed = Opening (seat_of key name on.sheet); done = true } ∷ [] in
             then_more [] acts [] came refl
             (λ _. in_the_end acts
@@ -304,11 +315,11 @@ module _ (key : List ℕ) (k : ℕ) (name : Name) (utf8 : IsUtf8 name) (before a
   by_case result first either (by_answers these asked (misnamed bad are said)) =
       subst (λ (r : Result SessionState OpenFault). Halves (open_result name r) (made_seat r)) (sym said)
       (refuses_to_open [] whys.BadName (subst (λ (l : List Answer). BothAre before.given after.given (IsMore l)) are asked.asked.told) asked.asked.faults
-          (inl (refl, λ target. bad (record { target = target; stored = (named_target name utf8 target).path_is }))))
+      (inl (refl, λ target. bad (record { target = target; stored = (named_target name utf8 target).path_is }))))
   by_case result first either (by_answers these asked (absent good are said)) =
       subst (λ (r : Result SessionState OpenFault). Halves (open_result name r) (made_seat r)) (sym said)
       (refuses_to_open (LengthWas name None ∷ []) (whys.NotFound name) (subst (λ (l : List Answer). BothAre before.given after.given (IsMore l)) are asked.asked.told) asked.asked.faults
-          (inr ((λ why refuses. refuses.1 good.target), inl (refl, Contains-push [] (LengthWas name None)))))
+      (inr ((λ why refuses. refuses.1 good.target), inl (refl, Contains-push [] (LengthWas name None)))))
   by_case result first either (by_answers these asked (block_refused size block fault good are why said)) =
       subst (λ (r : Result SessionState OpenFault). Halves (open_result name r) (made_seat r)) (sym said)
       (block_case size block fault good.target (subst (λ (l : List Answer). BothAre before.given after.given (IsMore l)) are asked.asked.told) asked.asked.faults why)
@@ -318,8 +329,8 @@ module _ (key : List ℕ) (k : ℕ) (name : Name) (utf8 : IsUtf8 name) (before a
   by_case result first either (by_answers these asked (accepted size block secret good are openable is said)) =
       subst (λ (r : Result SessionState OpenFault). Halves (open_result name r) (made_seat r)) (sym said)
       (is_accepted size block secret good.target openable is (subst (λ (l : List Answer). BothAre before.given after.given (IsMore l)) are asked.asked.told) asked.asked.faults
-          (by_answers these asked (accepted size block secret good are openable is refl))
-          (subst (λ (r : Result SessionState OpenFault). IfOk r (λ session. OpensOnFirst session before after)) said first) (subst (λ (r : Result SessionState OpenFault). IfOk r (λ session. OnDisk before after (OpensEither session))) said either))
+      (by_answers these asked (accepted size block secret good are openable is refl))
+      (subst (λ (r : Result SessionState OpenFault). IfOk r (λ session. OpensOnFirst session before after)) said first) (subst (λ (r : Result SessionState OpenFault). IfOk r (λ session. OnDisk before after (OpensEither session))) said either))
   by_case result first either (length_failed good asked said) = subst (λ (r : Result SessionState OpenFault). Halves (open_result name r) (made_seat r)) (sym said) (host_fails [] asked.asked.told asked.asked.faults)
   by_case result first either (read_failed size good asked said) = subst (λ (r : Result SessionState OpenFault). Halves (open_result name r) (made_seat r)) (sym said) (host_fails (LengthWas name (Some size) ∷ []) asked.asked.told asked.asked.faults)
   by_case result first either (no_names good stays said) =

@@ -142,32 +142,32 @@ module _ (key : List ℕ) (k at count : ℕ) (old : SessionState) (seated : IsSe
     given_turns n counted facts sealed base among linked kept =
         let own = seat_on base old in
         at_last [] (λ unforged.
-            let out = on_sheet (Ok n) facts sealed base among kept.backed unforged in (
-              Own own,
-              subst (λ (b : List ℕ). SeatTurn (on_carried key sealed) key false (Own own) (lines.Read k at count) (seen_by given [] false false) (replies.Given b) [] (Own own)) (sym (slice_is n counted base out.0.slice))
-                  (accepted (none_then (refuses whys.TooLong (PIECE < count) ∷ []) (Own own) own refl whole ((λ other long. omega (arith, long.1, few)), tt)) (record { host = refl; random = refl }) (read k at count own refl)),
-              shows_new sealed base among linked kept out.0.backed out.0.same,
-            ))
+        let out = on_sheet (Ok n) facts sealed base among kept.backed unforged in (
+          Own own,
+          subst (λ (b : List ℕ). SeatTurn (on_carried key sealed) key false (Own own) (lines.Read k at count) (seen_by given [] false false) (replies.Given b) [] (Own own)) (sym (slice_is n counted base out.0.slice))
+              (accepted (none_then (refuses whys.TooLong (PIECE < count) ∷ []) (Own own) own refl whole ((λ other long. omega (arith, long.1, few)), tt)) (record { host = refl; random = refl }) (read k at count own refl)),
+          shows_new sealed base among linked kept out.0.backed out.0.same,
+        ))
 
     damage_turns : (d : Damage) → ReadFacts (Err (trees.Damaged d)) at buffer old new given → SheetTurns key false (lines.Read k at count) (seen_by given [] false false) (replies.DamagedNode d) old (Some new) given
     damage_turns d facts sealed base among linked kept =
         let own = seat_on base old in
         at_last [] (λ unforged.
-            let out = on_sheet (Err (trees.Damaged d)) facts sealed base among kept.backed unforged in (
-              Own own,
-              was_damaged d (record { host = refl; random = refl }) (not_read k at count own (ByDamage d) refl out.1) refl,
-              shows_new sealed base among linked kept out.0.backed out.0.same,
-            ))
+        let out = on_sheet (Err (trees.Damaged d)) facts sealed base among kept.backed unforged in (
+          Own own,
+          was_damaged d (record { host = refl; random = refl }) (not_read k at count own (ByDamage d) refl out.1) refl,
+          shows_new sealed base among linked kept out.0.backed out.0.same,
+        ))
 
     host_turns : ReadFacts (Err trees.Host) at buffer old new given → SheetTurns key false (lines.Read k at count) (seen_by given [] true false) replies.HostFault old (Some new) given
     host_turns facts sealed base among linked kept =
         let own = seat_on base old in
         at_last [] (λ unforged.
-            let out = on_sheet (Err trees.Host) facts sealed base among kept.backed unforged in (
-              Own own,
-              host_failed (record { host = refl; random = refl }) (not_read k at count own ByHost refl tt) refl,
-              shows_new sealed base among linked kept out.0.backed out.0.same,
-            ))
+        let out = on_sheet (Err trees.Host) facts sealed base among kept.backed unforged in (
+          Own own,
+          host_failed (record { host = refl; random = refl }) (not_read k at count own ByHost refl tt) refl,
+          shows_new sealed base among linked kept out.0.backed out.0.same,
+        ))
 
   module _ (words : WordsState) (few : count ≤ 32768) (books : OnDisk before after (KeepsUnder (Covers old) (Covers new) (λ name. name ≡ old.name))) (disk : KeepsDisk before after) where
     by_result : (r : Result ℕ TreeFault) → IfOk r (λ n. n ≡ readable old.tree at (length buffer)) → HasCause before.faults after.faults (host_part r) → WhereTold before after (ReadFacts r at buffer old new)
@@ -175,27 +175,27 @@ module _ (key : List ℕ) (k at count : ℕ) (old : SessionState) (seated : IsSe
     by_result (Ok n) counted cause told =
         goes_told key false (lines.Read k at count) old before after words words (replies.Given buffer) (cause.still, refl) new
         (told_weaker (ReadFacts (Ok n) at buffer old new) (λ given. SeatAsks key false (lines.Read k at count) (replies.Given buffer) (Some old) (Some new) given before after words words) before after told
-            (λ given facts. record {
-              seen = seen_by given [] false false;
-              was_seen = record { answers = refl; words = none_taken words; of_host = cause.still; of_words = refl };
-              turns = whole_turns key false (lines.Read k at count) (seen_by given [] false false) (replies.Given buffer) old (Some new) given whole (given_turns few given n counted facts);
-            })) books seated_new (ap (λ (s : SessionState). s.name) fields)
+        (λ given facts. record {
+          seen = seen_by given [] false false;
+          was_seen = record { answers = refl; words = none_taken words; of_host = cause.still; of_words = refl };
+          turns = whole_turns key false (lines.Read k at count) (seen_by given [] false false) (replies.Given buffer) old (Some new) given whole (given_turns few given n counted facts);
+        })) books seated_new (ap (λ (s : SessionState). s.name) fields)
     by_result (Err (trees.Damaged d)) counted cause told =
         goes_told key false (lines.Read k at count) old before after words words (replies.DamagedNode d) (cause.still, refl) new
         (told_weaker (ReadFacts (Err (trees.Damaged d)) at buffer old new) (λ given. SeatAsks key false (lines.Read k at count) (replies.DamagedNode d) (Some old) (Some new) given before after words words) before after told
-            (λ given facts. record {
-              seen = seen_by given [] false false;
-              was_seen = record { answers = refl; words = none_taken words; of_host = cause.still; of_words = refl };
-              turns = whole_turns key false (lines.Read k at count) (seen_by given [] false false) (replies.DamagedNode d) old (Some new) given whole (damage_turns few given d facts);
-            })) books seated_new (ap (λ (s : SessionState). s.name) fields)
+        (λ given facts. record {
+          seen = seen_by given [] false false;
+          was_seen = record { answers = refl; words = none_taken words; of_host = cause.still; of_words = refl };
+          turns = whole_turns key false (lines.Read k at count) (seen_by given [] false false) (replies.DamagedNode d) old (Some new) given whole (damage_turns few given d facts);
+        })) books seated_new (ap (λ (s : SessionState). s.name) fields)
     by_result (Err trees.Host) counted cause told =
         goes_told key false (lines.Read k at count) old before after words words replies.HostFault (cause.once, refl) new
         (told_weaker (ReadFacts (Err trees.Host) at buffer old new) (λ given. SeatAsks key false (lines.Read k at count) replies.HostFault (Some old) (Some new) given before after words words) before after told
-            (λ given facts. record {
-              seen = seen_by given [] true false;
-              was_seen = record { answers = refl; words = none_taken words; of_host = cause.once; of_words = refl };
-              turns = whole_turns key false (lines.Read k at count) (seen_by given [] true false) replies.HostFault old (Some new) given whole (host_turns few given facts);
-            })) books seated_new (ap (λ (s : SessionState). s.name) fields)
+        (λ given facts. record {
+          seen = seen_by given [] true false;
+          was_seen = record { answers = refl; words = none_taken words; of_host = cause.once; of_words = refl };
+          turns = whole_turns key false (lines.Read k at count) (seen_by given [] true false) replies.HostFault old (Some new) given whole (host_turns few given facts);
+        })) books seated_new (ap (λ (s : SessionState). s.name) fields)
     by_result (Err trees.Memory) counted cause told =
         goes_wanting key false (lines.Read k at count) old before after words words (record {}) new (record { takes = λ none. none; told = told_weaker (ReadFacts (Err trees.Memory) at buffer old new) (λ given. Unit {0}) before after told (λ given facts. tt); ends = inl (record { seat = fields; disk = disk; words = refl }) }) books seated_new
         (ap (λ (s : SessionState). s.name) fields) cause.still refl

@@ -67,7 +67,7 @@ module _ (key : List ℕ) (size : ℕ) (small : size ≤ 2 ^ 32) where
     set_in (flushed_and_changed mid between one free some first flush steps said) =
         stepped_in true one some
         (in_after old (Size n) before after random random' mid new between one (of_flushed old mid seated.of_script (Ok tt) before between random random' flush) first
-            (flush_ends old seated.of_script mid before between random random' (Ok tt) flush) steps) said
+        (flush_ends old seated.of_script mid before between random random' (Ok tt) flush) steps) said
 
   -- the last size was set
   last_in : (written : Written) (old new : SessionState) (before after : HostState) (random random' : WordsState) → IsSeated key old → size ≤ old.tree.size + 32768 → SetsSize (Ok written) size old new before after random random'

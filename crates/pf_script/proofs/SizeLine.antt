@@ -107,48 +107,49 @@ module _ (key : List ℕ) (k size : ℕ) (small : size ≤ 2 ^ 32) (old new : Se
         goes_told key false (lines.Size k size) old before after random random' (replies.Sized size)
         (subst (λ (o : Outcome). CountsFault (host_in o) before.faults after.faults) is seen.on_host, subst (λ (o : Outcome). CountsFault (words_in o) random.faults random'.faults) is seen.on_words) new
         (told_weaker (λ given. SizeTold size old new given seen.words seen.outcome) (λ given. SeatAsks key false (lines.Size k size) (replies.Sized size) (Some old) (Some new) given before after random random') before after seen.told
-            (λ given told. record {
-              seen = seen_by given seen.words false false;
-              was_seen = record {
-                answers = refl;
-                words = seen.taken;
-                of_host = subst (λ (o : Outcome). CountsFault (host_in o) before.faults after.faults) is seen.on_host;
-                of_words = subst (λ (o : Outcome). CountsFault (words_in o) random.faults random'.faults) is seen.on_words;
-              };
-              turns = whole_turns key false (lines.Size k size) (seen_by given seen.words false false) (replies.Sized size) old (Some new) given whole
-                  (went_turns given seen.words flushed (subst (λ (o : Outcome). SizeTold size old new given seen.words o) is told));
-            })) seen.books seen.seated_new seen.name_is
+        (λ given told. record {
+          seen = seen_by given seen.words false false;
+          was_seen = record {
+            answers = refl;
+            words = seen.taken;
+            of_host = subst (λ (o : Outcome). CountsFault (host_in o) before.faults after.faults) is seen.on_host;
+            of_words = subst (λ (o : Outcome). CountsFault (words_in o) random.faults random'.faults) is seen.on_words;
+          };
+          turns = whole_turns key false (lines.Size k size) (seen_by given seen.words false false) (replies.Sized size) old (Some new) given whole
+              (went_turns given seen.words flushed (subst (λ (o : Outcome). SizeTold size old new given seen.words o) is told));
+        })) seen.books seen.seated_new seen.name_is
     by_outcome (Broke blame) is =
-        goes_told key false (lines.Size k size) old before after random random' (flush_reply (fault_of blame))
-        (subst (λ b. CountsFault b before.faults after.faults) (sym (host_reply blame)) (subst (λ (o : Outcome). CountsFault (host_in o) before.faults after.faults) is seen.on_host),
-            subst (λ b. CountsFault b random.faults random'.faults) (sym (words_reply blame)) (subst (λ (o : Outcome). CountsFault (words_in o) random.faults random'.faults) is seen.on_words)) new
+        goes_told key false (lines.Size k size) old before after random random' (flush_reply (fault_of blame)) (
+          subst (λ b. CountsFault b before.faults after.faults) (sym (host_reply blame)) (subst (λ (o : Outcome). CountsFault (host_in o) before.faults after.faults) is seen.on_host),
+          subst (λ b. CountsFault b random.faults random'.faults) (sym (words_reply blame)) (subst (λ (o : Outcome). CountsFault (words_in o) random.faults random'.faults) is seen.on_words),
+        ) new
         (told_weaker (λ given. SizeTold size old new given seen.words seen.outcome) (λ given. SeatAsks key false (lines.Size k size) (flush_reply (fault_of blame)) (Some old) (Some new) given before after random random') before after seen.told
-            (λ given told. record {
-              seen = seen_by given seen.words (host_blamed blame) false;
-              was_seen = record {
-                answers = refl;
-                words = seen.taken;
-                of_host = subst (λ (o : Outcome). CountsFault (host_in o) before.faults after.faults) is seen.on_host;
-                of_words = subst (λ (o : Outcome). CountsFault (words_in o) random.faults random'.faults) is seen.on_words;
-              };
-              turns = whole_turns key false (lines.Size k size) (seen_by given seen.words (host_blamed blame) false) (flush_reply (fault_of blame)) old (Some new) given whole
-                  (broke_turns given seen.words blame (subst (λ (o : Outcome). SizeTold size old new given seen.words o) is told));
-            })) seen.books seen.seated_new seen.name_is
+        (λ given told. record {
+          seen = seen_by given seen.words (host_blamed blame) false;
+          was_seen = record {
+            answers = refl;
+            words = seen.taken;
+            of_host = subst (λ (o : Outcome). CountsFault (host_in o) before.faults after.faults) is seen.on_host;
+            of_words = subst (λ (o : Outcome). CountsFault (words_in o) random.faults random'.faults) is seen.on_words;
+          };
+          turns = whole_turns key false (lines.Size k size) (seen_by given seen.words (host_blamed blame) false) (flush_reply (fault_of blame)) old (Some new) given whole
+              (broke_turns given seen.words blame (subst (λ (o : Outcome). SizeTold size old new given seen.words o) is told));
+        })) seen.books seen.seated_new seen.name_is
     by_outcome Lacked is =
         goes_told key false (lines.Size k size) old before after random random' replies.WordsFault
         (subst (λ (o : Outcome). CountsFault (host_in o) before.faults after.faults) is seen.on_host, subst (λ (o : Outcome). CountsFault (words_in o) random.faults random'.faults) is seen.on_words) new
         (told_weaker (λ given. SizeTold size old new given seen.words seen.outcome) (λ given. SeatAsks key false (lines.Size k size) replies.WordsFault (Some old) (Some new) given before after random random') before after seen.told
-            (λ given told. record {
-              seen = seen_by given seen.words false true;
-              was_seen = record {
-                answers = refl;
-                words = seen.taken;
-                of_host = subst (λ (o : Outcome). CountsFault (host_in o) before.faults after.faults) is seen.on_host;
-                of_words = subst (λ (o : Outcome). CountsFault (words_in o) random.faults random'.faults) is seen.on_words;
-              };
-              turns = whole_turns key false (lines.Size k size) (seen_by given seen.words false true) replies.WordsFault old (Some new) given whole
-                  (lacked_turns given seen.words (subst (λ (o : Outcome). SizeTold size old new given seen.words o) is told));
-            })) seen.books seen.seated_new seen.name_is
+        (λ given told. record {
+          seen = seen_by given seen.words false true;
+          was_seen = record {
+            answers = refl;
+            words = seen.taken;
+            of_host = subst (λ (o : Outcome). CountsFault (host_in o) before.faults after.faults) is seen.on_host;
+            of_words = subst (λ (o : Outcome). CountsFault (words_in o) random.faults random'.faults) is seen.on_words;
+          };
+          turns = whole_turns key false (lines.Size k size) (seen_by given seen.words false true) replies.WordsFault old (Some new) given whole
+              (lacked_turns given seen.words (subst (λ (o : Outcome). SizeTold size old new given seen.words o) is told));
+        })) seen.books seen.seated_new seen.name_is
     by_outcome Wanted is =
         goes_wanting key false (lines.Size k size) old before after random random' (record {}) new (record { takes = λ none. none; told = told_weaker (λ given. SizeTold size old new given seen.words seen.outcome) (λ given. Unit {0}) before after seen.told (λ given facts. tt); ends = inr (tt, seen.breaks is) }) seen.books seen.seated_new seen.name_is
         (subst (λ (o : Outcome). CountsFault (host_in o) before.faults after.faults) is seen.on_host) (subst (λ (o : Outcome). CountsFault (words_in o) random.faults random'.faults) is seen.on_words)

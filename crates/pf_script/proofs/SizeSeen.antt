@@ -107,7 +107,7 @@ module _ (key : List ℕ) (size : ℕ) (small : size ≤ 2 ^ 32) where
     set_seen (flushed_and_changed mid between one free some first flush steps said) =
         stepped_seen true mid between one some steps
         (seen_after old seated.of_script (Size n) before after random random' mid new between one (of_flushed old mid seated.of_script (Ok tt) before between random random' flush) first
-            (flush_case old seated.of_script mid before between random random' (Ok tt) flush) steps) said
+        (flush_case old seated.of_script mid before between random random' (Ok tt) flush) steps) said
 
   -- what is seen of all of it
   pub record SizeSeen (result : Result (Unit {0}) SizeFault) (old new : SessionState) (before after : HostState) (random random' : WordsState) : Type 0 where
@@ -201,7 +201,7 @@ module _ (key : List ℕ) (size : ℕ) (small : size ≤ 2 ^ 32) where
             before.honest (Some m) after.honest (at_some before.honest first) second
             (λ a b c one two.
             keeps_then (Covers old) (Covers mid) (Covers new) (λ name. name ≡ old.name) a b c (subst (λ (h : Honest). IsImage h.now (reading h.now)) (sym one.0) well) one.1
-                (keeps_more (Covers mid) (Covers new) (λ name. name ≡ mid.name) (λ name. name ≡ old.name) b c (λ name is. is ∙ mid_name) two))
+            (keeps_more (Covers mid) (Covers new) (λ name. name ≡ mid.name) (λ name. name ≡ old.name) b c (λ name is. is ∙ mid_name) two))
           where
             at_some : (o : Option Honest) → Both o (Some m) (KeepsUnder (Covers old) (Covers mid) (λ name. name ≡ old.name)) → Both o (Some m) (λ a b. (b ≡ m) × KeepsUnder (Covers old) (Covers mid) (λ name. name ≡ old.name) a b)
             at_some (Some a) keeps = (refl, keeps)

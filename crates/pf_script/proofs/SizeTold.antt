@@ -78,7 +78,7 @@ module _ (key : List ℕ) (sealed : List Sheet) (own : OwnSeat) (k size : ℕ) (
   size_ends old _ _ _ (told_same _ _ size_is is) fin made words sheets base was on before_it split words_are =
       in_the_end (flushes own sheets)
       (λ unforged. fin.went false refl (flushes own sheets)
-          (ends_here old is made words sheets base was (subst (λ (s : List Step). IsResize size (length own.content) s) (append-nil made) (on [] (same old.tree.size size_is))) (words_are ∙ append-nil words)))
+      (ends_here old is made words sheets base was (subst (λ (s : List Step). IsResize size (length own.content) s) (append-nil made) (on [] (same old.tree.size size_is))) (words_are ∙ append-nil words)))
   size_ends old these more outcome (told_change _ _ n _ _ _ next other whole told) fin made words sheets base was on before_it split words_are =
       let steps = next_steps old n next other made on in
       change_ends key sealed own (lines.Size k size) given before_it these [] (split ∙ sym (append-nil (before_it ++ these))) P old made words sheets base was (Size n) steps.0 steps.1 new more outcome

@@ -113,7 +113,7 @@ module _ (key : List ℕ) (k size : ℕ) (own : OwnSeat) (book : Book) (seats : 
       let t = on_to (Ran (LeavesApart old.name) (KeepsApart old.name)) before.honest between.honest m is_m aside in
       let steps = resize_steps size size (old.tree.size + 32768) (omega arith) in
       let out = change_known key own (lines.Size k size) book seats a agrees image first target standing m t.0 old mid made words one sheets base (Size (old.tree.size + 32768)) steps.0
-          (on (Size (old.tree.size + 32768) ∷ steps.0) (piece old.tree.size steps.0 far steps.1)) mine progress before between is_m t.1 t.2 (read_image between.honest t.0 t.1 reads) (Went flushed) left in
+      (on (Size (old.tree.size + 32768) ∷ steps.0) (piece old.tree.size steps.0 far steps.1)) mine progress before between is_m t.1 t.2 (read_image between.honest t.0 t.1 reads) (Went flushed) left in
       size_known mid between after more outcome rest t.0 t.1 is_b (made ++ Size (old.tree.size + 32768) ∷ []) (words ++ one) out.sheets_now out.base_now out.progress_now
       (λ left is_left.
       subst (λ (s : List Step). IsResize size (length own.content) s) (sym (append_assoc made (Size (old.tree.size + 32768) ∷ []) left))

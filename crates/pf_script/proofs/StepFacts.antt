@@ -141,9 +141,9 @@ module _ (old : SessionState) (mine : IsOfScript old) (new : SessionState) (one 
       told_also (λ these. (sheet : Sheet) → GivenOf sheet (Given (file_of old) these) → Backs sheet old.tree → StepLeaves (Err (trees.Damaged damage)) step sheet (Given (file_of old) these) old.tree new.tree)
       (λ these. BreaksAt step old.tree.size (Held old.tree) (Given (file_of old) these) (root_in old.tree) damage) (StepFacts (Err (trees.Damaged damage)) step old new) before after
       (told_came (λ these. (sheet : Sheet) → GivenOf sheet (Given (file_of old) these) → Backs sheet old.tree → StepLeaves (Err (trees.Damaged damage)) step sheet (Given (file_of old) these) old.tree new.tree) before after
-          (subst (λ (r : Result (Unit {0}) TreeFault). BackedStep r (file_of old) step old.tree new.tree before after) is goes.backed))
+      (subst (λ (r : Result (Unit {0}) TreeFault). BackedStep r (file_of old) step old.tree new.tree before after) is goes.backed))
       (told_came (λ these. BreaksAt step old.tree.size (Held old.tree) (Given (file_of old) these) (root_in old.tree) damage) before after
-          (subst (λ (r : Result (Unit {0}) TreeFault). StepDamageComes r (file_of old) step old.tree before after) is goes.damage))
+      (subst (λ (r : Result (Unit {0}) TreeFault). StepDamageComes r (file_of old) step old.tree before after) is goes.damage))
       (λ these backed breaks base on given. blames damage base these breaks (backed base (of_file base these given) on.backs).1)
 
   pub step_told : (r : Result (Unit {0}) TreeFault) → one ≡ r → WhereTold before after (StepFacts r step old new)

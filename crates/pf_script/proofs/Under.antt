@@ -137,7 +137,7 @@ on_disk_by P key taken line seen reply old whole new before after keeps holds kn
     (λ a b is is2 p.
     own_under key taken line seen reply old whole new a b
     (keeps_more (Covers old) (CoversSome new) (λ name. name ≡ old.name) (Concerns taken line (Some old)) a b (λ name same. inl same)
-        (at_both (KeepsUnder (Covers old) (CoversSome new) (λ name. name ≡ old.name)) before.honest after.honest a b is is2 keeps))
+    (at_both (KeepsUnder (Covers old) (CoversSome new) (λ name. name ≡ old.name)) before.honest after.honest a b is is2 keeps))
     (known a b is is2 p))
 
 -- of one that changes the session's name alone

@@ -121,7 +121,7 @@ module _ (key : List ℕ) (at : ℕ) (bytes : List ℕ) (line : ScriptLine) (cou
       let on = shows_whole sealed seat old whole shows in
       subst (λ (x : Seat). IsFirst (rules key false x line []) why) (sym on.seat_is)
       (write_first at bytes line count is_line key (Own (seat_on on.sheet old)) [] why
-          (first_then (writing_rules (Own (seat_on on.sheet old)) at count) why (Own (seat_on on.sheet old)) (seat_on on.sheet old) refl whole (first on.sheet)))) seated
+      (first_then (writing_rules (Own (seat_on on.sheet old)) at count) why (Own (seat_on on.sheet old)) (seat_on on.sheet old) refl whole (first on.sheet)))) seated
 
   -- which rule it is that refuses
   pub record RefusedBy (fault : WriteFault) : Type 0 where
@@ -140,9 +140,13 @@ module _ (key : List ℕ) (at : ℕ) (bytes : List ℕ) (line : ScriptLine) (cou
     why = whys.PastEnd said;
     reply_is = refl;
     first = λ base.
-        inr ((λ other refuses. omega (arith, refuses.1, why.0, count_is)),
-            inr ((λ other refuses. omega (arith, refuses.1, why.1, count_is)),
-                inl (said, why.3 ∙ sym (length_now base old.tree), subst (λ n. n < at) (sym why.3) why.2, refl)));
+        inr (
+          (λ other refuses. omega (arith, refuses.1, why.0, count_is)),
+          inr (
+            (λ other refuses. omega (arith, refuses.1, why.1, count_is)),
+            inl (said, why.3 ∙ sym (length_now base old.tree), subst (λ n. n < at) (sym why.3) why.2, refl),
+          ),
+        );
   }
   why_refused writes.Words why = absurd why
   why_refused (writes.Damaged damage) why = absurd why
@@ -183,9 +187,9 @@ module _ (key : List ℕ) (at : ℕ) (bytes : List ℕ) (line : ScriptLine) (cou
         goes_on key false line (replies.Written count false) old host host words words [] [] false false
         (record { told = told_none host host refl; taken = none_taken words; on_host = refl; on_words = refl }) refl refl old
         (whole_turns key false line (seen_by [] [] false false) (replies.Written count false) old (Some old) [] whole
-            (λ sealed base among linked kept.
-            at_last [] (λ unforged. all_made key sealed (seat_on base old) line [] old [] [] [] base (none_made sealed base old among linked kept whole)
-                (write_asks at bytes line count is_line (length (now base old.tree)) [] (nothing none refl)) (replies.Written count false) (write_replies at bytes line count is_line []) (passes base []))))
+        (λ sealed base among linked kept.
+        at_last [] (λ unforged. all_made key sealed (seat_on base old) line [] old [] [] [] base (none_made sealed base old among linked kept whole)
+        (write_asks at bytes line count is_line (length (now base old.tree)) [] (nothing none refl)) (replies.Written count false) (write_replies at bytes line count is_line []) (passes base []))))
         (both_same (KeepsUnder (Covers old) (Covers old) (λ name. name ≡ old.name)) host.honest host.honest refl (same_keeps (Covers old) (λ name. name ≡ old.name))) seated refl
 
     -- a write of some bytes
@@ -225,15 +229,15 @@ write_goes key at bytes line count is_line old new result before after random ra
         as_result (stepped write_of_tree false one) said
         (by_reply (outcome_reply (written count) (outcome_of false one)) (write_reply count (stepped write_of_tree false one)) (stepped_reply count false one)
         (some_goes key at bytes line count is_line old seated whole free some new before after random random' books seated_new.0 seated_new.1 (outcome_of false one)
-            (seen_once old seated.of_script (Write at bytes) before after random random' new one roomy steps words) (wanted_breaks false one old new steps.state)))
+        (seen_once old seated.of_script (Write at bytes) before after random random' new one roomy steps words) (wanted_breaks false one old new steps.state)))
     by_case (not_flushed fault free some first flush undamaged said) =
         as_result (Err (write_of_flush fault)) said
         (by_reply (outcome_reply (written count) (flush_outcome fault)) (write_reply count (Err (write_of_flush fault))) (unflushed_reply count fault)
         (some_goes key at bytes line count is_line old seated whole free some new before after random random' books seated_new.0 seated_new.1 (flush_outcome fault)
-            (seen_unflushed old seated.of_script (Write at bytes) before after random random' new fault first (flush_case old seated.of_script new before after random random' (Err fault) flush)) (λ is. absurd (never_wanted fault is))))
+        (seen_unflushed old seated.of_script (Write at bytes) before after random random' new fault first (flush_case old seated.of_script new before after random random' (Err fault) flush)) (λ is. absurd (never_wanted fault is))))
     by_case (flushed_and_changed mid between one free some first flush steps said) =
         as_result (stepped write_of_tree true one) said
         (by_reply (outcome_reply (written count) (outcome_of true one)) (write_reply count (stepped write_of_tree true one)) (stepped_reply count true one)
         (some_goes key at bytes line count is_line old seated whole free some new before after random random' books seated_new.0 seated_new.1 (outcome_of true one)
-            (seen_after old seated.of_script (Write at bytes) before after random random' mid new between one (of_flushed old mid seated.of_script (Ok tt) before between random random' flush) first
-                (flush_case old seated.of_script mid before between random random' (Ok tt) flush) steps) (wanted_breaks true one mid new steps.state)))
+        (seen_after old seated.of_script (Write at bytes) before after random random' mid new between one (of_flushed old mid seated.of_script (Ok tt) before between random random' flush) first
+        (flush_case old seated.of_script mid before between random random' (Ok tt) flush) steps) (wanted_breaks true one mid new steps.state)))

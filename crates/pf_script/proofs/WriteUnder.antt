@@ -122,10 +122,10 @@ write_under key at bytes line count is_line old new result before after random r
         as_result (Err (write_of_flush fault)) said
         (by_reply (outcome_reply (written count) (flush_outcome fault)) (write_reply count (Err (write_of_flush fault))) (unflushed_reply count fault)
         (some_under key at bytes line count is_line old seated whole free some new before after random random' keeps aside reads (flush_outcome fault)
-            (in_unflushed old (Write at bytes) before after random random' new fault first undamaged (flush_ends old seated.of_script new before after random random' (Err fault) flush))))
+        (in_unflushed old (Write at bytes) before after random random' new fault first undamaged (flush_ends old seated.of_script new before after random random' (Err fault) flush))))
     by_case (flushed_and_changed mid between one free some first flush steps said) =
         as_result (stepped write_of_tree true one) said
         (by_reply (outcome_reply (written count) (outcome_of true one)) (write_reply count (stepped write_of_tree true one)) (stepped_reply count true one)
         (some_under key at bytes line count is_line old seated whole free some new before after random random' keeps aside reads (outcome_of true one)
-            (in_after old (Write at bytes) before after random random' mid new between one (of_flushed old mid seated.of_script (Ok tt) before between random random' flush) first
-                (flush_ends old seated.of_script mid before between random random' (Ok tt) flush) steps)))
+        (in_after old (Write at bytes) before after random random' mid new between one (of_flushed old mid seated.of_script (Ok tt) before between random random' flush) first
+        (flush_ends old seated.of_script mid before between random random' (Ok tt) flush) steps)))

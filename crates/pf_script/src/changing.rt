@@ -50,7 +50,9 @@ pub(crate) fn write_bytes<H: Host, R: Words>(
     ensures booked { (key : List ℕ) (k : ℕ) → IsSeatOf key seat.old → SeatBooked key false (lines.Write k at bytes.now) result seat.old seat.new (H.state host.old) (H.state host.new) (R.state random.old) (R.state random.new) }
 {
     let Some(session) = seat else {
-        return Ok(Reply::Refused { why: Why::SeatEmpty });
+        return Ok(Reply::Refused {
+            why: Why::SeatEmpty,
+        });
     };
     if session.broken() {
         return Ok(Reply::Refused { why: Why::Broken });
@@ -82,7 +84,9 @@ pub(crate) fn fill_bytes<H: Host, R: Words>(
     ensures booked { (key : List ℕ) (k : ℕ) → IsSeatOf key seat.old → SeatBooked key false (lines.Fill k at count byte) result seat.old seat.new (H.state host.old) (H.state host.new) (R.state random.old) (R.state random.new) }
 {
     let Some(session) = seat else {
-        return Ok(Reply::Refused { why: Why::SeatEmpty });
+        return Ok(Reply::Refused {
+            why: Why::SeatEmpty,
+        });
     };
     if session.broken() {
         return Ok(Reply::Refused { why: Why::Broken });
@@ -139,7 +143,9 @@ pub(crate) fn set_size<H: Host, R: Words>(
     ensures booked { (key : List ℕ) (k : ℕ) → IsSeatOf key seat.old → SeatBooked key false (lines.Size k size) result seat.old seat.new (H.state host.old) (H.state host.new) (R.state random.old) (R.state random.new) }
 {
     let Some(session) = seat else {
-        return Ok(Reply::Refused { why: Why::SeatEmpty });
+        return Ok(Reply::Refused {
+            why: Why::SeatEmpty,
+        });
     };
     if session.broken() {
         return Ok(Reply::Refused { why: Why::Broken });

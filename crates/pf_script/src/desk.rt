@@ -11,8 +11,8 @@ ghost use Rattle.pf_script.specs.declared.line.ScriptLine.TheVariants as lines;
 
 use crate::changing::{fill_bytes, set_size, write_bytes};
 use crate::looking::read_bytes;
-use crate::renaming::move_file;
 use crate::opening::{create_file, open_file, view_file};
+use crate::renaming::move_file;
 use crate::sealing::{close_seat, draw_nonce, flush_seat};
 use crate::{Reply, ScriptLine};
 use pf_io::{Host, Memory, Words};
@@ -90,7 +90,15 @@ impl Desk {
         let seat = seat as usize;
         let taken = self.is_taken(seat, name);
         let key = self.key;
-        create_file(self.alloc, host, random, &key, &mut self.seats[seat], name, taken)
+        create_file(
+            self.alloc,
+            host,
+            random,
+            &key,
+            &mut self.seats[seat],
+            name,
+            taken,
+        )
     }
 
     fn open<H: Host>(&mut self, host: &mut H, seat: u8, name: &str) -> Result<Reply, Memory>
@@ -155,7 +163,15 @@ impl Desk {
         ensures booked { DeskBooked (lines.Fill seat at count byte) result self.old self.new (H.state host.old) (H.state host.new) (R.state random.old) (R.state random.new) }
     {
         let alloc = self.alloc;
-        fill_bytes(alloc, host, random, &mut self.seats[seat as usize], at, count, byte)
+        fill_bytes(
+            alloc,
+            host,
+            random,
+            &mut self.seats[seat as usize],
+            at,
+            count,
+            byte,
+        )
     }
 
     fn resize<H: Host, R: Words>(

@@ -6,8 +6,6 @@ mod buffer;
 mod changing;
 mod command;
 mod desk;
-#[cfg(test)]
-mod desk_tests;
 mod fault;
 mod fields;
 mod laws;
@@ -22,8 +20,6 @@ mod renaming;
 mod reply;
 mod sealing;
 mod stage;
-#[cfg(test)]
-mod tests;
 mod words;
 
 pub use desk::Desk;

@@ -20,11 +20,7 @@ const LONGEST: u64 = 32_768;
 fn reach(size: u64, at: u64, count: u64) -> u64
     ensures { result ≡ min count (size - at) }
 {
-    if at < size {
-        count.min(size - at)
-    } else {
-        0
-    }
+    if at < size { count.min(size - at) } else { 0 }
 }
 
 // The reply to a read into these bytes.
@@ -69,7 +65,9 @@ pub(crate) fn read_bytes<H: Host>(
     ensures booked { (key : List ℕ) (k : ℕ) (words : WordsState) → IsSeatOf key seat.old → SeatBooked key false (lines.Read k at count) result seat.old seat.new (H.state host.old) (H.state host.new) words words }
 {
     let Some(session) = seat else {
-        return Ok(Reply::Refused { why: Why::SeatEmpty });
+        return Ok(Reply::Refused {
+            why: Why::SeatEmpty,
+        });
     };
     if session.broken() {
         return Ok(Reply::Refused { why: Why::Broken });

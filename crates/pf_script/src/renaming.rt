@@ -42,7 +42,9 @@ pub(crate) fn move_file<H: Host, R: Words>(
     ensures booked { (key : List ℕ) (k : ℕ) → IsSeatOf key seat.old → SeatBooked key taken (lines.Move k name.now) result seat.old seat.new (H.state host.old) (H.state host.new) (R.state random.old) (R.state random.new) }
 {
     let Some(session) = seat else {
-        return Ok(Reply::Refused { why: Why::SeatEmpty });
+        return Ok(Reply::Refused {
+            why: Why::SeatEmpty,
+        });
     };
     if session.broken() {
         return Ok(Reply::Refused { why: Why::Broken });

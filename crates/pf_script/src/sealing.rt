@@ -32,7 +32,9 @@ pub(crate) fn flush_seat<H: Host, R: Words>(
     ensures booked { (key : List ℕ) (k : ℕ) → IsSeatOf key seat.old → SeatBooked key false (lines.Flush k) (Ok result) seat.old seat.new (H.state host.old) (H.state host.new) (R.state random.old) (R.state random.new) }
 {
     let Some(session) = seat else {
-        return Reply::Refused { why: Why::SeatEmpty };
+        return Reply::Refused {
+            why: Why::SeatEmpty,
+        };
     };
     if session.broken() {
         return Reply::Refused { why: Why::Broken };
@@ -49,7 +51,9 @@ pub(crate) fn draw_nonce<R: Words>(random: &mut R, seat: &mut Option<Session>) -
     ensures booked { (key : List ℕ) (k : ℕ) (host : HostState) → IsSeatOf key seat.old → SeatBooked key false (lines.Draw k) (Ok result) seat.old seat.new host host (R.state random.old) (R.state random.new) }
 {
     let Some(session) = seat else {
-        return Reply::Refused { why: Why::SeatEmpty };
+        return Reply::Refused {
+            why: Why::SeatEmpty,
+        };
     };
     if session.broken() {
         return Reply::Refused { why: Why::Broken };
@@ -71,7 +75,9 @@ pub(crate) fn close_seat<H: Host, R: Words>(
     ensures booked { (key : List ℕ) (k : ℕ) → IsSeatOf key seat.old → SeatBooked key false (lines.Close k) (Ok result) seat.old seat.new (H.state host.old) (H.state host.new) (R.state random.old) (R.state random.new) }
 {
     let Some(session) = seat.take() else {
-        return Reply::Refused { why: Why::SeatEmpty };
+        return Reply::Refused {
+            why: Why::SeatEmpty,
+        };
     };
     let lost = session.broken();
     match session.close(host, random) {

@@ -1,9 +1,9 @@
 -- Answers of the host as events.
-use Rattle.std.proofs.Common.{◌≡◌, ℕ, List, [], ◌∷◌, ◌++◌, refl, subst, ap, sym}
+use Rattle.std.proofs.Common.{◌≡◌, List, [], ◌∷◌, ◌++◌, refl, subst, ap, sym}
 use Rattle.std.proofs.lemmas.List.{map-append}
 use Rattle.pf_io.specs.Host.{Answer, HostState}
 use Rattle.pf_tool.specs.World.{World, with_host}
-use Rattle.pf_tool.specs.Events.{Event, Answers, answers_in, words_in, pieces_in}
+use Rattle.pf_tool.specs.Events.{Answers, answers_in, words_in, pieces_in}
 use Rattle.pf_tool.specs.Happened.{HostPassed, Passed}
 use Rattle.pf_tool.specs.InputFiles.{asked}
 use Rattle.pf_tool.proofs.Composing.{passed_host}

@@ -11,10 +11,10 @@ use Rattle.pf_io.specs.Streams.{SinkState}
 use Rattle.pf_io.specs.Words.{WordsState}
 use Rattle.pf_io.proofs.Telling.{both_then, both_same, told_on}
 use Rattle.pf_io.proofs.Answering.{both_honest, all_append}
-use Rattle.pf_tool.specs.World.{World, with_host, with_out, with_random}
+use Rattle.pf_tool.specs.World.{World, with_host, with_out}
 use Rattle.pf_tool.specs.Events.{Event, Answers, Draws, Puts, answers_in, words_in, pieces_in, reads_after, writes_after}
 use Rattle.pf_tool.specs.Endings.{Stop, AtEnd, Failed, Starved, tried}
-use Rattle.pf_tool.specs.Happened.{HostPassed, HostFailed, IsTaken, WordsPassed, WordFailed, OutPassed, OutFailed, Passed, CallFailed, Happened}
+use Rattle.pf_tool.specs.Happened.{HostPassed, HostFailed, IsTaken, WordsPassed, OutPassed, OutFailed, Passed, CallFailed, Happened}
 
 pub answers_then : (xs ys : List Event) → answers_in (xs ++ ys) ≡ answers_in xs ++ answers_in ys
 answers_then [] ys = refl
@@ -56,10 +56,6 @@ no_second (x ∷ xs) ys none = absurd (cc)
 pub none_honest : (files : Option Files) → IfSome files (λ f. AllByRecursion (IsAnswerOf f) [])
 none_honest (Some f) = tt
 none_honest None = tt
-
-pub all_honest : (files : Option Files) (answer : Answer) → ((files : Files) → IsAnswerOf files answer) → IfSome files (λ f. AllByRecursion (IsAnswerOf f) (answer ∷ []))
-all_honest (Some f) answer change = (change f, tt)
-all_honest None answer change = tt
 
 -- what an honest host's files are, as before
 pub files_kept : (these : List Answer) (old mid : HostState) → KeepsFiles old mid → OnHonest mid (λ files. AllByRecursion (IsAnswerOf files) these) → OnHonest old (λ files. AllByRecursion (IsAnswerOf files) these)
@@ -121,16 +117,6 @@ passed_host events world old new no_words no_pieces host = record {
   log = refl;
 }
 
--- random words alone
-pub passed_words : (events : List Event) (world : World) (old new : WordsState) → answers_in events ≡ [] → pieces_in events ≡ [] → WordsPassed (words_in events) old new → Passed events (with_random world old) (with_random world new)
-passed_words events world old new no_answers no_pieces random = record {
-  host = subst (λ (l : List Answer). HostPassed l world.host world.host) (sym no_answers) (host_none world.host);
-  random = random;
-  out = subst (λ (l : List (List ℕ)). OutPassed l world.out world.out) (sym no_pieces) (out_none world.out);
-  input = refl;
-  log = refl;
-}
-
 -- pieces for the output alone
 pub passed_pieces : (events : List Event) (world : World) (old new : SinkState) → answers_in events ≡ [] → words_in events ≡ [] → OutPassed (pieces_in events) old new → Passed events (with_out world old) (with_out world new)
 passed_pieces events world old new no_answers no_words out = record {
@@ -175,15 +161,5 @@ tried_then xs ys Starved = refl
 pub failed_host : (answer : Answer) (world : World) (old new : HostState) → HostFailed answer old new → CallFailed (Answers answer) (with_host world old) (with_host world new)
 failed_host answer world old new failed = (failed, refl)
 
-pub failed_word : (word : List ℕ) (world : World) (old new : WordsState) → WordFailed old new → CallFailed (Draws word) (with_random world old) (with_random world new)
-failed_word word world old new failed = (failed, refl)
-
 pub failed_piece : (bytes : List ℕ) (world : World) (old new : SinkState) → OutFailed bytes old new → CallFailed (Puts bytes) (with_out world old) (with_out world new)
 failed_piece bytes world old new failed = (failed, refl)
-
--- one more call of the host, of which nothing is asked
-pub passed_change : (xs : List Event) (answer : Answer) (first world : World) (old new : HostState) → ((files : Files) → IsAnswerOf files answer) → Passed xs first (with_host world old) → HostPassed (answer ∷ []) old new
-    → Passed (xs ++ Answers answer ∷ []) first (with_host world new)
-passed_change xs answer first world old new change passed host =
-    passed_then xs (Answers answer ∷ []) first (with_host world old) (with_host world new) passed (passed_host (Answers answer ∷ []) world old new refl refl host)
-    (all_honest (files_of first.host) answer change)

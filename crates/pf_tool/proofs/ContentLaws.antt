@@ -29,8 +29,7 @@ use Rattle.pf_io.proofs.Answering.{all_append}
 use Rattle.pf_tool.specs.Events.{Event, Answers, Draws, Puts, answers_in, pieces_in}
 use Rattle.pf_tool.specs.Endings.{Ending, Done, Damaged, Stop, AtEnd, Failed, Starved, tried}
 use Rattle.pf_tool.specs.Keys.{KeyRefused, key_unnamed, key_absent, key_length, key_short, key_events}
-use Rattle.pf_tool.specs.Decrypting.{NodeRefused, not_protected, node_short, node_pending, node_version, node_damaged, end_of, node_refused, pieces_read, node_events, last_events, piece_events, Unseals, input_unnamed, input_absent, input_read, DecryptLeads, decrypt_key_refused, decrypt_key_read}
-use Rattle.pf_tool.specs.Decrypting as decrypting
+use Rattle.pf_tool.specs.Decrypting.{NodeRefused, not_protected, node_short, node_pending, node_version, node_damaged, end_of, node_refused, pieces_read, node_events, last_events, piece_events, input_unnamed, input_absent, input_read, DecryptLeads, decrypt_key_refused, decrypt_key_read}
 use Rattle.pf_session.specs.Opening.{IsOpenable}
 use Rattle.pf_tool.specs.Unsealing.{opening_events}
 use Rattle.pf_tool.specs.Contents.{ArePiecesOf, IsCarried, IsOfSheets, DecryptsSheets}

@@ -18,7 +18,7 @@ use Rattle.pf_io.specs.Streams.{TakesFront}
 use Rattle.pf_io.proofs.Telling.{both_weaker, both_then}
 use Rattle.pf_tool.specs.World.{World, with_log}
 use Rattle.pf_tool.specs.Events.{Event, Answers, Draws, Puts, answers_in, pieces_in, bytes_in}
-use Rattle.pf_tool.specs.Endings.{Done, Damaged, Refused, BadName, NotFound, KeyFile, NotProtected, Unbuilt, Stop, AtEnd, Failed, Starved, tried, ending_line, stop_status}
+use Rattle.pf_tool.specs.Endings.{Done, Damaged, Refused, Stop, AtEnd, Failed, Starved, tried, ending_line, stop_status}
 use Rattle.pf_tool.specs.Happened.{Passed, Happened}
 use Rattle.pf_tool.specs.Reports.{WroteAll, Reports}
 use Rattle.pf_tool.specs.Requests.{Decrypt}

@@ -15,10 +15,9 @@ use Rattle.pf_io.specs.Host.{Answer, LengthWas, Gave, contents}
 use Rattle.pf_io.specs.Answered.{IsAnswerOf}
 use Rattle.pf_io.proofs.Answering.{all_append}
 use Rattle.pf_tool.specs.Events.{Event, Answers, Draws, Puts, answers_in, pieces_in, words_in, bytes_in}
-use Rattle.pf_tool.specs.Endings.{Ending, Done, Damaged, Refused, BadName, NotFound, KeyFile, NotProtected, Unbuilt}
+use Rattle.pf_tool.specs.Endings.{Ending, Done, Damaged, Refused, BadName, NotFound, KeyFile}
 use Rattle.pf_tool.specs.Keys.{IsKeyOf, KeyRefused, key_unnamed, key_absent, key_length, key_short, key_events, KeyOver}
 use Rattle.pf_tool.specs.Decrypting.{end_of, ComesTo, node_refused, pieces_read, node_events, last_events, piece_events, Unseals, input_unnamed, input_absent, input_read, DecryptLeads, decrypt_key_refused, decrypt_key_read, DecryptOver, decrypt_no_key, decrypt_unnamed, decrypt_no_input, decrypt_file}
-use Rattle.pf_tool.specs.Decrypting as decrypting
 use Rattle.pf_session.specs.Opening.{IsOpenable}
 use Rattle.pf_tool.proofs.Composing.{answers_then, words_then, pieces_then}
 use Rattle.pf_tool.proofs.SameBlocks.{SameTo, same_sooner, same_whole}

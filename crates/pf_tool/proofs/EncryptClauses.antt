@@ -1,5 +1,5 @@
 -- What a run of `encrypt` that found its input comes to: by the answers that were told, by files, and on a disk.
-use Rattle.std.proofs.Common.{◌≡◌, ◌≢◌, ◌⊎◌, inl, inr, ⊎_elim, ℕ, ◌+◌, ◌<◌, ◌≤◌, Bool, true, false, cond, List, [], ◌∷◌, ◌++◌, length, take, drop, filter, refl, sym, ap, subst, ◌∙◌, arith, append_assoc, Option, Some, None, IfSome, Result, Ok, Err}
+use Rattle.std.proofs.Common.{◌≡◌, ◌⊎◌, inl, inr, ⊎_elim, ℕ, ◌+◌, ◌<◌, ◌≤◌, Bool, true, false, cond, List, [], ◌∷◌, ◌++◌, length, take, filter, refl, sym, ap, subst, ◌∙◌, arith, append_assoc, Option, Some, None, IfSome, Result, Ok}
 use Rattle.std.specs.Prelude.{Contains, ◌&&◌, bytes_eq, option_map}
 use Rattle.std.specs.List.{AllByRecursion, concat}
 use Rattle.std.proofs.lemmas.List.{append-nil, append_cancel_left}
@@ -8,23 +8,17 @@ use Rattle.node_layout.specs.Metadata.{MOST_SIZE}
 use Rattle.pf_io.specs.Counts.{counted}
 use Rattle.pf_io.specs.Answered.{IsAnswerOf, WereTold}
 use Rattle.pf_io.specs.Disk.{Name, File, Disk, Image, IsImage, Files, reading}
-use Rattle.pf_io.specs.Host.{Answer, LengthWas, Gave, Swapped, HostState, Both, IsMore, OnHonest, files_of, contents}
+use Rattle.pf_io.specs.Host.{Answer, LengthWas, Gave, HostState, Both, IsMore, files_of, contents}
 use Rattle.pf_io.specs.Moments.{Honest, Ran}
-use Rattle.pf_io.specs.Names.{side_of}
 use Rattle.pf_io.specs.Steps.{Stays}
 use Rattle.pf_io.specs.Streams.{SinkState, TakesFront}
-use Rattle.pf_io.specs.Unchanged.{KeepsDisk}
 use Rattle.pf_io.proofs.Runs.{goes_on_ran}
 use Rattle.pf_io.proofs.Telling.{both_then, both_weaker, both_same}
-use Rattle.node_tree.specs.Parts.{PIECE}
-use Rattle.pf_session.specs.Restored.{KeepsBeside}
-use Rattle.pf_session.specs.Steps.{seal_steps}
 use Rattle.pf_tool.specs.World.{World, with_log, with_host, with_random}
 use Rattle.pf_tool.specs.Events.{Event, Answers, answers_in}
-use Rattle.pf_tool.specs.Endings.{Ending, Done, Refused, TooLarge, AtEnd, ending_status, ending_line, memory_line}
-use Rattle.pf_tool.specs.Faults.{fault_line, fault_status}
-use Rattle.pf_tool.specs.Keys.{KeyRefused, key_unnamed, key_absent, key_length, key_short, key_events, KeyOver}
-use Rattle.pf_tool.specs.Encrypting.{EncryptRefused, no_key, names_unfit, input_absent, InputFound, EncryptOver, over_large, over_done, user_on, content_on, IsVersion}
+use Rattle.pf_tool.specs.Endings.{Ending, Done, Refused, TooLarge, AtEnd}
+use Rattle.pf_tool.specs.Keys.{key_unnamed, key_absent, key_length, key_short, key_events, KeyOver}
+use Rattle.pf_tool.specs.Encrypting.{EncryptRefused, no_key, names_unfit, input_absent, InputFound, over_large, over_done, user_on, content_on, IsVersion}
 use Rattle.pf_tool.specs.Outcomes.{Concludes}
 use Rattle.pf_tool.specs.Reports.{WroteAll, Reports}
 use Rattle.pf_tool.specs.Requests.{Encrypt}
@@ -33,9 +27,6 @@ use Rattle.pf_tool.specs.SealedContents.{is_piece_of, piece_answers, GavePieces,
 use Rattle.pf_tool.specs.SealingInput.{SealsInput}
 use Rattle.pf_tool.specs.SideFiles.{IsNewFile}
 use Rattle.pf_tool.specs.declared.fault.Fault.{Fault}
-use Rattle.pf_tool.specs.declared.fault.Fault.TheVariants as faults
-use Rattle.pf_tool.specs.declared.why.Why.TheVariants as whys
-use Rattle.pf_tool.proofs.ContentRuns.{these_told}
 use Rattle.pf_tool.proofs.DecryptLaws.{key_apart}
 use Rattle.pf_tool.proofs.KeyOver.{there_of, key_read_over}
 use Rattle.pf_tool.proofs.NodeReading.{kept_files}
@@ -101,8 +92,8 @@ module _ (key input output : Name) (old new : World) (status : ℕ) (ended : Res
   behind : (P : List Answer → List Answer → Type 0) (these : List Answer) → Both mid.host.given new.host.given (λ before now. (those : List Answer) × (now ≡ before ++ those) × P before those) → WereTold these old.host new.host → (those : List Answer) × (before : List Answer) × (these ≡ First ++ those) × P before those
   behind P these told were =
       let all = told_at (λ before now. (b : List Answer) × (those : List Answer) × (now ≡ before ++ (First ++ those)) × P b those) old.host new.host these
-          (both_then (IsMore First) (λ before now. (those : List Answer) × (now ≡ before ++ those) × P before those) (λ before now. (b : List Answer) × (those : List Answer) × (now ≡ before ++ (First ++ those)) × P b those) old.host.given mid.host.given new.host.given found.passed.host.told told
-          (λ a b c one two. (b, two.0, two.1 ∙ ap (λ (l : List Answer). l ++ two.0) one ∙ append_assoc a First two.0, two.2))) were in
+      (both_then (IsMore First) (λ before now. (those : List Answer) × (now ≡ before ++ those) × P before those) (λ before now. (b : List Answer) × (those : List Answer) × (now ≡ before ++ (First ++ those)) × P b those) old.host.given mid.host.given new.host.given found.passed.host.told told
+      (λ a b c one two. (b, two.0, two.1 ∙ ap (λ (l : List Answer). l ++ two.0) one ∙ append_assoc a First two.0, two.2))) were in
       (all.1.1, all.1.0, append_cancel_left all.0 these (First ++ all.1.1) all.1.2, all.1.3)
 
   -- the key and the pieces were given, and what was sealed has them
@@ -111,8 +102,8 @@ module _ (key input output : Name) (old new : World) (status : ℕ) (ended : Res
     by_end : SealEnd ended mid.host new.host mid.random new.random → GaveSealed key input output these new.random
     by_end (was_done is host random) =
         let b = behind (λ before those. (content : List ℕ) × TakenInPieces input those content × SealedLast user output content those new.random) these
-            (both_weaker (TellsSealed user input output new.random) (λ before now. (those : List Answer) × (now ≡ before ++ those) × ((content : List ℕ) × TakenInPieces input those content × SealedLast user output content those new.random))
-            mid.host.given new.host.given (s.gave is) (λ a c t. (t.0, t.1, (t.2, t.3, t.4)))) were in
+        (both_weaker (TellsSealed user input output new.random) (λ before now. (those : List Answer) × (now ≡ before ++ those) × ((content : List ℕ) × TakenInPieces input those content × SealedLast user output content those new.random))
+        mid.host.given new.host.given (s.gave is) (λ a c t. (t.0, t.1, (t.2, t.3, t.4)))) were in
         let taken = b.3.1 in
         let sealed = b.3.2 in
         let all = b.2 in
@@ -169,8 +160,8 @@ module _ (key input output : Name) (old new : World) (status : ℕ) (ended : Res
   pub found_large : (these : List Answer) (pieces : List (List ℕ)) → WereTold these old.host new.host → GavePieces input these pieces → MOST_SIZE < length (concat pieces) → Reports (AtEnd (Refused TooLarge)) old.log new.log status
   found_large these pieces were gave large =
       let b = behind (λ before those. (ps : List (List ℕ)) × (filter (is_piece_of input) those ≡ piece_answers input 0 ps) × ((length (concat ps) ≤ MOST_SIZE) ⊎ (ended ≡ Large))) these
-          (both_weaker (TellsEnd input ended) (λ before now. (those : List Answer) × (now ≡ before ++ those) × ((ps : List (List ℕ)) × (filter (is_piece_of input) those ≡ piece_answers input 0 ps) × ((length (concat ps) ≤ MOST_SIZE) ⊎ (ended ≡ Large))))
-          mid.host.given new.host.given s.told (λ a c t. (t.0, t.1, (t.2, t.3, t.4)))) were in
+      (both_weaker (TellsEnd input ended) (λ before now. (those : List Answer) × (now ≡ before ++ those) × ((ps : List (List ℕ)) × (filter (is_piece_of input) those ≡ piece_answers input 0 ps) × ((length (concat ps) ≤ MOST_SIZE) ⊎ (ended ≡ Large))))
+      mid.host.given new.host.given s.told (λ a c t. (t.0, t.1, (t.2, t.3, t.4)))) were in
       let same = same_pieces input 0 pieces b.3.0 (sym gave ∙ ap (λ (l : List Answer). filter (is_piece_of input) l) b.2 ∙ first_none key user input found.size b.0 ∙ b.3.1) in
       ⊎_elim (λ small. absurd (let e = ap (λ (l : List (List ℕ)). length (concat l)) same in omega (arith, small, large, e))) (λ is. subst (λ (e : Result (Unit {0}) Fault). Concludes e old.log new.log status) is concludes) b.3.2
 

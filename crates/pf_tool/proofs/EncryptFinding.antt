@@ -1,7 +1,7 @@
 -- `encrypt` up to the sealing: the key is read, and the input is looked for.
-use Rattle.std.proofs.Common.{◌≡◌, ◌⊎◌, ℕ, List, [], ◌∷◌, ◌++◌, refl, ap, Option, Some, None, Result, Ok, Err}
+use Rattle.std.proofs.Common.{◌≡◌, ◌⊎◌, ℕ, List, [], ◌∷◌, ◌++◌, refl, ap, Option, Some, None, Err}
 use Rattle.pf_io.specs.Disk.{Name}
-use Rattle.pf_io.specs.Host.{LengthWas, HostState, KeepsFiles}
+use Rattle.pf_io.specs.Host.{LengthWas, KeepsFiles}
 use Rattle.pf_io.specs.Names.{IsTarget}
 use Rattle.pf_io.specs.Unchanged.{KeepsDisk}
 use Rattle.pf_io.proofs.Unchanged.{kept_then}

@@ -1,5 +1,5 @@
 -- What the answers, and what files, decide of `encrypt` before the sealing.
-use Rattle.std.proofs.Common.{◌≡◌, ◌⊎◌, inl, inr, ⊎_elim, ℕ, ◌<◌, ◌≤◌, List, [], ◌∷◌, ◌++◌, length, refl, subst, ap, ◌∙◌, sym, arith, Option, Some, None, Ok, Err, Bool, true, false}
+use Rattle.std.proofs.Common.{◌≡◌, ◌⊎◌, ⊎_elim, ℕ, List, [], ◌∷◌, length, subst, ap, ◌∙◌, sym, Option, Some, None, Ok, Err, Bool, true, false}
 use Rattle.std.specs.Prelude.{ltb}
 use Rattle.std.proofs.lemmas.Bool.{lt-ltb, le-ltb}
 use Rattle.std.specs.List.{AllByRecursion}
@@ -10,7 +10,7 @@ use Rattle.pf_io.specs.Answered.{IsAnswerOf}
 use Rattle.pf_io.specs.Names.{IsName, IsTarget}
 use Rattle.pf_tool.specs.Events.{Event, answers_in, pieces_in}
 use Rattle.pf_tool.specs.Endings.{Ending, Done, Refused, BadName, NotFound, KeyFile, TooLarge}
-use Rattle.pf_tool.specs.Keys.{KeyRefused, key_unnamed, key_absent, key_length, key_short, key_events, KeyOver}
+use Rattle.pf_tool.specs.Keys.{KeyRefused, key_unnamed, key_absent, key_length, key_short, KeyOver}
 use Rattle.pf_tool.specs.Encrypting.{IsInput, EncryptRefused, no_key, names_unfit, input_absent, EncryptOver, over_no_key, over_unfit, over_no_input, over_large, over_done}
 use Rattle.pf_tool.proofs.KeyOver.{absent_of, key_over_one, key_refused_over, key_read_over}
 

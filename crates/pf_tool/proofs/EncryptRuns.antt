@@ -1,32 +1,20 @@
 -- The clauses of a run of `encrypt`.
-use Rattle.std.proofs.Common.{◌≡◌, ◌≢◌, ◌⊎◌, inl, inr, ⊎_elim, ℕ, ◌+◌, ◌<◌, ◌≤◌, Bool, true, false, cond, List, [], ◌∷◌, ◌++◌, length, take, drop, filter, refl, sym, ap, subst, ◌∙◌, arith, append_assoc, Option, Some, None, IfSome, Result, Ok, Err}
-use Rattle.std.specs.Prelude.{Contains, ◌&&◌, bytes_eq}
-use Rattle.std.specs.List.{AllByRecursion, concat}
-use Rattle.std.proofs.lemmas.List.{append-nil}
-use Rattle.std.proofs.lemmas.List.Elements.{filter-append, Contains-append_left}
-use Rattle.node_layout.specs.Metadata.{MOST_SIZE}
+use Rattle.std.proofs.Common.{◌≡◌, ◌≢◌, ◌⊎◌, inl, inr, ⊎_elim, ℕ, ◌≤◌, List, [], refl, ap, subst, ◌∙◌, arith, Result, Ok, Err}
 use Rattle.pf_io.specs.Counts.{counted}
-use Rattle.pf_io.specs.Answered.{IsAnswerOf, WereTold}
-use Rattle.pf_io.specs.Disk.{Name, Files}
-use Rattle.pf_io.specs.Host.{Answer, LengthWas, Gave, HostState, Both, IsMore, OnHonest, files_of, contents}
+use Rattle.pf_io.specs.Disk.{Name}
+use Rattle.pf_io.specs.Host.{HostState}
 use Rattle.pf_io.specs.Streams.{SinkState}
 use Rattle.pf_io.specs.Unchanged.{KeepsDisk}
 use Rattle.pf_io.specs.Words.{WordsState}
-use Rattle.pf_io.proofs.Telling.{both_then, both_weaker}
 use Rattle.pf_io.proofs.Writing.{once_after}
-use Rattle.node_tree.specs.Parts.{PIECE}
 use Rattle.pf_tool.specs.World.{World, with_log, with_host, with_random}
-use Rattle.pf_tool.specs.Events.{Event, Answers, answers_in}
-use Rattle.pf_tool.specs.Endings.{Ending, Done, Refused, BadName, TooLarge, Stop, AtEnd, Failed, Starved, ending_status, ending_line, memory_line, stop_line, stop_status}
+use Rattle.pf_tool.specs.Endings.{stop_line, stop_status}
 use Rattle.pf_tool.specs.Faults.{fault_line, fault_status}
-use Rattle.pf_tool.specs.Happened.{Passed}
-use Rattle.pf_tool.specs.Keys.{IsKeyOf, KeyRefused, key_unnamed, key_absent, key_length, key_short, key_events, KeyOver}
-use Rattle.pf_tool.specs.Encrypting.{EncryptRefused, no_key, names_unfit, input_absent, InputFound, EncryptGoes, not_found, input_found, EncryptOver, over_large, over_done}
-use Rattle.pf_tool.specs.Outcomes.{Falls, Concludes, StopsAt}
-use Rattle.pf_tool.specs.Reports.{WroteAll, Reported, line_written, log_failed, Reports}
+use Rattle.pf_tool.specs.Encrypting.{EncryptRefused, InputFound}
+use Rattle.pf_tool.specs.Outcomes.{Falls, Concludes}
+use Rattle.pf_tool.specs.Reports.{WroteAll, Reported}
 use Rattle.pf_tool.specs.Requests.{Encrypt}
-use Rattle.pf_tool.specs.Runs.{RunsByEvents, RunsSealing, CausedOnce, Calm}
-use Rattle.pf_tool.specs.SealedContents.{is_piece_of, piece_answers, GavePieces, TakenInPieces, SealedLast, GaveSealed}
+use Rattle.pf_tool.specs.Runs.{RunsByEvents, CausedOnce}
 use Rattle.pf_tool.specs.SealingInput.{SealsInput}
 use Rattle.pf_tool.specs.declared.fault.Fault.{Fault}
 use Rattle.pf_tool.specs.declared.fault.Fault.TheVariants as faults
@@ -34,8 +22,8 @@ use Rattle.pf_tool.specs.declared.why.Why.{Why}
 use Rattle.pf_tool.specs.declared.why.Why.TheVariants as whys
 use Rattle.pf_tool.proofs.Stopping.{not_done}
 use Rattle.pf_tool.proofs.RunStops.{reported_said, reports_of, wrote_nothing}
-use Rattle.pf_tool.proofs.SealCounts.{CountsFault, CountsRefusal, counts_after}
-use Rattle.pf_tool.proofs.SealSummary.{Large, CountsEnd, TellsEnd, SizeOver, Sealing, sealing}
+use Rattle.pf_tool.proofs.SealCounts.{CountsFault, CountsRefusal}
+use Rattle.pf_tool.proofs.SealSummary.{Large, CountsEnd, Sealing, sealing}
 
 -- a run that made nothing
 pub made_nothing : (key input output : Name) (old new : World) (status : ℕ) (fault : Fault) → Falls (EncryptRefused key input output) (λ _ _. KeepsDisk) fault old (with_log new old.log) → Concludes {T = Unit {0}} (Err fault) old.log new.log status

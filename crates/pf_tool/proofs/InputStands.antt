@@ -1,5 +1,5 @@
 -- All of an input that was given and written: it is what the file has, and the session stands on a sheet of it.
-use Rattle.std.proofs.Common.{◌≡◌, ◌≢◌, ℕ, ◌+◌, ◌-◌, ◌<◌, ◌≤◌, min, true, List, [], ◌∷◌, ◌++◌, length, take, drop, refl, sym, ap, ap₂, subst, ◌∙◌, arith, length-append, length-take, length-drop, Option, Some, None, IfSome, option_map}
+use Rattle.std.proofs.Common.{◌≡◌, ◌≢◌, ℕ, ◌+◌, ◌<◌, ◌≤◌, List, [], ◌∷◌, ◌++◌, length, take, drop, refl, sym, ap, ap₂, subst, ◌∙◌, arith, length-append, length-take, Option, Some, None, IfSome, option_map}
 use Rattle.std.specs.List.{AllByRecursion, concat}
 use Rattle.std.proofs.Math.Seq.{take-add}
 use Rattle.std.proofs.lemmas.List.{take_min, take_all, take-append-drop}
@@ -7,19 +7,19 @@ use Rattle.std.proofs.lemmas.Option.{IfSome_then}
 use Rattle.node_layout.specs.Places.{node_count}
 use Rattle.node_tree.specs.Parts.{PIECE}
 use Rattle.node_tree.specs.Sheet.{Sheet}
-use Rattle.pf_io.specs.Disk.{Name, Disk, File, Files, reading, read_of}
-use Rattle.pf_io.specs.Host.{HostState, Gave, Both, OnDisk, OnHonest, files_of, contents}
+use Rattle.pf_io.specs.Disk.{Name, File, Files, reading, read_of}
+use Rattle.pf_io.specs.Host.{HostState, Both, OnHonest, files_of, contents}
 use Rattle.pf_io.specs.Moments.{Honest, Ran}
 use Rattle.pf_io.specs.Names.{side_of}
 use Rattle.pf_io.specs.Steps.{KeepsOthers}
 use Rattle.pf_io.specs.Words.{WordsState}
 use Rattle.pf_session.specs.Aside.{LeavesOthers}
-use Rattle.pf_session.specs.Creating.{empty_sheet, empty_tree, fresh}
+use Rattle.pf_session.specs.Creating.{empty_sheet}
 use Rattle.pf_session.specs.Restored.{KeepsBeside}
 use Rattle.pf_session.specs.State.{SessionState}
 use Rattle.pf_tool.specs.SealingInput.{GavePiece, PiecesWritten, none_yet, one_more, InputWritten}
 use Rattle.pf_tool.proofs.SheetWrites.{Standing, Went, went_then}
-use Rattle.pf_tool.proofs.PiecesStand.{AreStanding, pieces_stand, piece_stands, joined}
+use Rattle.pf_tool.proofs.PiecesStand.{pieces_stand, piece_stands, joined}
 use Rattle.pf_tool.proofs.SessionBegun.{Begun}
 
 -- what a read of another name gives is as before

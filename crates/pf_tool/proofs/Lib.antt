@@ -13,7 +13,6 @@ mod Conversing
 mod LineCounting
 mod ScriptCounting
 mod ScriptStreams
-mod Drawing
 mod HeldTree
 mod SessionWrites
 mod PieceGiving

@@ -1,5 +1,5 @@
 -- What the answers, and what files, decide of `measure`.
-use Rattle.std.proofs.Common.{◌≡◌, ◌≢◌, ◌⊎◌, inl, inr, ⊎_elim, ℕ, Bool, true, false, ◌||◌, List, [], ◌∷◌, ◌++◌, length, map, refl, subst, ap, ap₂, ◌∙◌, sym, append_assoc, Option, Some, None, Result, Ok, Err}
+use Rattle.std.proofs.Common.{◌≡◌, ◌≢◌, ◌⊎◌, inl, inr, ⊎_elim, ℕ, Bool, true, false, ◌||◌, List, [], ◌∷◌, ◌++◌, length, refl, subst, ap, ap₂, ◌∙◌, sym, append_assoc, Option, Some, None, Result, Ok, Err}
 use Rattle.std.specs.Prelude.{slice_get}
 use Rattle.std.specs.List.{AllByRecursion, concat, list_any}
 use Rattle.std.proofs.lemmas.List.{append-nil}
@@ -10,7 +10,7 @@ use Rattle.enclave_measure.specs.declared.fault.MeasureFault.TheVariants as meas
 use Rattle.enclave_measure.specs.declared.page.Page.{Page}
 use Rattle.enclave_measure.specs.Pages.{Listed}
 use Rattle.enclave_measure.specs.Layouts.{ReadsTo}
-use Rattle.enclave_measure.specs.Measuring.{file_at, Gives, IsOfFile, EndsAt, Measures, Whole, Ended, IsThere, IsFirstAbsent, MeasuresFiles, is_absence}
+use Rattle.enclave_measure.specs.Measuring.{file_at, EndsAt, Measures, Whole, Ended, IsThere, IsFirstAbsent, MeasuresFiles, is_absence}
 use Rattle.enclave_measure.proofs.Absent.{pages_there, absent_exactly}
 use Rattle.enclave_measure.proofs.Measured.{of_files}
 use Rattle.enclave_measure.proofs.OneMeasurement.{measures_one}
@@ -21,9 +21,8 @@ use Rattle.pf_io.specs.Host.{Answer, LengthWas, Both, IsMore}
 use Rattle.pf_io.specs.Answered.{IsAnswerOf}
 use Rattle.pf_io.specs.Names.{IsName}
 use Rattle.pf_tool.specs.World.{World}
-use Rattle.pf_tool.specs.Events.{Event, Answers, Draws, Puts, answers_in, words_in, pieces_in, bytes_in}
+use Rattle.pf_tool.specs.Events.{Event, Puts, answers_in, words_in, pieces_in, bytes_in}
 use Rattle.pf_tool.specs.Endings.{Ending, Done, Refused, BadName, BadLayout, Absent}
-use Rattle.pf_tool.specs.Happened.{Passed}
 use Rattle.pf_tool.specs.InputFiles.{asked, InputReads, InputOver}
 use Rattle.pf_tool.specs.Measuring.{sum_line, IsPageFile, PagesLead, page_absent, pages_measured, TextLeads, text_refused, text_listed, MeasureLeads, layout_unread, layout_read, MeasureOver, over_unread, over_refused, over_absent, over_measured, PutMeasurement}
 use Rattle.pf_tool.proofs.Asking.{asked_answers, asked_words, asked_pieces, asked_then}

@@ -1,8 +1,7 @@
 -- The reading of node 0, from its calls, and the whole of `decrypt`, from its parts.
-use Rattle.std.proofs.Common.{◌≡◌, ◌≢◌, ◌⊎◌, ℕ, ◌≤◌, List, [], ◌∷◌, ◌++◌, length, take, refl, subst, ap, ◌∙◌, sym, arith, Option, Some, None, Result, Ok, Err}
-use Rattle.std.proofs.lemmas.List.{take_all, length-take}
-use Rattle.std.proofs.Math.Seq.{take-take}
-use Rattle.node_layout.specs.Metadata.{IsPlain, magic, flag_at}
+use Rattle.std.proofs.Common.{◌≡◌, ◌≢◌, ℕ, ◌≤◌, List, [], ◌∷◌, ◌++◌, length, take, refl, subst, ap, ◌∙◌, sym, arith, Option, Some, None, Result, Ok, Err}
+use Rattle.std.proofs.lemmas.List.{take_all}
+use Rattle.node_layout.specs.Metadata.{magic}
 use Rattle.node_layout.specs.Opening.{OpensTo}
 use Rattle.node_layout.specs.declared.metadata.MetaSecret.{MetaSecret}
 use Rattle.node_tree.specs.Opened.{block_of}
@@ -16,7 +15,7 @@ use Rattle.pf_io.specs.Unchanged.{KeepsDisk}
 use Rattle.pf_io.proofs.Unchanged.{kept_none}
 use Rattle.pf_tool.specs.World.{World, with_host}
 use Rattle.pf_tool.specs.Events.{Event, Answers, reads_after, writes_after}
-use Rattle.pf_tool.specs.Endings.{Ending, Done, Damaged, Refused, BadName, NotFound, NotProtected, BadVersion, Unbuilt, Stop, ending_line}
+use Rattle.pf_tool.specs.Endings.{Ending, Damaged, Refused, BadName, NotFound, NotProtected, BadVersion, Unbuilt, Stop, ending_line}
 use Rattle.pf_tool.specs.Faults.{fault_line, fault_status, SaysEnding, SaysOpening, MayMeetOpening}
 use Rattle.pf_tool.specs.Happened.{HostPassed, HostFailed, Passed}
 use Rattle.pf_tool.specs.Outcomes.{Falls, ComesOut}
@@ -35,10 +34,8 @@ use Rattle.pf_tool.specs.Decrypting.{NodeRefused, not_protected, node_short, nod
 use Rattle.pf_tool.specs.Unsealing.{InputOpened, opening_events}
 use Rattle.pf_tool.specs.declared.fault.Fault.{Fault}
 use Rattle.pf_tool.specs.declared.fault.Fault.TheVariants as faults
-use Rattle.pf_tool.specs.declared.why.Why.TheVariants as whys
 use Rattle.pf_tool.proofs.Composing.{passed_none, passed_host, passed_reading, failed_host}
 use Rattle.pf_tool.proofs.Stopping.{refused, host_fails, starves, falls_as, falls_after, ends_after}
-use Rattle.pf_tool.proofs.KeyReading.{asked_twice}
 use Rattle.pf_tool.proofs.OneFile.{refused_last}
 
 abbrev Kept : List Event → Stop → HostState → HostState → Type 0

@@ -1,5 +1,5 @@
 -- The measurement of a layout's pages, from its calls.
-use Rattle.std.proofs.Common.{◌≡◌, ◌⊎◌, inl, inr, ℕ, zero, suc, ◌≤◌, Bool, true, false, List, [], ◌∷◌, ◌++◌, length, refl, subst, ap, ◌∙◌, sym, arith, append_assoc, Option, Some, None, Result, Ok, Err}
+use Rattle.std.proofs.Common.{◌≡◌, inl, inr, ℕ, Bool, true, false, List, [], ◌∷◌, ◌++◌, length, refl, subst, ap, ◌∙◌, sym, arith, append_assoc, Option, Some, None, Ok, Err}
 use Rattle.std.specs.Prelude.{slice_get, replicate, if◌then◌else◌}
 use Rattle.std.specs.List.{AllByRecursion}
 use Rattle.std.proofs.lemmas.List.{append-nil}
@@ -20,15 +20,14 @@ use Rattle.enclave_measure.specs.Measuring.{file_at, SourceGives, GivesWhere, Pa
 use Rattle.enclave_measure.specs.Measuring as measuring
 use Rattle.pf_tool.specs.World.{World, with_host}
 use Rattle.pf_tool.specs.Events.{Event, Answers, Puts, reads_after, writes_after}
-use Rattle.pf_tool.specs.Endings.{Ending, Done, Refused, Absent, Stop}
+use Rattle.pf_tool.specs.Endings.{Done, Refused, Absent, Stop}
 use Rattle.pf_tool.specs.Faults.{fault_line, fault_status}
-use Rattle.pf_tool.specs.Happened.{HostPassed, HostFailed}
+use Rattle.pf_tool.specs.Happened.{HostPassed}
 use Rattle.pf_tool.specs.InputFiles.{asked}
 use Rattle.pf_tool.specs.Measuring.{sum_line, IsPageFile, PagesLead, page_absent, pages_measured, PagesMeasured, NamesFile, file_named, no_room}
 use Rattle.pf_tool.specs.Outcomes.{Falls}
 use Rattle.pf_tool.specs.declared.fault.Fault.{Fault}
 use Rattle.pf_tool.specs.declared.fault.Fault.TheVariants as faults
-use Rattle.pf_tool.specs.declared.why.Why.TheVariants as whys
 use Rattle.pf_tool.proofs.Asking.{asked_then, passed_asked}
 use Rattle.pf_tool.proofs.Composing.{reads_then, writes_then, failed_host}
 use Rattle.pf_tool.proofs.PieceRuns.{same_given}

@@ -1,12 +1,12 @@
 -- The answers of pieces among all answers.
-use Rattle.std.proofs.Common.{◌≡◌, ℕ, ◌+◌, Bool, true, false, cond, List, [], ◌∷◌, ◌++◌, length, filter, refl, sym, ap, subst, ◌∙◌, arith, append_assoc, length-append, Option}
+use Rattle.std.proofs.Common.{◌≡◌, ℕ, ◌+◌, Bool, true, cond, List, [], ◌∷◌, ◌++◌, length, filter, refl, sym, ap, subst, ◌∙◌, arith, append_assoc, length-append, Option}
 use Rattle.std.proofs.lemmas.List.{append-nil}
 use Rattle.std.specs.Prelude.{bytes_eq, ◌&&◌}
 use Rattle.std.specs.List.{concat}
 use Rattle.std.proofs.lemmas.List.Elements.{filter-append}
 use Rattle.std.proofs.lemmas.Slice.Eq.{bytes_eq-Decides}
 use Rattle.pf_io.specs.Disk.{Name}
-use Rattle.pf_io.specs.Host.{Answer, Gave, Wrote, Synced, Made, HostState, Both, IsMore}
+use Rattle.pf_io.specs.Host.{Answer, Gave, HostState, Both, IsMore}
 use Rattle.pf_io.specs.Names.{side_of}
 use Rattle.pf_io.proofs.Telling.{both_then, both_weaker, both_same}
 use Rattle.node_tree.specs.Parts.{PIECE}
@@ -36,8 +36,11 @@ tells_same input at old new same = both_same (TellsPieces input at []) old.given
 pub tells_then : (input : Name) (at : ℕ) (xs ys : List (List ℕ)) (old mid new : HostState) → Both old.given mid.given (TellsPieces input at xs) → Both mid.given new.given (TellsPieces input (at + length (concat xs)) ys) → Both old.given new.given (TellsPieces input at (xs ++ ys))
 tells_then input at xs ys old mid new first second =
     both_then (TellsPieces input at xs) (TellsPieces input (at + length (concat xs)) ys) (TellsPieces input at (xs ++ ys)) old.given mid.given new.given first second
-    (λ a b c one two. (one.0 ++ two.0, two.1 ∙ ap (λ (l : List Answer). l ++ two.0) one.1 ∙ append_assoc a one.0 two.0,
-    filter-append (is_piece_of input) one.0 two.0 ∙ ap (λ (l : List Answer). l ++ filter (is_piece_of input) two.0) one.2 ∙ ap (λ (l : List Answer). piece_answers input at xs ++ l) two.2 ∙ sym (answers_join input at xs ys)))
+    (λ a b c one two. (
+      one.0 ++ two.0,
+      two.1 ∙ ap (λ (l : List Answer). l ++ two.0) one.1 ∙ append_assoc a one.0 two.0,
+      filter-append (is_piece_of input) one.0 two.0 ∙ ap (λ (l : List Answer). l ++ filter (is_piece_of input) two.0) one.2 ∙ ap (λ (l : List Answer). piece_answers input at xs ++ l) two.2 ∙ sym (answers_join input at xs ys),
+    ))
 
 its_name : (input : Name) → bytes_eq input input ≡ true
 its_name input = (bytes_eq-Decides input input).1 refl

@@ -193,23 +193,6 @@ module _ (input : Name) (node : List ℕ) (secret : MetaSecret) (at : ℕ) (tree
               (Puts whole.0, puts.rest, puts.ending, subst (λ (l : List Event). PiecesLead input node secret ((so_far.events ++ l) ++ Puts whole.0 ∷ puts.rest) puts.ending) same puts.leads)
         ]
 
-    -- where nothing of the piece was asked yet
-    begun_none : PieceBegun input secret at so_far.file [] (node_count at)
-    begun_none = record {
-      other = so_far.file;
-      same = λ k below. refl;
-      ready = ready_of secret so_far.file (node_count at) tree long_here holding_here;
-      low = omega arith;
-      events = ap (range_events input so_far.file (node_count at)) (let e : 0 ≡ node_count at - node_count at = omega arith in e);
-    }
-
-    -- there was no memory
-    pub starved_here : (fault : Fault) → fault ≡ faults.Memory → KeepsDisk old now → (world : World) → Falls (PiecesLead input node secret) (λ _ _. KeepsDisk) fault (facing world old before) (facing world now out)
-    starved_here fault is kept world =
-        let next = begun_next [] (node_count at) begun_none (omega arith) in
-        let leads = subst (λ (l : List Event). PiecesLead input node secret (l ++ next.0 ∷ next.1) next.2) (append-nil so_far.events) next.3 in
-        starves (PiecesLead input node secret) Kept so_far.events next.1 next.0 next.2 fault (facing world old before) (facing world now out) is leads (so_far.passed world) kept
-
     module _ (buffer : List ℕ) (room : length buffer ≡ PIECE) (tree' : TreeState) (new : HostState) (kept : KeepsDisk old new) where
       -- events so far, and the nodes of this piece
       nodes_then : (these : List Answer) (mid : HostState) → HostPassed these now mid → (world : World) → Passed (so_far.events ++ map (λ a. Answers a) these) (facing world old before) (facing world mid out)

@@ -1,15 +1,13 @@
 -- The pieces of an input that were given and written: what the session then stands on, and what they are of the file.
-use Rattle.std.proofs.Common.{◌≡◌, ◌≢◌, ◌⊎◌, inl, inr, ⊎_elim, ℕ, ◌+◌, ◌-◌, ◌<◌, ◌≤◌, min, List, [], ◌∷◌, ◌++◌, length, take, drop, refl, sym, ap, ap₂, subst, ◌∙◌, arith, length-append, length-take, length-drop, Option, Some, None, IfSome}
+use Rattle.std.proofs.Common.{◌≡◌, inl, inr, ⊎_elim, ℕ, ◌+◌, List, [], ◌∷◌, ◌++◌, length, refl, sym, ap, ap₂, subst, ◌∙◌, arith}
 use Rattle.std.specs.List.{AllByRecursion, concat}
-use Rattle.std.proofs.Math.Seq.{take-add}
-use Rattle.std.proofs.lemmas.List.{append-nil, take_min, take_all, take-append-drop}
+use Rattle.std.proofs.lemmas.List.{append-nil}
 use Rattle.std.proofs.lemmas.List.Folds.{concat-append}
-use Rattle.std.proofs.lemmas.Option.{IfSome_then}
 use Rattle.node_tree.specs.Parts.{PIECE}
 use Rattle.node_tree.specs.Sheet.{Sheet}
-use Rattle.pf_io.specs.Disk.{Name, Disk, File, Files, Image, IsImage, IsImageAt, reading, read_of}
-use Rattle.pf_io.specs.Host.{HostState, Gave, Both, OnDisk, OnHonest, files_of, contents}
-use Rattle.pf_io.specs.Moments.{Honest, Ran, Where, Ends}
+use Rattle.pf_io.specs.Disk.{Name, Disk, IsImage}
+use Rattle.pf_io.specs.Host.{HostState, OnDisk}
+use Rattle.pf_io.specs.Moments.{Ran, Where, Ends}
 use Rattle.pf_io.specs.Names.{side_of}
 use Rattle.pf_io.specs.Steps.{KeepsOthers, Stays}
 use Rattle.pf_io.specs.Unchanged.{KeepsDisk}
@@ -53,9 +51,12 @@ module _ (input : Name) (user : List ℕ) (output : Name) where
   pub piece_stands : (sheet : Sheet) (content piece : List ℕ) (old new : SessionState) (before after : HostState) (random random' : WordsState) → Standing user output sheet content old → PieceWritten input (length content) piece old new before after random random'
       → (next : Sheet) × Standing user output next (content ++ piece) new × Went input user output sheet next (length content) (piece ∷ []) before after random random'
   piece_stands sheet content piece old new before after random random' stands wrote =
-      let made = write_stands input user output sheet content wrote.written piece old new wrote.between after random random' stands wrote.wrote in
-      (made.0, made.1, went_then input user output sheet sheet made.0 (length content) (piece ∷ []) [] before wrote.between after random random random' (gave_went sheet (length content) piece before wrote.between random wrote.gave)
-      (made.2 (length content + length (concat (piece ∷ [])))))
+      let made = write_stands input user output sheet content wrote.written piece old new wrote.between after random random' stands wrote.wrote in (
+        made.0,
+        made.1,
+        went_then input user output sheet sheet made.0 (length content) (piece ∷ []) [] before wrote.between after random random random' (gave_went sheet (length content) piece before wrote.between random wrote.gave)
+            (made.2 (length content + length (concat (piece ∷ [])))),
+      )
 
 -- whole pieces
 pub record AreStanding (input : Name) (user : List ℕ) (output : Name) (first : Sheet) (content : List ℕ) (new : SessionState) (before after : HostState) (random random' : WordsState) : Type 0 where

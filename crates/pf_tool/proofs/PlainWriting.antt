@@ -17,7 +17,7 @@ use Rattle.pf_io.proofs.Answering.{all_append}
 use Rattle.pf_io.proofs.Telling.{both_weaker}
 use Rattle.pf_io.proofs.Unchanged.{kept_none}
 use Rattle.pf_tool.specs.World.{World, with_host}
-use Rattle.pf_tool.specs.Events.{Event, Answers, answers_in, words_in, pieces_in, reads_after, writes_after}
+use Rattle.pf_tool.specs.Events.{Event, Answers, reads_after, writes_after}
 use Rattle.pf_tool.specs.Endings.{Done, AtEnd, Failed, Starved, tried}
 use Rattle.pf_tool.specs.Happened.{HostPassed, HostFailed, Passed}
 use Rattle.pf_tool.specs.Outcomes.{Outcome, Falls}

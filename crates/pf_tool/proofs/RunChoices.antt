@@ -1,20 +1,18 @@
 -- The clauses of a run, by what its words ask for.
-use Rattle.std.proofs.Common.{◌≡◌, ◌≢◌, ◌⊎◌, inl, inr, ⊎_elim, ℕ, ◌<◌, ◌≤◌, List, [], ◌∷◌, ◌++◌, length, filter, refl, subst, ap, ◌∙◌, sym, arith, Option, Some, None, Result, Ok, Err}
+use Rattle.std.proofs.Common.{◌≡◌, ⊎_elim, ℕ, ◌<◌, ◌≤◌, List, [], ◌∷◌, ◌++◌, length, filter, refl, subst, ap, ◌∙◌, sym, arith, Option, Some, None, Result, Err}
 use Rattle.std.specs.List.{concat}
-use Rattle.std.proofs.lemmas.List.{append-nil}
 use Rattle.std.proofs.lemmas.List.Elements.{filter-append}
 use Rattle.node_layout.specs.Metadata.{MOST_SIZE}
-use Rattle.pf_io.specs.Disk.{Name, Disk, Image, IsImage, Files}
-use Rattle.pf_io.specs.Host.{Answer, HostState, Both, IsMore, files_of}
+use Rattle.pf_io.specs.Disk.{Name}
+use Rattle.pf_io.specs.Host.{Answer, Both, IsMore}
 use Rattle.pf_io.specs.Answered.{WereTold}
 use Rattle.pf_io.specs.Streams.{SinkState}
 use Rattle.pf_io.specs.Unchanged.{KeepsDisk}
 use Rattle.pf_tool.specs.World.{World, with_log}
 use Rattle.pf_tool.specs.Events.{Event, Answers, Draws, Puts, answers_in, pieces_in}
-use Rattle.pf_tool.specs.Endings.{Ending, Done, Damaged, Refused, TooLarge, Stop, AtEnd, Failed, Starved, tried, ending_status, stop_status}
-use Rattle.pf_tool.specs.Faults.{fault_status}
+use Rattle.pf_tool.specs.Endings.{Ending, Done, Stop, AtEnd, Failed, Starved, tried, ending_status, stop_status}
 use Rattle.pf_tool.specs.Happened.{OutPassed, Passed, Happened}
-use Rattle.pf_tool.specs.Keys.{KeyRefused, key_unnamed, key_absent, key_length, key_short}
+use Rattle.pf_tool.specs.Keys.{key_unnamed, key_absent, key_length, key_short}
 use Rattle.pf_tool.specs.Encrypting.{EncryptRefused, no_key, names_unfit, input_absent, EncryptGoes, not_found, input_found, IsVersion}
 use Rattle.pf_tool.specs.Manifests.{out_pieces, TookText, ManifestLeads}
 use Rattle.pf_tool.specs.Outcomes.{Falls, Concludes, StopsAt}
@@ -33,7 +31,7 @@ use Rattle.pf_tool.proofs.EncryptClauses.{refused_none, found_content, not_refus
 use Rattle.pf_tool.proofs.EncryptLaws.{encrypt_unput, words_alone}
 use Rattle.pf_tool.proofs.PiecesStand.{kept_alone}
 use Rattle.pf_tool.proofs.SealDisks.{alone_left}
-use Rattle.pf_tool.proofs.EncryptRuns.{made_nothing, end_said, out_kept, found_causes, found_not_one, found_not_two}
+use Rattle.pf_tool.proofs.EncryptRuns.{made_nothing, out_kept, found_causes, found_not_one, found_not_two}
 use Rattle.pf_tool.proofs.ManifestLaws.{GivenText, manifest_given, manifest_undrawn, manifest_unput}
 use Rattle.pf_tool.proofs.MeasureLaws.{measure_undrawn, measure_put}
 use Rattle.pf_tool.proofs.PlainWriting.{ran_weaker}

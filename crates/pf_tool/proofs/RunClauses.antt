@@ -1,36 +1,27 @@
 -- The clauses of a run, each from what the whole run came to.
-use Rattle.std.proofs.Common.{◌≡◌, ◌≢◌, ◌⊎◌, inl, inr, ⊎_elim, ℕ, ◌≤◌, List, [], ◌∷◌, ◌++◌, refl, subst, ap, ◌∙◌, sym, arith, Option, Some, None, Result, Ok, Err, IfSome}
+use Rattle.std.proofs.Common.{◌≡◌, ◌≢◌, ◌⊎◌, inl, inr, ⊎_elim, ℕ, ◌≤◌, List, [], ◌∷◌, ◌++◌, subst, ap, ◌∙◌, sym, arith, Option, Some, Result, Ok, Err, IfSome}
 use Rattle.std.specs.List.{AllByRecursion, concat}
 use Rattle.std.proofs.lemmas.List.{append-nil}
-use Rattle.pf_io.specs.Disk.{Name, Files}
-use Rattle.pf_io.specs.Host.{Answer, HostState, Both, IsMore, files_of}
+use Rattle.pf_io.specs.Disk.{Files}
+use Rattle.pf_io.specs.Host.{Answer, HostState, IsMore, files_of}
 use Rattle.pf_io.specs.Answered.{IsAnswerOf, WereTold}
 use Rattle.pf_io.specs.Streams.{SourceState, SinkState, TakesFront}
 use Rattle.pf_io.specs.Words.{WordsState}
 use Rattle.pf_io.proofs.Telling.{both_weaker}
 use Rattle.pf_tool.specs.World.{World, world_of, with_log}
 use Rattle.pf_tool.specs.Events.{Event, Answers, Draws, Puts, answers_in, words_in, pieces_in, bytes_in}
-use Rattle.pf_tool.specs.Endings.{Ending, Done, MayStarve, Stop, AtEnd, Failed, Starved, tried, stop_line, stop_status, no_command_line}
+use Rattle.pf_tool.specs.Endings.{Ending, Done, MayStarve, Stop, AtEnd, Failed, Starved, stop_line, stop_status, no_command_line}
 use Rattle.pf_tool.specs.declared.fault.Fault.{Fault}
 use Rattle.pf_tool.proofs.Stopping.{not_done}
-use Rattle.pf_tool.specs.Happened.{OutPassed, Passed, Happened}
-use Rattle.pf_tool.specs.Manifests.{out_pieces, TookText, ManifestLeads}
-use Rattle.template_text.specs.Rendering.{Values}
-use Rattle.pf_tool.proofs.ManifestLaws.{GivenText, manifest_given, manifest_undrawn, manifest_unput}
-use Rattle.pf_tool.proofs.TextPutting.{concat_pieces}
+use Rattle.pf_tool.specs.Happened.{Passed, Happened}
 use Rattle.pf_tool.specs.Faults.{fault_status}
 use Rattle.pf_tool.specs.Outcomes.{IsAhead, StopsAt, ComesOut, Concludes}
 use Rattle.pf_tool.specs.Reports.{Reported, Reports}
-use Rattle.pf_tool.specs.Requests.{Request, Decrypt, Encrypt, Manifest, Sums, Measure}
+use Rattle.pf_tool.specs.Requests.{Request}
 use Rattle.pf_tool.specs.Runs.{Leads, LeavesHost, RunsByEvents, Usage, CausedOnce, ByWords, DecidedByEvents, NoneCounted, Honestly, as_files_give, starved, Honest}
-use Rattle.pf_tool.proofs.RunStops.{not_two, reports_of, stop_low, reported_said, said, status_of, host_counted, random_counted, out_counted, all_passed, none_failed, input_kept, undrawn, unput, done_at_zero}
+use Rattle.pf_tool.proofs.RunStops.{not_two, reports_of, stop_low, reported_said, said, status_of, host_counted, random_counted, out_counted, all_passed, none_failed}
 use Rattle.pf_tool.proofs.RunLaws.{silent, spoken, decided, none_left, over, over_front}
-use Rattle.pf_tool.proofs.DecryptLaws.{decrypt_undrawn}
-use Rattle.pf_tool.proofs.SumsLaws.{sums_undrawn, put_lines, put_both}
-use Rattle.pf_tool.specs.Summing.{SumsLead, WroteSums}
-use Rattle.pf_tool.proofs.MeasureLaws.{measure_undrawn, measure_put}
-use Rattle.pf_tool.proofs.ContentRuns.{told_of, these_told, front_taken, took_content}
-use Rattle.pf_tool.specs.Measuring.{MeasureLeads}
+use Rattle.pf_tool.proofs.ContentRuns.{told_of, these_told, front_taken}
 
 -- a command, and what was said of it
 pub concluded : {T : Type 0} (request : Request) (r : Result T Fault) (h0 h1 : HostState) (input : SourceState) (o0 o1 l0 l1 : SinkState) (r0 r1 : WordsState) (status : ℕ) → ComesOut (Leads request) (LeavesHost request) r (world_of h0 input o0 l0 r0) (world_of h1 input o1 l0 r1)

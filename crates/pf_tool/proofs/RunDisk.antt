@@ -31,7 +31,6 @@ use Rattle.pf_tool.proofs.ScriptKeeping.{script_keeps}
 use Rattle.pf_tool.proofs.Asking.{asked_then}
 use Rattle.pf_tool.proofs.EntryReading.{IsAsk, gives_asks, end_asks}
 use Rattle.pf_tool.proofs.PlainWriting.{ran_weaker}
-use Rattle.pf_tool.specs.Keys.{KeyRefused, key_unnamed, key_absent, key_length, key_short, key_events}
 use Rattle.pf_tool.specs.Runs.{Runs, MayBeNew, OutputLeft, OutputEnds, LeavesOutput, OnDisks}
 use Rattle.pf_tool.proofs.RunChoices.{sealing_disk}
 use Rattle.pf_tool.proofs.RunStops.{host_counted, reports_done, done_at_zero}

@@ -99,12 +99,16 @@ script_books key old new status image run = by_goes run.ending run.goes
   where
     Now : World
     Now = with_log new old.log
+
     desk_of : List ℕ → DeskState
     desk_of user = (begins user old).desk
+
     begun_so : (user : List ℕ) (begun : World) → KeyRead key user old begun → KeptSo (desk_of user) old.host (begins user begun)
     begun_so user begun read = record { keeps = read_keeps (desk_of user) old.host begun.host read.disk; image = image_on old.host begun.host read.disk image }
+
     ends : (user : List ℕ) (last : DeskState) (host : HostState) → new.host ≡ host → KeepsDesk (desk_of user) last old.host host → RunsBooks old new
     ends user last host is keeps = run_from (desk_of user) last old.host new.host (λ k. same_all SEATS k None) (subst (λ (h : HostState). KeepsDesk (desk_of user) last old.host h) (sym is) keeps) image
+
     by_goes : (ending : Result ℕ Fault) → ScriptGoes key ending old (with_log new old.log) → RunsBooks old new
     by_goes ending (no_key fault falls is) = ends [] (desk_of []) new.host refl (read_keeps (desk_of []) old.host new.host falls.outcome.leaves)
     by_goes ending (no_reader user read is) = ends user (desk_of user) new.host refl (read_keeps (desk_of user) old.host new.host read.disk)

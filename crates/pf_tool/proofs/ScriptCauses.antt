@@ -191,8 +191,8 @@ module _ (key : Name) (old new : World) (status : ℕ) where
       let random : new.random ≡ last.world.random = ap (λ (w : World). w.random) same in
       let input : new.input ≡ last.world.input = ap (λ (w : World). w.input) same in
       let whole : Tally (first_of s more) old.host.faults new.host.faults old.random.faults new.random.faults =
-          subst (λ (h : HostState). Tally (first_of s more) old.host.faults h.faults old.random.faults new.random.faults) (sym host)
-          (subst (λ (r : WordsState). Tally (first_of s more) old.host.faults last.world.host.faults old.random.faults r.faults) (sym random) tally) in
+      subst (λ (h : HostState). Tally (first_of s more) old.host.faults h.faults old.random.faults new.random.faults) (sym host)
+      (subst (λ (r : WordsState). Tally (first_of s more) old.host.faults last.world.host.faults old.random.faults r.faults) (sym random) tally) in
       done_causes (subst (λ (n : ℕ). Tally n old.host.faults new.host.faults old.random.faults new.random.faults) (sym end.0) whole) (ap (λ (s : SourceState). s.faults) input ∙ place.0, wrote.calm ∙ place.1) end.1
 
 pub run_script_causes : (key : Name) (old new : World) (status : ℕ) → RunsScript key old new status → CausedInScript old new status

@@ -60,9 +60,9 @@ one_closing k reply old new before was seat = by_reply reply seat.none seat.ends
       told = record {
         spoke = spoke_none before old.world.host new.world.host old.world.random new.world.random was ends.1 ends.2;
         follows = λ state is. inl (
-              shows_none state.sealed (seat_at state k) (subst (λ (s : Option SessionState). Shows state.sealed (seat_at state k) s) (none.0 refl) (is.shows k)),
-              (refl, subst (IsStateOf state) (sym ends.0) is),
-            );
+          shows_none state.sealed (seat_at state k) (subst (λ (s : Option SessionState). Shows state.sealed (seat_at state k) s) (none.0 refl) (is.shows k)),
+          (refl, subst (IsStateOf state) (sym ends.0) is),
+        );
         input = seat.input;
         log = seat.log;
       };
@@ -76,13 +76,13 @@ one_closing k reply old new before was seat = by_reply reply seat.none seat.ends
           told = record {
             spoke = one.spoke;
             follows = λ state is. inr (
-                  one.said,
-                  [],
-                  refl,
-                  not_empty state.sealed (seat_at state k) (session_at old.desk k) (λ e. let never : Some said ≡ None = none.1 e in absurd (cc)) (is.shows k),
-                  one.line_is,
-                  follows_as state (one.said ∷ []) (λ left is_left. (refl, is_left)) (one.follows state is),
-                );
+              one.said,
+              [],
+              refl,
+              not_empty state.sealed (seat_at state k) (session_at old.desk k) (λ e. let never : Some said ≡ None = none.1 e in absurd (cc)) (is.shows k),
+              one.line_is,
+              follows_as state (one.said ∷ []) (λ left is_left. (refl, is_left)) (one.follows state is),
+            );
             input = seat.input;
             log = seat.log;
           };
@@ -121,10 +121,10 @@ seats_closed start count status now before was (one_closed seat _ earlier _ repl
     let old = seats_closed start seat earlier mid before was so_far in
     let one = one_closing seat reply mid now (old.seats.spoke.told.before ++ given_in old.closed) old.seats.spoke.told.now goes in
     subst (λ (n : ℕ). Closed start n status now) (sym next) (record {
-          closed = old.closed ++ one.closed;
-          seats = seats_on seat old.closed start mid now reply old.seats one;
-          said = subst (λ (l : List ℕ). WroteAll l start.world.out now.world.out) (sym (closing_texts_on old.closed one.closed))
-              (wrote_both (closing_texts old.closed) (closing_texts one.closed) start.world.out mid.world.out now.world.out old.said (subst (λ (l : List ℕ). WroteAll l mid.world.out now.world.out) (sym one.text_is) wrote));
-          status_is = is ∙ ap (λ (n : ℕ). first_of n (closed_status reply)) old.status_is ∙ ap (λ (n : ℕ). first_of (status_of (closing_statuses old.closed)) n) (sym one.status_is)
-              ∙ sym (status_on (closing_statuses old.closed) (closing_statuses one.closed)) ∙ ap (λ (l : List ℕ). status_of l) (sym (map-append (λ (exchange : Exchange). reply_status exchange.reply) old.closed one.closed));
-        })
+      closed = old.closed ++ one.closed;
+      seats = seats_on seat old.closed start mid now reply old.seats one;
+      said = subst (λ (l : List ℕ). WroteAll l start.world.out now.world.out) (sym (closing_texts_on old.closed one.closed))
+          (wrote_both (closing_texts old.closed) (closing_texts one.closed) start.world.out mid.world.out now.world.out old.said (subst (λ (l : List ℕ). WroteAll l mid.world.out now.world.out) (sym one.text_is) wrote));
+      status_is = is ∙ ap (λ (n : ℕ). first_of n (closed_status reply)) old.status_is ∙ ap (λ (n : ℕ). first_of (status_of (closing_statuses old.closed)) n) (sym one.status_is)
+          ∙ sym (status_on (closing_statuses old.closed) (closing_statuses one.closed)) ∙ ap (λ (l : List ℕ). status_of l) (sym (map-append (λ (exchange : Exchange). reply_status exchange.reply) old.closed one.closed));
+    })

@@ -84,22 +84,22 @@ module _ (key : Name) (user : List ℕ) (old begun new : World) (status : ℕ) (
       let same = same_key key user user2 before (given ++ b.more) behind (ap (λ (l : List Answer). l ++ (given ++ b.more)) (sym front) ∙ same_list (all.before ++ (given ++ b.more)) (before ++ key_and key user2 behind) (sym all.now ∙ now)) in (
         transcript,
         subst (λ (u : List ℕ). TookTranscript u behind transcript old new status) same.0 (record {
-              follows = λ sealed. b.part.follows (empty_seats user sealed) (begins_shown user begun sealed);
-              until = b.until;
-              given = given;
-              more = b.more;
-              seen = record {
-                answers = refl;
-                words = subst (λ (r : WordsState). Both r.left b.until.random.left (IsTaken (words_seen (exchanges_of transcript)))) same_random b.part.spoke.words;
-                host_counts = subst (λ (n : ℕ). b.until.host.faults ≡ counts_after (host_flags (exchanges_of transcript)) n) read.passed.host.calm b.part.spoke.host_counts;
-                words_counts = subst (λ (r : WordsState). b.until.random.faults ≡ counts_after (words_flags (exchanges_of transcript)) r.faults) same_random b.part.spoke.words_counts;
-              };
-              in_order = same.1;
-              to_the_end = ⊎_elim (λ all. inl all) (λ starved. inr (starved_since starved)) b.to_the_end;
-              lines = subst (λ (s : SourceState). IfSome s.left (AnswersFirst transcript)) read.passed.input b.part.lines;
-              input_read = b.input_read;
-              put = put_since transcript b.put;
-            }),
+          follows = λ sealed. b.part.follows (empty_seats user sealed) (begins_shown user begun sealed);
+          until = b.until;
+          given = given;
+          more = b.more;
+          seen = record {
+            answers = refl;
+            words = subst (λ (r : WordsState). Both r.left b.until.random.left (IsTaken (words_seen (exchanges_of transcript)))) same_random b.part.spoke.words;
+            host_counts = subst (λ (n : ℕ). b.until.host.faults ≡ counts_after (host_flags (exchanges_of transcript)) n) read.passed.host.calm b.part.spoke.host_counts;
+            words_counts = subst (λ (r : WordsState). b.until.random.faults ≡ counts_after (words_flags (exchanges_of transcript)) r.faults) same_random b.part.spoke.words_counts;
+          };
+          in_order = same.1;
+          to_the_end = ⊎_elim (λ all. inl all) (λ starved. inr (starved_since starved)) b.to_the_end;
+          lines = subst (λ (s : SourceState). IfSome s.left (AnswersFirst transcript)) read.passed.input b.part.lines;
+          input_read = b.input_read;
+          put = put_since transcript b.put;
+        }),
       )
 
 -- A refused key is not given, and neither is one at which a call failed.

@@ -90,6 +90,7 @@ line_told reply old new before was answered = by_next answered.next reply answer
   where
     too_long : (bytes : List ℕ) → LONGEST_LINE < length bytes → (line : ScriptLine) → ¬ (IsScriptLine bytes line)
     too_long bytes long line is = let short = is.not_long in omega (arith, long, short)
+
     by_next : (next : NextLine) (reply : Option Reply) → Reads (Ok next) old new → NextAnswered next new.reader.line reply old new → LineTold reply old new
     by_next nexts.End reply reads answers = absurd answers
     by_next nexts.TooLong reply reads answers =
@@ -143,20 +144,21 @@ items_on items item = flat_map-append exchange_of items (item ∷ []) ∙ ap (λ
 
 pub lines_on : (items : List Item) (start mid now : At) (reply : Option Reply) → LinesTold items start mid → (one : LineTold reply mid now) → LinesTold (items ++ one.item ∷ []) start now
 lines_on items start mid now reply so_far one = record {
-      spoke = subst (λ (l : List Exchange). Spoke l start.world.host now.world.host start.world.random now.world.random) (sym (items_on items one.item))
-          (spoke_on (flat_map exchange_of items) (exchange_of one.item) start.world.host mid.world.host now.world.host start.world.random mid.world.random now.world.random so_far.spoke one.spoke);
-      follows = λ state at_start. subst (λ (l : List Exchange). Follows state l (λ left. IsStateOf left now.desk)) (sym (items_on items one.item))
-          (follows_on (λ left. IsStateOf left now.desk) state (flat_map exchange_of items) (exchange_of one.item) (follows_as state (flat_map exchange_of items) (λ left is. one.follows left is) (so_far.follows state at_start)));
-      reads = both_then (λ before left. (first : List (List ℕ)) × (lines_of (start.reader.pending ++ before) ≡ first ++ lines_of (mid.reader.pending ++ left)) × AnswerEach first items)
-          (λ before left. (bytes : List ℕ) × (lines_of (mid.reader.pending ++ before) ≡ bytes ∷ lines_of (now.reader.pending ++ left)) × AnswersBytes bytes one.item)
-          (λ before left. (first : List (List ℕ)) × (lines_of (start.reader.pending ++ before) ≡ first ++ lines_of (now.reader.pending ++ left)) × AnswerEach first (items ++ one.item ∷ []))
-          start.world.input.left mid.world.input.left now.world.input.left so_far.reads one.reads
-          (λ a b c first next. (
-          first.0 ++ next.0 ∷ [],
-          first.1 ∙ ap (λ (l : List (List ℕ)). first.0 ++ l) next.1 ∙ sym (append_assoc first.0 (next.0 ∷ []) (lines_of (now.reader.pending ++ c))),
-          each_on first.0 items next.0 one.item first.2 next.2));
-      settled = one.settled;
-    }
+  spoke = subst (λ (l : List Exchange). Spoke l start.world.host now.world.host start.world.random now.world.random) (sym (items_on items one.item))
+      (spoke_on (flat_map exchange_of items) (exchange_of one.item) start.world.host mid.world.host now.world.host start.world.random mid.world.random now.world.random so_far.spoke one.spoke);
+  follows = λ state at_start. subst (λ (l : List Exchange). Follows state l (λ left. IsStateOf left now.desk)) (sym (items_on items one.item))
+      (follows_on (λ left. IsStateOf left now.desk) state (flat_map exchange_of items) (exchange_of one.item) (follows_as state (flat_map exchange_of items) (λ left is. one.follows left is) (so_far.follows state at_start)));
+  reads = both_then (λ before left. (first : List (List ℕ)) × (lines_of (start.reader.pending ++ before) ≡ first ++ lines_of (mid.reader.pending ++ left)) × AnswerEach first items)
+      (λ before left. (bytes : List ℕ) × (lines_of (mid.reader.pending ++ before) ≡ bytes ∷ lines_of (now.reader.pending ++ left)) × AnswersBytes bytes one.item)
+      (λ before left. (first : List (List ℕ)) × (lines_of (start.reader.pending ++ before) ≡ first ++ lines_of (now.reader.pending ++ left)) × AnswerEach first (items ++ one.item ∷ []))
+      start.world.input.left mid.world.input.left now.world.input.left so_far.reads one.reads
+      (λ a b c first next. (
+        first.0 ++ next.0 ∷ [],
+        first.1 ∙ ap (λ (l : List (List ℕ)). first.0 ++ l) next.1 ∙ sym (append_assoc first.0 (next.0 ∷ []) (lines_of (now.reader.pending ++ c))),
+        each_on first.0 items next.0 one.item first.2 next.2,
+      ));
+  settled = one.settled;
+}
 
 -- so with the output and the status
 pub record Answered (start : At) (status : ℕ) (now : At) : Type 0 where
@@ -185,17 +187,17 @@ text_on items item = flat_map-append item_text items (item ∷ []) ∙ ap (λ (l
 -- what the lines came to, where the host tells its answers
 pub lines_answered : (start : At) (status : ℕ) (now : At) (before : List Answer) → start.world.host.given ≡ Some before → start.reader.stage ≡ stages.Open → Lines start status now → Answered start status now
 lines_answered start status now before was ready (none_yet _ _ zero_is same) = subst (λ (n : At). Answered start status n) (sym same) (record {
-      items = [];
-      lines = record {
-        spoke = spoke_none before start.world.host start.world.host start.world.random start.world.random was refl refl;
-        follows = λ state is. is;
-        reads = both_same (λ before left. (first : List (List ℕ)) × (lines_of (start.reader.pending ++ before) ≡ first ++ lines_of (start.reader.pending ++ left)) × AnswerEach first []) start.world.input.left start.world.input.left refl (λ bytes. ([], refl, tt));
-        settled = inl ready;
-      };
-      said = wrote_nothing start.world.out start.world.out refl;
-      status_is = zero_is;
-      log = refl;
-    })
+  items = [];
+  lines = record {
+    spoke = spoke_none before start.world.host start.world.host start.world.random start.world.random was refl refl;
+    follows = λ state is. is;
+    reads = both_same (λ before left. (first : List (List ℕ)) × (lines_of (start.reader.pending ++ before) ≡ first ++ lines_of (start.reader.pending ++ left)) × AnswerEach first []) start.world.input.left start.world.input.left refl (λ bytes. ([], refl, tt));
+    settled = inl ready;
+  };
+  said = wrote_nothing start.world.out start.world.out refl;
+  status_is = zero_is;
+  log = refl;
+})
 lines_answered start status now before was ready (one_more earlier _ reply mid _ so_far goes is) =
     let old = lines_answered start earlier mid before was ready so_far in
     let one = line_told reply mid now (old.lines.spoke.told.before ++ given_in (flat_map exchange_of old.items)) old.lines.spoke.told.now goes.answered in
@@ -218,11 +220,13 @@ input_ends last now settled ends = by_reads ends.reads
     none_left None None goes no_more = tt
     none_left (Some b) None goes no_more = absurd goes
     none_left None (Some n) goes no_more = absurd goes
+
     still : (o p : Option (List ℕ)) → p ≡ o → last.reader.pending ≡ [] → IfSome o (λ left. left ≡ []) → Both o p (λ before left. (lines_of (last.reader.pending ++ before) ≡ []) × (left ≡ []))
     still None p same pending no_more = subst (λ (q : Option (List ℕ)). Both None q (λ before left. (lines_of (last.reader.pending ++ before) ≡ []) × (left ≡ []))) (sym same) tt
     still (Some bytes) p same pending no_more =
         subst (λ (q : Option (List ℕ)). Both (Some bytes) q (λ before left. (lines_of (last.reader.pending ++ before) ≡ []) × (left ≡ []))) (sym same)
         (ap (λ (l : List ℕ). lines_of (l ++ bytes)) pending ∙ ap (λ (l : List ℕ). lines_of l) no_more, no_more)
+
     by_reads : ReadsOn (Ok nexts.End) last.reader now.reader last.world.input now.world.input → Both last.world.input.left now.world.input.left (λ before left. (lines_of (last.reader.pending ++ before) ≡ []) × (left ≡ []))
     by_reads (went_on stage advances lines) = none_left last.world.input.left now.world.input.left lines advances.cuts.1.no_more
     by_reads (was_over stage again same to) = ⊎_elim (λ ready. absurd (stage ready)) (λ over. still last.world.input.left now.world.input.left (ap (λ (s : SourceState). s.left) to) over.0 over.1) settled

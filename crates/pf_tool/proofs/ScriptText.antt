@@ -73,17 +73,17 @@ module _ (user : List ℕ) (begun : World) (before : List Answer) (was : begun.h
     where
       by_cause : (so_far : Answered Start earlier last) (told : List Answer) → last.world.host.given ≡ Some told → LineStops fault last now → (transcript : Transcript) × Behind user transcript begun new status
       by_cause so_far told at_last (not_read cause reads nothing says is) = (
-            lines_only so_far.items,
-            record {
-              until = last.world;
-              part = lines_part user begun so_far.items last so_far.lines;
-              more = [];
-              told = told_nothing told last.world.host new.host at_last (ap (λ (h : HostState). h.given) (host ∙ nothing.same_host));
-              to_the_end = inl (refl, sym (host ∙ nothing.same_host), sym (random ∙ nothing.same_random));
-              input_read = λ e. absurd (cc);
-              put = cut_off (inr (seven is)) (subst (λ (s : SinkState). Both begun.out.bytes s.bytes (TakesFront (text_of (lines_only so_far.items)))) (sym (out ∙ says.out)) (wrote_front (flat_map item_text so_far.items) (text_of (lines_only so_far.items)) begun.out last.world.out (lines_text so_far.items) so_far.said));
-            },
-          )
+        lines_only so_far.items,
+        record {
+          until = last.world;
+          part = lines_part user begun so_far.items last so_far.lines;
+          more = [];
+          told = told_nothing told last.world.host new.host at_last (ap (λ (h : HostState). h.given) (host ∙ nothing.same_host));
+          to_the_end = inl (refl, sym (host ∙ nothing.same_host), sym (random ∙ nothing.same_random));
+          input_read = λ e. absurd (cc);
+          put = cut_off (inr (seven is)) (subst (λ (s : SinkState). Both begun.out.bytes s.bytes (TakesFront (text_of (lines_only so_far.items)))) (sym (out ∙ says.out)) (wrote_front (flat_map item_text so_far.items) (text_of (lines_only so_far.items)) begun.out last.world.out (lines_text so_far.items) so_far.said));
+        },
+      )
       by_cause so_far told at_last (not_answered none reads answers says is) =
           let went = on_step told at_last none answers in (
             lines_only so_far.items,

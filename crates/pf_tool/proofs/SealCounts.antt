@@ -1,47 +1,33 @@
 -- How a sealing that fails counts: which count rose, and that no piece of the input was given in the call that failed.
-use Rattle.std.proofs.Common.{◌≡◌, ◌≢◌, ◌⊎◌, inl, inr, ⊎_elim, ℕ, ◌+◌, ◌^◌, ◌<◌, ◌≤◌, Bool, true, false, List, [], ◌∷◌, ◌++◌, length, filter, refl, sym, ap, subst, ◌∙◌, arith, Result, Ok, Err}
+use Rattle.std.proofs.Common.{◌≡◌, ◌≢◌, ℕ, List, [], ◌∷◌, ◌++◌, length, filter, refl, sym, ap, subst, ◌∙◌, Result, Ok, Err}
 use Rattle.std.proofs.lemmas.List.Elements.{filter-append}
-use Rattle.node_tree.specs.Applying.{Write}
 use Rattle.node_tree.specs.Sheet.{Sheet}
-use Rattle.node_tree.specs.State.{TreeState}
-use Rattle.node_tree.specs.declared.fault.TreeFault.{TreeFault}
-use Rattle.node_tree.specs.declared.fault.TreeFault.TheVariants as trees
 use Rattle.pf_io.specs.Counts.{counted}
 use Rattle.pf_io.specs.Disk.{Name}
-use Rattle.pf_io.specs.Host.{Answer, LengthWas, Gave, Wrote, WasCut, Synced, Made, Swapped, Removed, HostState, Both, IsMore}
+use Rattle.pf_io.specs.Host.{Answer, LengthWas, Gave, Wrote, WasCut, Synced, Made, Swapped, Removed, HostState, Both}
 use Rattle.pf_io.specs.Names.{side_of}
 use Rattle.pf_io.specs.Words.{WordsState}
-use Rattle.pf_io.proofs.Telling.{both_weaker}
 use Rattle.pf_io.proofs.Writing.{once_after}
 use Rattle.pf_session.specs.Asking.{faults_after, kind_of, Stopped}
-use Rattle.pf_session.specs.Changing.{StepGoes, stepped, WriteGoes, refused, unchanged, changed, not_flushed, flushed_and_changed}
-use Rattle.pf_session.specs.Creating.{AreNamed, BesideGoes, misnamed, no_memory, no_words, begin_stopped, begun, empty_node, fresh}
-use Rattle.pf_session.specs.Ending.{PublishGoes, not_named, published}
-use Rattle.pf_session.specs.Ending as ending
-use Rattle.pf_session.specs.Faults.{write_of_flush, write_of_tree}
+use Rattle.pf_session.specs.Creating.{BesideGoes, misnamed, no_memory, no_words, begin_stopped, begun, empty_node}
 use Rattle.pf_session.specs.Flushing.{SealGoes, node_short, call_failed, flushed, FlushGoes, had_words}
 use Rattle.pf_session.specs.Flushing as flushing
 use Rattle.pf_session.specs.Placing.{make_steps}
 use Rattle.pf_session.specs.Restored.{KeepsBeside}
-use Rattle.pf_session.specs.State.{SessionState, file_of}
+use Rattle.pf_session.specs.State.{SessionState}
 use Rattle.pf_session.specs.Steps.{flush_steps}
 use Rattle.pf_session.specs.declared.fault.BesideFault.{BesideFault}
 use Rattle.pf_session.specs.declared.fault.BesideFault.TheVariants as besides
 use Rattle.pf_session.specs.declared.fault.FlushFault.{FlushFault}
 use Rattle.pf_session.specs.declared.fault.FlushFault.TheVariants as flushes
-use Rattle.pf_session.specs.declared.fault.WriteFault.{WriteFault}
-use Rattle.pf_session.specs.declared.fault.WriteFault.TheVariants as writes
-use Rattle.pf_session.specs.declared.fault.Written.{Written}
-use Rattle.pf_tool.specs.Faults.{beside_fault, flush_fault, IsPieceFault}
+use Rattle.pf_tool.specs.Faults.{beside_fault, flush_fault}
 use Rattle.pf_tool.specs.SealedContents.{is_piece_of}
 use Rattle.pf_tool.specs.declared.fault.Fault.{Fault}
 use Rattle.pf_tool.specs.declared.fault.Fault.TheVariants as faults
 use Rattle.pf_tool.specs.declared.why.Why.{Why}
 use Rattle.pf_tool.specs.declared.why.Why.TheVariants as whys
-use Rattle.pf_tool.proofs.HeldTree.{IsSilent, step_asks_none, step_still}
-use Rattle.pf_tool.proofs.PieceAnswers.{TellsPieces, tells_none, tells_same, tells_then, none_of_flush, none_of_make}
-use Rattle.pf_tool.proofs.SessionWrites.{is_fit}
-use Rattle.pf_tool.proofs.SheetWrites.{Standing, Went, flush_stands, same_alone, alone_then}
+use Rattle.pf_tool.proofs.PieceAnswers.{TellsPieces, tells_none, tells_same, none_of_flush, none_of_make}
+use Rattle.pf_tool.proofs.SheetWrites.{Standing, same_alone}
 
 -- the counts at a refusal: an input that is too large
 abbrev pub CountsRefusal : Why → HostState → HostState → WordsState → WordsState → Type 0

@@ -1,19 +1,18 @@
 -- What a sealing leaves at the output, and that all other names stay.
-use Rattle.std.proofs.Common.{◌≡◌, ◌≢◌, ◌⊎◌, inl, inr, ⊎_elim, ℕ, ◌≤◌, Bool, true, false, List, [], ◌∷◌, length, refl, sym, ap, subst, ◌∙◌, Option, Some, None, Result, Ok, Err}
+use Rattle.std.proofs.Common.{◌≡◌, ◌≢◌, inl, inr, ⊎_elim, ℕ, Bool, true, false, List, refl, sym, subst, ◌∙◌, Option, Some, None}
 use Rattle.node_tree.specs.Sheet.{Sheet, Stands}
-use Rattle.pf_io.specs.Disk.{Name, File, Disk, Image, IsImage, IsImageAt, IsSettledFile}
+use Rattle.pf_io.specs.Disk.{Name, File, Disk, Image, IsImageAt}
 use Rattle.pf_io.specs.Host.{HostState, Both, OnDisk}
-use Rattle.pf_io.specs.Moments.{Honest, Leaves, Ran, Where, Ends}
+use Rattle.pf_io.specs.Moments.{Honest, Ran, Where, Ends}
 use Rattle.pf_io.specs.Names.{side_of}
 use Rattle.pf_io.specs.Steps.{KeepsOthers}
 use Rattle.pf_io.proofs.Runs.{goes_on_ran}
-use Rattle.pf_io.proofs.Telling.{both_then, both_weaker}
+use Rattle.pf_io.proofs.Telling.{both_weaker}
 use Rattle.pf_session.specs.Aside.{LeavesOthers, LeavesAllBut, KeepsAllBut, ChangesTwo}
 use Rattle.pf_session.specs.Ending.{KeptOr, PublishedIf, Publishes}
 use Rattle.pf_session.specs.Reopening.{HasSheet}
 use Rattle.pf_session.specs.Restored.{KeepsBeside}
 use Rattle.pf_session.specs.State.{SessionState}
-use Rattle.pf_session.proofs.Disks.{leaves_others}
 use Rattle.pf_tool.specs.Encrypting.{StandsFor}
 use Rattle.pf_tool.specs.Runs.{OutputLeft, OutputEnds}
 use Rattle.pf_tool.specs.SideFiles.{IsNewFile}
@@ -103,14 +102,14 @@ module _ (user : List ℕ) (output : Name) (content : List ℕ) (session : Sessi
     whole_run done publishes =
         let side = side_of session.name in
         let all_but = goes_on_ran (LeavesAllBut side session.name) (LeavesAllBut side session.name) (KeepsOthers side) (KeepsAllBut side session.name) (KeepsAllBut side session.name) copied.honest between.honest after.honest
-            (ran_weaker (LeavesOthers side) (LeavesAllBut side session.name) (KeepsOthers side) (KeepsOthers side) copied.honest between.honest keeps (λ d image left other ne ne2. left other ne) (λ d e kept. kept)) two
-            (λ d e kept image left other ne ne2. subst (λ (o : Option File). IsImageAt o (image other)) (kept other ne) (left other ne ne2)) (λ d e f one more other ne ne2. more other ne ne2 ∙ one other ne) in
+        (ran_weaker (LeavesOthers side) (LeavesAllBut side session.name) (KeepsOthers side) (KeepsOthers side) copied.honest between.honest keeps (λ d image left other ne ne2. left other ne) (λ d e kept. kept)) two
+        (λ d e kept image left other ne ne2. subst (λ (o : Option File). IsImageAt o (image other)) (kept other ne) (left other ne ne2)) (λ d e f one more other ne ne2. more other ne ne2 ∙ one other ne) in
         three done before.honest copied.honest after.honest alone has publishes all_but
 
     join : (P2 : Disk → Image → Type 0) (Q2 : Disk → Disk → Type 0) (may whole : Type 0) (a m b : Honest) → Ran (LeavesOthers (side_of output)) (KeepsOthers (side_of output)) a m → Ran P2 Q2 m b
         → ((d e : Disk) → KeepsOthers (side_of output) d e → (image : Image) → P2 e image → OutputLeft output New may d image) → ((d e f : Disk) → KeepsOthers (side_of output) d e → Q2 e f → OutputEnds output New may whole d f)
         → Ran (OutputLeft output New may) (OutputEnds output New may whole) a b
-    join P2 Q2 may whole a m b first second go ends = 
+    join P2 Q2 may whole a m b first second go ends =
         goes_on_ran (OutputLeft output New may) P2 (KeepsOthers (side_of output)) Q2 (OutputEnds output New may whole) (Some a) (Some m) (Some b)
         (ran_weaker (LeavesOthers (side_of output)) (OutputLeft output New may) (KeepsOthers (side_of output)) (KeepsOthers (side_of output)) (Some a) (Some m) first (as_before output New may) (λ d e kept. kept)) second go ends
 

@@ -1,8 +1,7 @@
 -- The writing of an input that stops: what is counted, what was given, and what it is of the file.
-use Rattle.std.proofs.Common.{◌≡◌, ◌≢◌, ◌⊎◌, inl, inr, ⊎_elim, ℕ, ◌+◌, ◌-◌, ◌^◌, ◌<◌, ◌≤◌, min, List, [], ◌∷◌, ◌++◌, length, take, drop, filter, refl, sym, ap, subst, ◌∙◌, arith, length-append, length-take, Option, Some, None, IfSome}
+use Rattle.std.proofs.Common.{◌≡◌, ◌≢◌, inl, ⊎_elim, ℕ, ◌+◌, ◌^◌, ◌<◌, ◌≤◌, List, [], ◌∷◌, ◌++◌, length, take, drop, filter, refl, sym, ap, subst, ◌∙◌, arith, length-append, length-take, Option, Some, None, IfSome}
 use Rattle.std.specs.List.{concat}
 use Rattle.std.proofs.lemmas.List.{append-nil}
-use Rattle.std.proofs.lemmas.Option.{IfSome_then}
 use Rattle.node_tree.specs.Parts.{PIECE}
 use Rattle.node_tree.specs.Sheet.{Sheet}
 use Rattle.pf_io.specs.Counts.{counted}
@@ -13,9 +12,8 @@ use Rattle.pf_io.specs.Words.{WordsState}
 use Rattle.pf_io.proofs.Telling.{both_weaker, told_none}
 use Rattle.pf_session.specs.Restored.{KeepsBeside}
 use Rattle.pf_session.specs.State.{SessionState}
-use Rattle.pf_tool.specs.Faults.{IsPieceFault}
 use Rattle.pf_tool.specs.SealedContents.{is_piece_of, piece_answers}
-use Rattle.pf_tool.specs.SealingInput.{GavePiece, PiecesWritten, none_yet, one_more, InputStops, not_given, not_written}
+use Rattle.pf_tool.specs.SealingInput.{PiecesWritten, none_yet, one_more, InputStops, not_given, not_written}
 use Rattle.pf_tool.specs.declared.fault.Fault.{Fault}
 use Rattle.pf_tool.specs.declared.fault.Fault.TheVariants as faults
 use Rattle.pf_tool.specs.declared.why.Why.TheVariants as whys
@@ -78,7 +76,7 @@ module _ (input user : List ℕ) (output : Name) (first : Sheet) (old : SessionS
       let fails = write_fails input user output i.sheet earlier piece mid new given after words random' i.stands why fault says goes in
       let place : length earlier ≡ 0 + length (concat i.pieces) = let same = ap (λ (l : List ℕ). length l) i.together in omega (arith, same) in
       let went = went_then input user output first i.sheet i.sheet 0 i.pieces (piece ∷ []) before between given random words words i.went
-          (subst (λ (n : ℕ). Went input user output i.sheet i.sheet n (piece ∷ []) between given words words) place (gave_went input user output i.sheet (length earlier) piece between given words gave)) in
+      (subst (λ (n : ℕ). Went input user output i.sheet i.sheet n (piece ∷ []) between given words words) place (gave_went input user output i.sheet (length earlier) piece between given words gave)) in
       let pieces = i.pieces ++ piece ∷ [] in
       let end : length (concat pieces) ≡ length earlier + length piece = ap (λ (l : List ℕ). length l) (joined i.pieces piece earlier i.together) ∙ length-append earlier piece in
       record {

@@ -1,15 +1,15 @@
 -- What a sealing comes to, however it ends.
-use Rattle.std.proofs.Common.{◌≡◌, ◌≢◌, ◌⊎◌, inl, inr, ⊎_elim, ℕ, ◌+◌, ◌^◌, ◌<◌, ◌≤◌, Bool, true, false, List, [], ◌∷◌, ◌++◌, length, filter, refl, sym, ap, ap₂, subst, ◌∙◌, arith, append_assoc, length-append, Option, Some, None, IfSome, Result, Ok, Err}
+use Rattle.std.proofs.Common.{◌≡◌, ◌≢◌, ◌⊎◌, inl, inr, ⊎_elim, ℕ, ◌+◌, ◌<◌, ◌≤◌, Bool, true, false, List, [], ◌∷◌, ◌++◌, length, filter, refl, sym, ap, ap₂, subst, ◌∙◌, arith, append_assoc, length-append, Option, Some, None, IfSome, Result, Ok, Err}
 use Rattle.std.specs.List.{concat}
 use Rattle.std.proofs.lemmas.List.{append-nil}
 use Rattle.std.proofs.lemmas.List.Elements.{filter-append}
 use Rattle.std.proofs.lemmas.Option.{IfSome_then}
 use Rattle.node_layout.specs.Metadata.{MOST_SIZE}
 use Rattle.node_tree.specs.Next.{NextSheet}
-use Rattle.node_tree.specs.Sheet.{Sheet, IsLinked}
+use Rattle.node_tree.specs.Sheet.{Sheet}
 use Rattle.node_tree.specs.State.{TreeState}
 use Rattle.pf_io.specs.Counts.{counted}
-use Rattle.pf_io.specs.Disk.{Name, Disk, Files}
+use Rattle.pf_io.specs.Disk.{Name, Files}
 use Rattle.pf_io.specs.Host.{Answer, Swapped, HostState, Both, IsMore, OnDisk, OnHonest, files_of, contents}
 use Rattle.pf_io.specs.Moments.{Ran, Ends, Where}
 use Rattle.pf_io.specs.Names.{side_of}
@@ -18,7 +18,7 @@ use Rattle.pf_io.proofs.Telling.{both_then, both_weaker, told_on}
 use Rattle.pf_io.proofs.Writing.{once_after}
 use Rattle.pf_session.specs.Asking.{NoCall, AnotherCall, Asked}
 use Rattle.pf_session.specs.Aside.{ChangesTwo}
-use Rattle.pf_session.specs.Creating.{BesideGoes, Begins, BeginsOn, empty_sheet, empty_node}
+use Rattle.pf_session.specs.Creating.{BeginsOn, empty_sheet, empty_node}
 use Rattle.pf_session.specs.Drawing.{WordsCame}
 use Rattle.pf_session.specs.Ending.{PublishGoes, Publishes, PublishesEach, not_named, published}
 use Rattle.pf_session.specs.Ending as ending
@@ -35,20 +35,18 @@ use Rattle.pf_session.specs.declared.fault.FlushFault.TheVariants as flushes
 use Rattle.pf_tool.specs.Faults.{beside_fault, flush_fault}
 use Rattle.pf_tool.specs.Runs.{OutputLeft, OutputEnds}
 use Rattle.pf_tool.specs.SealedContents.{is_piece_of, piece_answers, TakenInPieces, SealedLast}
-use Rattle.pf_tool.specs.SealingInput.{InputWritten, InputStops, SealsInput, not_begun, not_copied, not_published, sealed}
+use Rattle.pf_tool.specs.SealingInput.{InputWritten, SealsInput, not_begun, not_copied, not_published, sealed}
 use Rattle.pf_tool.specs.declared.fault.Fault.{Fault}
 use Rattle.pf_tool.specs.declared.fault.Fault.TheVariants as faults
 use Rattle.pf_tool.specs.declared.why.Why.TheVariants as whys
-use Rattle.pf_tool.proofs.HeldTree.{HoldsAll}
 use Rattle.pf_tool.proofs.PieceAnswers.{TellsPieces, tells_none, tells_then, none_of_flush, none_of_make}
 use Rattle.pf_tool.proofs.SessionBegun.{Begun, has_begun}
 use Rattle.pf_tool.proofs.SessionWrites.{write_grows}
-use Rattle.pf_tool.proofs.SheetWrites.{Standing, Went, alone_then}
+use Rattle.pf_tool.proofs.SheetWrites.{Standing, alone_then}
 use Rattle.pf_tool.proofs.InputStands.{IsCopied, is_copied, begun_stands, input_of, alone_read}
 use Rattle.pf_tool.proofs.SealCounts.{CountsFault, counts_after, Fails, beside_fails, flush_fails}
-use Rattle.pf_tool.proofs.WriteFails.{FitsOr}
 use Rattle.pf_tool.proofs.SealStops.{TellsUpTo, IsLargeIf, Stops, stops_so}
-use Rattle.pf_tool.proofs.SealDisks.{HasVersion, alone_left, done_left, tried_left}
+use Rattle.pf_tool.proofs.SealDisks.{HasVersion, done_left, tried_left}
 
 abbrev pub Large : Result (Unit {0}) Fault
 Large = Err (faults.Refused whys.TooLarge)
@@ -134,9 +132,13 @@ module _ (user : List ℕ) (input output : Name) (ne : input ≢ side_of output)
     copied_not fault stops = record {
       counts = counts_after fault before begun after random words random' b.asked.faults b.drawn.took.calm stops.counts;
       told = both_then (TellsPieces input 0 []) (TellsUpTo input fault) (TellsEnd input (Err fault)) before.given begun.given after.given begun_told stops.told
-          (λ a c d one two. (one.0 ++ two.0, two.1 ∙ ap (λ (l : List Answer). l ++ two.0) one.1 ∙ append_assoc a one.0 two.0, two.2,
-          filter-append (is_piece_of input) one.0 two.0 ∙ ap (λ (l : List Answer). l ++ filter (is_piece_of input) two.0) one.2 ∙ two.3,
-          ⊎_elim (λ fits. inl fits.0) (λ large. inr (ap Err large.0)) two.4));
+          (λ a c d one two. (
+            one.0 ++ two.0,
+            two.1 ∙ ap (λ (l : List Answer). l ++ two.0) one.1 ∙ append_assoc a one.0 two.0,
+            two.2,
+            filter-append (is_piece_of input) one.0 two.0 ∙ ap (λ (l : List Answer). l ++ filter (is_piece_of input) two.0) one.2 ∙ two.3,
+            ⊎_elim (λ fits. inl fits.0) (λ large. inr (ap Err large.0)) two.4,
+          ));
       over = IfSome_then (files_of before) (alone_read output input (λ file. IsLargeIf fault (contents file)) before begun ne b.alone (stops.large ne)) (λ (files : Files) large. record { fits = λ is. absurd (cc); large = λ is. large (large_fault fault is) });
       disk = kept_out (λ is. absurd (cc)) (alone_then output before begun after b.alone stops.alone);
       gave = λ is. absurd (cc);
@@ -178,7 +180,7 @@ module _ (user : List ℕ) (input output : Name) (ne : input ≢ side_of output)
       has_base : OnDisk before copied (Ends (λ _. HasSheet whole.key (side_of whole.name) c.sheet))
       has_base =
           let one = both_then (Ends (λ _. HasSheet user (side_of output) First)) (Where (HasSheet user (side_of output) First) (Ends (λ _. HasSheet user (side_of output) c.sheet))) (Ends (λ _. HasSheet user (side_of output) c.sheet))
-              before.honest begun.honest copied.honest begun_has c.went.stands (λ a m e has go. go has) in
+          before.honest begun.honest copied.honest begun_has c.went.stands (λ a m e has go. go has) in
           subst (λ (u : List ℕ). OnDisk before copied (Ends (λ _. HasSheet u (side_of whole.name) c.sheet))) (sym c.stands.key_is)
           (subst (λ (n : Name). OnDisk before copied (Ends (λ _. HasSheet user (side_of n) c.sheet))) (sym c.stands.name_is) one)
 
@@ -259,30 +261,36 @@ module _ (user : List ℕ) (input output : Name) (ne : input ≢ side_of output)
                 disk = new_out content of_file (done_left user output content whole next c.stands.key_is c.stands.name_is path_is content_is c.sheet before copied between after copied_alone has_base keeps two
                     (MayBe (Ok tt) before after) (Ok tt ≡ Ok tt) (inl refl) publishes);
                 gave = λ is. both_then (TellsPieces input 0 Given) (IsMore (steps ++ swap)) (TellsSealed user input output random') before.given copied.given after.given copied_told behind
-                    (λ a d e one two. (one.0 ++ (steps ++ swap), two ∙ ap (λ (l : List Answer). l ++ (steps ++ swap)) one.1 ∙ append_assoc a one.0 (steps ++ swap), content, record {
-                      whole = c.whole;
-                      last = c.last;
-                      are_whole = c.are_whole;
-                      short = c.short;
-                      gave = filter-append (is_piece_of input) one.0 (steps ++ swap) ∙ ap₂ (λ (l m : List Answer). l ++ m) one.2 none ∙ append-nil (piece_answers input 0 Given);
-                      content_is = sym c.together;
-                    }, record {
-                      base = c.sheet;
-                      tree = whole.tree;
-                      linked = c.stands.linked;
-                      backs = c.stands.backed.backs;
-                      nonce = nonce;
-                      keys = keys;
-                      before = more;
-                      words_came = subst (λ (o : Option (List ℕ)). WordsCame o (length whole.tree.dirty) nonce keys more random') c.stands.drawn_is came;
-                      next = next;
-                      is_next = subst (λ (p : List ℕ). NextSheet c.sheet whole.tree p nonce keys next) c.stands.path_is is_next;
-                      content_is = content_is;
-                      sealed = sealed_tree;
-                      shape = done.shape;
-                      front = one.0;
-                      last_calls = refl;
-                    }));
+                    (λ a d e one two. (
+                      one.0 ++ (steps ++ swap),
+                      two ∙ ap (λ (l : List Answer). l ++ (steps ++ swap)) one.1 ∙ append_assoc a one.0 (steps ++ swap),
+                      content,
+                      record {
+                        whole = c.whole;
+                        last = c.last;
+                        are_whole = c.are_whole;
+                        short = c.short;
+                        gave = filter-append (is_piece_of input) one.0 (steps ++ swap) ∙ ap₂ (λ (l m : List Answer). l ++ m) one.2 none ∙ append-nil (piece_answers input 0 Given);
+                        content_is = sym c.together;
+                      },
+                      record {
+                        base = c.sheet;
+                        tree = whole.tree;
+                        linked = c.stands.linked;
+                        backs = c.stands.backed.backs;
+                        nonce = nonce;
+                        keys = keys;
+                        before = more;
+                        words_came = subst (λ (o : Option (List ℕ)). WordsCame o (length whole.tree.dirty) nonce keys more random') c.stands.drawn_is came;
+                        next = next;
+                        is_next = subst (λ (p : List ℕ). NextSheet c.sheet whole.tree p nonce keys next) c.stands.path_is is_next;
+                        content_is = content_is;
+                        sealed = sealed_tree;
+                        shape = done.shape;
+                        front = one.0;
+                        last_calls = refl;
+                      },
+                    ));
               }
 
 no_flush : {A E : Type 0} (value : A) (fault : E) → ◌≡◌ {A = Result A E} (Ok value) (Err fault) → ⊥

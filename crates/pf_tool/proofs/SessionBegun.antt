@@ -1,10 +1,10 @@
 -- What a session has once it was created beside a name, and once pieces were written.
-use Rattle.std.proofs.Common.{◌≡◌, ◌≢◌, ℕ, ◌+◌, ◌≤◌, true, false, List, [], ◌++◌, length, refl, sym, ap, subst, ◌∙◌, arith, length-append, None, Result, Ok, Err}
+use Rattle.std.proofs.Common.{◌≡◌, ◌≢◌, ℕ, true, List, length, sym, subst, arith, Result, Ok, Err}
 use Rattle.pf_io.specs.Disk.{Name}
 use Rattle.pf_io.specs.Host.{HostState}
 use Rattle.pf_io.specs.Words.{WordsState}
 use Rattle.pf_session.specs.Asking.{NoCall, Asked}
-use Rattle.pf_session.specs.Creating.{AreNamed, BesideGoes, misnamed, no_memory, no_words, begin_stopped, begun, Begins, IsFresh, empty_sheet, empty_node, fresh}
+use Rattle.pf_session.specs.Creating.{BesideGoes, misnamed, no_memory, no_words, begin_stopped, begun, Begins, IsFresh, empty_sheet, empty_node, fresh}
 use Rattle.pf_session.specs.Drawing.{IsDrawn}
 use Rattle.pf_session.specs.Placing.{make_steps}
 use Rattle.pf_session.specs.Restored.{KeepsBeside}
@@ -14,7 +14,7 @@ use Rattle.pf_session.specs.declared.fault.BesideFault.TheVariants as besides
 use Rattle.node_layout.specs.Metadata.{IsPath}
 use Rattle.std.specs.Str.{IsUtf8}
 use Rattle.pf_io.specs.Names.{IsTarget, side_of}
-use Rattle.pf_tool.specs.SealingInput.{PieceWritten, PiecesWritten, none_yet, one_more, InputWritten}
+use Rattle.pf_tool.specs.SealingInput.{PiecesWritten, none_yet, one_more, InputWritten}
 use Rattle.pf_tool.proofs.SessionWrites.{Keeps, keeps_all, keeps_then, write_grows}
 
 -- the creation of a session that was accepted

@@ -1,17 +1,14 @@
 -- A write of a session at the end of its content, by the cases of its contract.
-use Rattle.std.proofs.Common.{◌≡◌, ◌⊎◌, inl, inr, ℕ, ◌+◌, ◌^◌, ◌<◌, ◌≤◌, max, Bool, true, false, List, [], ◌∷◌, length, refl, sym, ap, subst, ◌∙◌, arith, Option, None, Result, Ok, Err}
+use Rattle.std.proofs.Common.{◌≡◌, inl, inr, ℕ, ◌+◌, ◌^◌, ◌≤◌, max, Bool, true, false, List, length, refl, ap, subst, ◌∙◌, arith, None, Result, Ok, Err}
 use Rattle.std.proofs.lemmas.Bool.{cases_lt}
 use Rattle.pf_io.specs.Host.{HostState}
 use Rattle.pf_io.specs.Words.{WordsState}
 use Rattle.node_tree.specs.Applying.{Write}
-use Rattle.node_tree.specs.State.{TreeState}
 use Rattle.node_tree.specs.declared.fault.TreeFault.{TreeFault}
-use Rattle.node_tree.specs.declared.fault.TreeFault.TheVariants as trees
 use Rattle.pf_session.specs.State.{SessionState, file_of}
 use Rattle.pf_session.specs.Faults.{write_of_flush, write_of_tree}
 use Rattle.pf_session.specs.Flushing.{SealGoes, node_short, call_failed, flushed, FlushGoes, no_words, had_words}
 use Rattle.pf_session.specs.Changing.{StepGoes, stepped, WriteRefused, WriteGoes, refused, unchanged, changed, not_flushed, flushed_and_changed}
-use Rattle.pf_session.specs.declared.fault.FlushFault.{FlushFault}
 use Rattle.pf_session.specs.declared.fault.WriteFault.{WriteFault}
 use Rattle.pf_session.specs.declared.fault.WriteFault.TheVariants as writes
 use Rattle.pf_session.specs.declared.fault.Written.{Written}
@@ -130,4 +127,3 @@ write_grows w at bytes old new before after random random' (flushed_and_changed 
     let f = flush_keeps old mid before between random _ flush in
     let k = step_keeps at bytes mid new between after (subst (λ (r : Result (Unit {0}) TreeFault). StepGoes r (Write at bytes) mid new between after) (step_was_made true one is) goes) in
     record { fit = is_fit at (length bytes) old.tree.size never; keeps = keeps_then old mid new f.0 k.0; size = k.1 ∙ ap (λ (n : ℕ). max n (at + length bytes)) f.1 }
-

@@ -1,36 +1,30 @@
 -- Behind the pieces that were written a session made beside a name stands on a sheet, holds all nodes and has the pieces as content. What this takes of the host and of the words.
-use Rattle.std.proofs.Common.{◌≡◌, ◌≢◌, ℕ, ◌+◌, ◌-◌, suc, ◌≤◌, min, max, Bool, true, false, List, [], ◌∷◌, ◌++◌, length, take, drop, refl, sym, ap, subst, ◌∙◌, arith, append_assoc, length-append, length-take, length-drop, Option, Some, None, IfSome, Result, Ok, Err}
+use Rattle.std.proofs.Common.{◌≡◌, ℕ, ◌+◌, suc, ◌≤◌, max, true, false, List, [], ◌++◌, length, drop, refl, sym, ap, subst, ◌∙◌, arith, length-append, None, Result, Ok, Err}
 use Rattle.std.specs.List.{concat}
 use Rattle.std.proofs.lemmas.List.{append-nil, drop_all}
 use Rattle.std.proofs.Math.Seq.{take-length}
-use Rattle.std.proofs.lemmas.Option.{IfSome_then}
 use Rattle.node_layout.specs.Places.{node_count}
 use Rattle.node_tree.specs.Applying.{Write, applied}
 use Rattle.node_tree.specs.Backing.{now}
-use Rattle.node_tree.specs.Opened.{IsAt}
-use Rattle.node_tree.specs.Parts.{PIECE}
 use Rattle.node_tree.specs.Sheet.{Sheet, IsLinked}
-use Rattle.node_tree.specs.State.{TreeState, Held, held_at}
 use Rattle.node_tree.specs.declared.fault.TreeFault.{TreeFault}
-use Rattle.pf_io.specs.Disk.{Name, Disk, Files, reading, read_of}
-use Rattle.pf_io.specs.Host.{HostState, Answer, Gave, Both, OnDisk, OnHonest, files_of, contents}
-use Rattle.pf_io.specs.Moments.{Honest, Ran, Where, Ends}
+use Rattle.pf_io.specs.Disk.{Name, Disk}
+use Rattle.pf_io.specs.Host.{HostState, Both, OnDisk}
+use Rattle.pf_io.specs.Moments.{Ran, Where, Ends}
 use Rattle.pf_io.specs.Names.{side_of}
 use Rattle.pf_io.specs.Steps.{KeepsOthers}
-use Rattle.pf_io.specs.Unchanged.{KeepsDisk}
 use Rattle.pf_io.specs.Words.{WordsState}
 use Rattle.pf_io.proofs.Runs.{started, goes_on_ran}
 use Rattle.pf_io.proofs.Telling.{both_then, both_weaker, both_same}
-use Rattle.pf_session.specs.Aside.{LeavesOthers, ChangesAlone}
+use Rattle.pf_session.specs.Aside.{LeavesOthers}
 use Rattle.pf_session.specs.Backing.{IsBacked}
 use Rattle.pf_session.specs.Changing.{StepGoes, WriteGoes, refused, unchanged, changed, not_flushed, flushed_and_changed}
 use Rattle.pf_session.specs.Faults.{write_of_flush}
-use Rattle.pf_session.specs.Flushing.{FlushDone, SealGoes, node_short, call_failed, flushed, FlushGoes, no_words, had_words}
+use Rattle.pf_session.specs.Flushing.{SealGoes, node_short, call_failed, flushed, FlushGoes, no_words, had_words}
 use Rattle.pf_session.specs.Reopening.{HasSheet, ReadsAs}
 use Rattle.pf_session.specs.Restored.{KeepsBeside}
 use Rattle.pf_session.specs.Sealing.{StandsNext}
 use Rattle.pf_session.specs.State.{SessionState, file_of}
-use Rattle.pf_session.specs.declared.fault.FlushFault.{FlushFault}
 use Rattle.pf_session.specs.declared.fault.WriteFault.{WriteFault}
 use Rattle.pf_session.specs.declared.fault.Written.{Written}
 use Rattle.pf_session.proofs.Disks.{leaves_others}
@@ -114,22 +108,24 @@ step_stands : (user : List ℕ) (output : Name) (sheet : Sheet) (content : List 
 step_stands user output sheet content bytes old new before after stands goes =
     let state = goes.state in
     let steps = goes.steps in
-    let made = step_backs (file_of old) (Write (length content) bytes) old.tree new.tree before after stands.holds steps sheet stands.linked stands.backed.backs in
-    (record {
-      key_is = ap (λ (s : SessionState). s.key) state ∙ stands.key_is;
-      name_is = ap (λ (s : SessionState). s.name) state ∙ stands.name_is;
-      path_is = ap (λ (s : SessionState). s.path) state ∙ stands.path_is;
-      drawn_is = ap (λ (s : SessionState). s.drawn) state ∙ stands.drawn_is;
-      beside_is = ap (λ (s : SessionState). s.beside) state ∙ stands.beside_is;
-      linked = stands.linked;
-      backed = record { path_is = ap (λ (s : SessionState). s.path) state ∙ stands.backed.path_is; nonce_is = ap (λ (s : SessionState). s.nonce) state ∙ stands.backed.nonce_is; backs = made.backs };
-      now_is = made.content_is ∙ ap (applied (Write (length content) bytes)) stands.now_is ∙ applied_end content bytes;
-      size_is =
-          let longer = step_size (file_of old) (Write (length content) bytes) old.tree new.tree before after steps in
-          let was = stands.size_is in
-          longer ∙ (let e : max old.tree.size (length content + length bytes) ≡ length content + length bytes = omega (arith, was) in e) ∙ sym (length-append content bytes);
-      holds = step_holds (file_of old) (Write (length content) bytes) old.tree new.tree before after stands.holds steps;
-    }, step_still (file_of old) (Write (length content) bytes) old.tree new.tree before after stands.holds (Ok tt) steps)
+    let made = step_backs (file_of old) (Write (length content) bytes) old.tree new.tree before after stands.holds steps sheet stands.linked stands.backed.backs in (
+      record {
+        key_is = ap (λ (s : SessionState). s.key) state ∙ stands.key_is;
+        name_is = ap (λ (s : SessionState). s.name) state ∙ stands.name_is;
+        path_is = ap (λ (s : SessionState). s.path) state ∙ stands.path_is;
+        drawn_is = ap (λ (s : SessionState). s.drawn) state ∙ stands.drawn_is;
+        beside_is = ap (λ (s : SessionState). s.beside) state ∙ stands.beside_is;
+        linked = stands.linked;
+        backed = record { path_is = ap (λ (s : SessionState). s.path) state ∙ stands.backed.path_is; nonce_is = ap (λ (s : SessionState). s.nonce) state ∙ stands.backed.nonce_is; backs = made.backs };
+        now_is = made.content_is ∙ ap (applied (Write (length content) bytes)) stands.now_is ∙ applied_end content bytes;
+        size_is =
+            let longer = step_size (file_of old) (Write (length content) bytes) old.tree new.tree before after steps in
+            let was = stands.size_is in
+            longer ∙ (let e : max old.tree.size (length content + length bytes) ≡ length content + length bytes = omega (arith, was) in e) ∙ sym (length-append content bytes);
+        holds = step_holds (file_of old) (Write (length content) bytes) old.tree new.tree before after stands.holds steps;
+      },
+      step_still (file_of old) (Write (length content) bytes) old.tree new.tree before after stands.holds (Ok tt) steps,
+    )
 
 module _ (input : Name) (user : List ℕ) (output : Name) (sheet : Sheet) (content : List ℕ) where
   -- a flush
@@ -141,32 +137,35 @@ module _ (input : Name) (user : List ℕ) (output : Name) (sheet : Sheet) (conte
     seal_stands nonce keys calm (flushed mid done keeps settled each state is) =
         let seals = each sheet stands.linked stands.backed in
         let on = seals.on_next refl in
-        let size : new.tree.size ≡ old.tree.size = settled.size ∙ done.shape.size in
-        (seals.next, record {
-          key_is = ap (λ (s : SessionState). s.key) state ∙ stands.key_is;
-          name_is = ap (λ (s : SessionState). s.name) state ∙ stands.name_is;
-          path_is = ap (λ (s : SessionState). s.path) state ∙ stands.path_is;
-          drawn_is = ap (λ (s : SessionState). s.drawn) state;
-          beside_is = ap (λ (s : SessionState). s.beside) state ∙ stands.beside_is;
-          linked = seals.is_next.linked;
-          backed = on.backed;
-          now_is = on.now_is ∙ seals.is_next.content_is ∙ stands.now_is;
-          size_is = size ∙ stands.size_is;
-          holds = λ k low live.
-              let was = stands.holds k low (subst (λ (n : ℕ). suc k ≤ node_count n) size live) in
-              let shaped = done.shape.held k was in
-              (shaped.0, settled.held k ∙ shaped.1);
-        }, λ at. record {
-          calm = done.asked.faults;
-          words_calm = calm;
-          told = tells_none input at _ before after (none_of_flush input old nonce keys done.blocks mid stands.beside_is) done.asked.told;
-          alone = subst (λ (n : Name). KeepsBeside n before after) stands.name_is (keeps stands.beside_is);
-          stands =
-              let goes = subst (λ (u : List ℕ). StandsNext u (side_of output) sheet seals.next before after) stands.key_is
-                  (subst (λ (n : Name). StandsNext old.key n sheet seals.next before after) (file_beside old stands.beside_is ∙ ap side_of stands.name_is) (seals.stands refl)) in
-              both_weaker (Where (ReadsAs user (side_of output) sheet) (Ends (λ _. HasSheet user (side_of output) seals.next))) (Where (HasSheet user (side_of output) sheet) (Ends (λ _. HasSheet user (side_of output) seals.next)))
-              before.honest after.honest goes (λ a b go has. go (has_reads user (side_of output) sheet a.now has));
-        })
+        let size : new.tree.size ≡ old.tree.size = settled.size ∙ done.shape.size in (
+          seals.next,
+          record {
+            key_is = ap (λ (s : SessionState). s.key) state ∙ stands.key_is;
+            name_is = ap (λ (s : SessionState). s.name) state ∙ stands.name_is;
+            path_is = ap (λ (s : SessionState). s.path) state ∙ stands.path_is;
+            drawn_is = ap (λ (s : SessionState). s.drawn) state;
+            beside_is = ap (λ (s : SessionState). s.beside) state ∙ stands.beside_is;
+            linked = seals.is_next.linked;
+            backed = on.backed;
+            now_is = on.now_is ∙ seals.is_next.content_is ∙ stands.now_is;
+            size_is = size ∙ stands.size_is;
+            holds = λ k low live.
+                let was = stands.holds k low (subst (λ (n : ℕ). suc k ≤ node_count n) size live) in
+                let shaped = done.shape.held k was in
+                (shaped.0, settled.held k ∙ shaped.1);
+          },
+          λ at. record {
+            calm = done.asked.faults;
+            words_calm = calm;
+            told = tells_none input at _ before after (none_of_flush input old nonce keys done.blocks mid stands.beside_is) done.asked.told;
+            alone = subst (λ (n : Name). KeepsBeside n before after) stands.name_is (keeps stands.beside_is);
+            stands =
+                let goes = subst (λ (u : List ℕ). StandsNext u (side_of output) sheet seals.next before after) stands.key_is
+                (subst (λ (n : Name). StandsNext old.key n sheet seals.next before after) (file_beside old stands.beside_is ∙ ap side_of stands.name_is) (seals.stands refl)) in
+                both_weaker (Where (ReadsAs user (side_of output) sheet) (Ends (λ _. HasSheet user (side_of output) seals.next))) (Where (HasSheet user (side_of output) sheet) (Ends (λ _. HasSheet user (side_of output) seals.next)))
+                before.honest after.honest goes (λ a b go has. go (has_reads user (side_of output) sheet a.now has));
+          },
+        )
 
     pub flush_stands : FlushGoes (Ok tt) old new before after random random' → (next : Sheet) × Standing user output next content new × ((at : ℕ) → Went input user output sheet next at [] before after random random')
     flush_stands (no_words lacked same still is) = absurd (apart _ is)
@@ -176,9 +175,11 @@ module _ (input : Name) (user : List ℕ) (output : Name) (sheet : Sheet) (conte
   pub write_stands : (w : Written) (bytes : List ℕ) (old new : SessionState) (before after : HostState) (random random' : WordsState) → Standing user output sheet content old → WriteGoes (Ok w) (length content) bytes old new before after random random'
       → (next : Sheet) × Standing user output next (content ++ bytes) new × ((at : ℕ) → Went input user output sheet next at [] before after random random')
   write_stands w bytes old new before after random random' stands (refused fault rule same still words is) = absurd (not_written fault is)
-  write_stands w bytes old new before after random random' stands (unchanged never none same still words is) =
-      (sheet, subst (λ (s : SessionState). Standing user output sheet (content ++ bytes) s) (sym same) (subst (λ (l : List ℕ). Standing user output sheet l old) (sym (append-nil content) ∙ ap (λ (l : List ℕ). content ++ l) (sym none)) stands),
-      λ at. went_same input user output sheet at before after random random' still words)
+  write_stands w bytes old new before after random random' stands (unchanged never none same still words is) = (
+    sheet,
+    subst (λ (s : SessionState). Standing user output sheet (content ++ bytes) s) (sym same) (subst (λ (l : List ℕ). Standing user output sheet l old) (sym (append-nil content) ∙ ap (λ (l : List ℕ). content ++ l) (sym none)) stands),
+    λ at. went_same input user output sheet at before after random random' still words,
+  )
   write_stands w bytes old new before after random random' stands (changed one never some room goes words is) =
       let made = step_stands user output sheet content bytes old new before after stands (subst (λ (r : Result (Unit {0}) TreeFault). StepGoes r (Write (length content) bytes) old new before after) (step_was_made false one is) goes) in
       (sheet, made.0, λ at. went_same input user output sheet at before after random random' made.1 words)

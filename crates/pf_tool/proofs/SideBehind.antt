@@ -1,5 +1,5 @@
 -- A file that is made by its side file, behind events that changed nothing.
-use Rattle.std.proofs.Common.{◌≡◌, ◌≢◌, sym, ap, refl, inl, inr, ⊎_elim, List, ◌++◌, ℕ, ◌∙◌, subst, Option, Some, None, IfSome}
+use Rattle.std.proofs.Common.{◌≡◌, ◌≢◌, sym, ap, inl, inr, ⊎_elim, List, ◌++◌, ℕ, ◌∙◌, subst, Option, Some, None, IfSome}
 use Rattle.std.specs.Prelude.{option_map}
 use Rattle.std.proofs.lemmas.List.Elements.{Contains-append_right}
 use Rattle.pf_io.specs.Disk.{Name, Files, File, Disk, Image, IsImage, reading}

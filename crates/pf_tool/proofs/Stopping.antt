@@ -5,7 +5,7 @@ use Rattle.pf_io.specs.Host.{Answer, HostState, KeepsFiles, OnHonest}
 use Rattle.pf_io.specs.Answered.{IsAnswerOf}
 use Rattle.pf_io.specs.Unchanged.{KeepsDisk}
 use Rattle.pf_tool.specs.World.{World}
-use Rattle.pf_tool.specs.Events.{Event, Answers, Draws, Puts, answers_in}
+use Rattle.pf_tool.specs.Events.{Event, Answers, Puts, answers_in}
 use Rattle.pf_tool.specs.Endings.{Ending, Done, MayStarve, Stop, AtEnd, Failed, Starved, tried, ending_line, ending_status, stop_status}
 use Rattle.pf_tool.specs.Happened.{Passed, CallFailed}
 use Rattle.pf_tool.specs.Faults.{fault_line, fault_status}
@@ -140,14 +140,6 @@ module _ (Leads : List Event → Ending → Type 0) (Leaves : List Event → Sto
       → Leaves (events ++ Answers answer ∷ []) (Failed (Answers answer)) old.host new.host → Falls Leads Leaves fault old new
   host_fails answer is leads passed failed left = record {
     stop = Failed (Answers answer);
-    is_fault = record { says = ap fault_line is; ends = ap fault_status is };
-    outcome = record { events = events; stands = (rest, ending, leads); happened = (mid, passed, failed); leaves = left };
-  }
-
-  pub random_fails : (word : List ℕ) → fault ≡ faults.Random → Leads (events ++ Draws word ∷ rest) ending → Passed events old mid → CallFailed (Draws word) mid new
-      → Leaves (events ++ Draws word ∷ []) (Failed (Draws word)) old.host new.host → Falls Leads Leaves fault old new
-  random_fails word is leads passed failed left = record {
-    stop = Failed (Draws word);
     is_fault = record { says = ap fault_line is; ends = ap fault_status is };
     outcome = record { events = events; stands = (rest, ending, leads); happened = (mid, passed, failed); leaves = left };
   }

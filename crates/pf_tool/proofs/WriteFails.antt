@@ -1,16 +1,14 @@
 -- A piece that is not written, and a publishing that is not done: what is counted, and that no piece was given in it.
-use Rattle.std.proofs.Common.{◌≡◌, ◌≢◌, ◌⊎◌, inl, inr, ℕ, ◌+◌, ◌^◌, ◌<◌, ◌≤◌, Bool, true, false, List, [], ◌∷◌, ◌++◌, length, refl, sym, ap, subst, ◌∙◌, arith, Result, Ok, Err}
+use Rattle.std.proofs.Common.{◌≡◌, ◌≢◌, ◌⊎◌, inl, inr, ℕ, ◌+◌, ◌^◌, ◌<◌, ◌≤◌, Bool, true, false, List, [], length, refl, sym, ap, subst, Result, Ok, Err}
 use Rattle.node_tree.specs.Applying.{Write}
 use Rattle.node_tree.specs.Sheet.{Sheet}
 use Rattle.node_tree.specs.declared.fault.TreeFault.{TreeFault}
 use Rattle.node_tree.specs.declared.fault.TreeFault.TheVariants as trees
-use Rattle.pf_io.specs.Counts.{counted}
 use Rattle.pf_io.specs.Disk.{Name}
 use Rattle.pf_io.specs.Host.{HostState}
 use Rattle.pf_io.specs.Words.{WordsState}
 use Rattle.pf_session.specs.Changing.{StepGoes, stepped, WriteRefused, WriteGoes, refused, unchanged, changed, not_flushed, flushed_and_changed}
 use Rattle.pf_session.specs.Faults.{write_of_flush, write_of_tree}
-use Rattle.pf_session.specs.Restored.{KeepsBeside}
 use Rattle.pf_session.specs.State.{SessionState, file_of}
 use Rattle.pf_session.specs.declared.fault.FlushFault.{FlushFault}
 use Rattle.pf_session.specs.declared.fault.FlushFault.TheVariants as flushes
@@ -103,7 +101,7 @@ module _ (input user : List ℕ) (output : Name) (sheet : Sheet) (content : List
         let r = refused_as (length content) (length bytes) old.tree.size other fault rule (subst (λ (w : WriteFault). IsPieceFault w fault) e says) in
         (still_fails input output fault before after random random' (inl r.0) still words, inr r)
     write_fails why fault says (unchanged never none same still words is) = absurd (no_write why _ is)
-    write_fails why fault says (changed one never some room goes words is) = 
+    write_fails why fault says (changed one never some room goes words is) =
         let step = step_fails input user output sheet content false one why fault bytes old new before after random random' stands goes words is says in
         (step.0, inl (fits never, memory_other fault step.1))
     write_fails why fault says (not_flushed other never some many flush undamaged is) =

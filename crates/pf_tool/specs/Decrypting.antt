@@ -1,5 +1,5 @@
 -- What `decrypt -w KEY -i IN` comes to.
-use Rattle.std.specs.Prelude.{◌≡◌, ◌≢◌, ◌⊎◌, ℕ, ◌+◌, ◌*◌, ◌-◌, ◌<◌, List, [], ◌∷◌, ◌++◌, length, take, map, Option, Some, None, Ok, Err}
+use Rattle.std.specs.Prelude.{◌≡◌, ◌≢◌, ℕ, ◌+◌, ◌*◌, ◌-◌, ◌<◌, List, [], ◌∷◌, ◌++◌, length, take, map, Option, Some, None, Ok, Err}
 use Rattle.std.specs.List.{range_with_len}
 use Rattle.node_layout.specs.Faults.{IsPlainFault}
 use Rattle.node_layout.specs.Metadata.{magic, flag_at}
@@ -17,7 +17,7 @@ use Rattle.pf_io.specs.Host.{LengthWas, Gave}
 use Rattle.pf_io.specs.Names.{IsTarget}
 use Rattle.pf_session.specs.Opening.{IsOpenable}
 use Rattle.pf_tool.specs.Events.{Event, Answers, Puts}
-use Rattle.pf_tool.specs.Endings.{Ending, Done, Damaged, Refused, BadName, NotFound, KeyFile, NotProtected, BadVersion, Unbuilt}
+use Rattle.pf_tool.specs.Endings.{Ending, Done, Damaged, Refused, BadName, NotFound, NotProtected, BadVersion, Unbuilt}
 use Rattle.pf_tool.specs.Keys.{IsKeyOf, KeyRefused, KeyOver, key_events}
 
 -- why nothing is put out of a file whose node 0 is this; fewer than 8 bytes are no magic

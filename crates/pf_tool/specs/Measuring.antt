@@ -1,5 +1,5 @@
 -- What `measure LAYOUT` comes to.
-use Rattle.std.specs.Prelude.{◌≡◌, ℕ, List, [], ◌∷◌, ◌++◌, slice_get, Some, Result, Ok, Err}
+use Rattle.std.specs.Prelude.{◌≡◌, ℕ, List, [], ◌∷◌, ◌++◌, slice_get, Some, Ok, Err}
 use Rattle.hex.specs.Hex.{encode_lower}
 use Rattle.enclave_measure.specs.declared.fault.LayoutFault.{LayoutFault}
 use Rattle.enclave_measure.specs.declared.fault.MeasureFault.TheVariants as measures
@@ -8,7 +8,6 @@ use Rattle.enclave_measure.specs.Layouts.{ReadsTo}
 use Rattle.enclave_measure.specs.Measuring.{file_at, Measures, MeasuresFiles}
 use Rattle.pf_io.specs.Disk.{Name, Files}
 use Rattle.pf_io.specs.Host.{Answer, HostState, Both, IsMore}
-use Rattle.pf_io.specs.Answered.{WereTold}
 use Rattle.pf_tool.specs.World.{World}
 use Rattle.pf_tool.specs.Events.{Event, Puts}
 use Rattle.pf_tool.specs.Endings.{Ending, Done, Refused, BadLayout, Absent, line}

@@ -1,5 +1,5 @@
 -- What is said on the log, and the status.
-use Rattle.std.specs.Prelude.{◌≡◌, ℕ, List, Result, Ok, Err}
+use Rattle.std.specs.Prelude.{◌≡◌, ℕ, List}
 use Rattle.pf_io.specs.Streams.{SinkState}
 pub use Rattle.pf_io.specs.Writing.{WroteAll, SinkFailed, Written}
 use Rattle.pf_tool.specs.Endings.{Done, Stop, AtEnd, stop_line, stop_status}

@@ -25,7 +25,14 @@ fn words_of(alloc: Global, count: u8) -> Result<ListWords, Fail> {
 fn led(alloc: Global, host: &mut MemHost, script: &[u8], count: u8) -> Result<Outcome, Fail> {
     let mut random = words_of(alloc, count)?;
     let input = MemSource::new(Bytes::copy(alloc, script)?);
-    Ok(ran_on(alloc, host, SESSION, input, MemSink::new(alloc), &mut random)?)
+    Ok(ran_on(
+        alloc,
+        host,
+        SESSION,
+        input,
+        MemSink::new(alloc),
+        &mut random,
+    )?)
 }
 
 #[test]
@@ -92,7 +99,14 @@ fn a_file_under_another_name_is_not_opened(rt: HostRuntime) -> Result<(), Fail> 
     };
     host.put("b.pf", copy.as_slice())?;
     let outcome = led(alloc, &mut host, b"open 0 b.pf\n", 0)?;
-    expect(&rt, &outcome, 3, b"refused wrong path a.pf\nend\n", b"", "other name");
+    expect(
+        &rt,
+        &outcome,
+        3,
+        b"refused wrong path a.pf\nend\n",
+        b"",
+        "other name",
+    );
     Ok(())
 }
 
@@ -113,8 +127,22 @@ fn a_stream_that_fails_ends_the_session(rt: HostRuntime) -> Result<(), Fail> {
     let mut random = words_of(alloc, 9)?;
     let mut input = MemSource::new(Bytes::copy(alloc, b"create 0 a.pf\nwrite 0 0 00\n")?);
     input.fail_at(1);
-    let outcome = ran_on(alloc, &mut host, SESSION, input, MemSink::new(alloc), &mut random)?;
-    expect(&rt, &outcome, 7, b"ok create\nok write 1\n", b"stream fault\n", "input");
+    let outcome = ran_on(
+        alloc,
+        &mut host,
+        SESSION,
+        input,
+        MemSink::new(alloc),
+        &mut random,
+    )?;
+    expect(
+        &rt,
+        &outcome,
+        7,
+        b"ok create\nok write 1\n",
+        b"stream fault\n",
+        "input",
+    );
     let input = MemSource::new(Bytes::copy(alloc, b"create 0 b.pf\nwrite 0 0 00\n")?);
     let mut out = MemSink::new(alloc);
     out.fail_at(1);

@@ -31,9 +31,9 @@ returns-then-broken-clause-goes g c key k =
     let random = g.R.Words.state c.args.random.now in
     at_some key false line (Ok (replies.Refused whys.Broken)) c.args.seat.now s (Some s) before before random random c.in-Some.is
     (λ seated. refused_goes key false line whys.Broken (Some s) before random
-        (λ sealed seat shows.
-        let shown = shows_some sealed seat s shows in
-        first_broken (writing_rules seat c.args.at c.args.count) seat shown.shown shown.seat_is (shown.broken_is ∙ sym c.broken.ensures ∙ c.if-broken.true)) seated)
+    (λ sealed seat shows.
+    let shown = shows_some sealed seat s shows in
+    first_broken (writing_rules seat c.args.at c.args.count) seat shown.shown shown.seat_is (shown.broken_is ∙ sym c.broken.ensures ∙ c.if-broken.true)) seated)
 
 pub returns-then-count-gt-LONGEST-clause-goes : goal.returns-then-count-gt-LONGEST-clause-goes
 returns-then-count-gt-LONGEST-clause-goes g c key k =
@@ -43,9 +43,9 @@ returns-then-count-gt-LONGEST-clause-goes g c key k =
     let random = g.R.Words.state c.args.random.now in
     at_some key false line (Ok (replies.Refused whys.TooLong)) c.args.seat.now s (Some s) before before random random c.in-Some.is
     (λ seated. refused_goes key false line whys.TooLong (Some s) before random
-        (λ sealed seat shows.
-        let shown = shows_some sealed seat s shows in
-        first_then (writing_rules seat c.args.at c.args.count) whys.TooLong seat shown.shown shown.seat_is (shown.broken_is ∙ sym c.broken.ensures ∙ c.if-broken.false) (inl (refl, c.if-count-gt-LONGEST.true))) seated)
+    (λ sealed seat shows.
+    let shown = shows_some sealed seat s shows in
+    first_then (writing_rules seat c.args.at c.args.count) whys.TooLong seat shown.shown shown.seat_is (shown.broken_is ∙ sym c.broken.ensures ∙ c.if-broken.false) (inl (refl, c.if-count-gt-LONGEST.true))) seated)
 
 pub returns-in_err-bytes-clause-goes : goal.returns-in_err-bytes-clause-goes
 returns-in_err-bytes-clause-goes g c key k =
@@ -68,8 +68,8 @@ returns-clause-goes g c key k =
     let is : c.as_slice.result.now ≡ replicate c.args.count c.args.byte = c.as_slice.ensures ∙ c.in_ok-bytes.ensures in
     at_some key false line c.write_reply.result c.args.seat.now s (Some c.write-written.new.self) before after random random2 c.in-Some.is
     (λ seated. subst (λ (r : Result Reply Memory). SeatGoes key false line r (Some s) (Some c.write-written.new.self) before after random random2) (sym c.write_reply.ensures)
-        (write_goes key c.args.at c.as_slice.result.now line c.args.count (copies k c.args.count c.args.byte is) s c.write-written.new.self c.write-written.result before after random random2 seated
-        (sym c.broken.ensures ∙ c.if-broken.false) c.write-written.ensures.goes c.write-written.ensures.aside (g.met.H.Host.reads_as_image c.write-written.new.host)))
+    (write_goes key c.args.at c.as_slice.result.now line c.args.count (copies k c.args.count c.args.byte is) s c.write-written.new.self c.write-written.result before after random random2 seated
+    (sym c.broken.ensures ∙ c.if-broken.false) c.write-written.ensures.goes c.write-written.ensures.aside (g.met.H.Host.reads_as_image c.write-written.new.host)))
 
 pub returns-in_default-clause-booked : goal.returns-in_default-clause-booked
 returns-in_default-clause-booked g c key k seated =
@@ -84,7 +84,7 @@ returns-then-broken-clause-booked g c key k seated =
     let random = g.R.Words.state c.args.random.now in
     some_booked key false line (Ok (replies.Refused whys.Broken)) c.args.seat.now s (Some s) before before random random c.in-Some.is
     (refused_agrees key false line whys.Broken (Some s) before random
-        (λ seat looks. first_broken (writing_rules seat c.args.at c.args.count) seat looks.shown looks.seat_is (looks.broken_is ∙ sym c.broken.ensures ∙ c.if-broken.true)))
+    (λ seat looks. first_broken (writing_rules seat c.args.at c.args.count) seat looks.shown looks.seat_is (looks.broken_is ∙ sym c.broken.ensures ∙ c.if-broken.true)))
 
 pub returns-then-count-gt-LONGEST-clause-booked : goal.returns-then-count-gt-LONGEST-clause-booked
 returns-then-count-gt-LONGEST-clause-booked g c key k seated =
@@ -94,8 +94,8 @@ returns-then-count-gt-LONGEST-clause-booked g c key k seated =
     let random = g.R.Words.state c.args.random.now in
     some_booked key false line (Ok (replies.Refused whys.TooLong)) c.args.seat.now s (Some s) before before random random c.in-Some.is
     (refused_agrees key false line whys.TooLong (Some s) before random
-        (λ seat looks.
-        first_then (writing_rules seat c.args.at c.args.count) whys.TooLong seat looks.shown looks.seat_is (looks.broken_is ∙ sym c.broken.ensures ∙ c.if-broken.false) (inl (refl, c.if-count-gt-LONGEST.true))))
+    (λ seat looks.
+    first_then (writing_rules seat c.args.at c.args.count) whys.TooLong seat looks.shown looks.seat_is (looks.broken_is ∙ sym c.broken.ensures ∙ c.if-broken.false) (inl (refl, c.if-count-gt-LONGEST.true))))
 
 pub returns-in_err-bytes-clause-booked : goal.returns-in_err-bytes-clause-booked
 returns-in_err-bytes-clause-booked g c key k seated =
@@ -116,5 +116,5 @@ returns-clause-booked g c key k seated =
     let is : c.as_slice.result.now ≡ replicate c.args.count c.args.byte = c.as_slice.ensures ∙ c.in_ok-bytes.ensures in
     some_booked key false line c.write_reply.result c.args.seat.now s (Some c.write-written.new.self) before after random random2 c.in-Some.is
     (subst (λ (r : Result Reply Memory). SeatBooked key false line r (Some s) (Some c.write-written.new.self) before after random random2) (sym c.write_reply.ensures)
-        (write_under key c.args.at c.as_slice.result.now line c.args.count (copies k c.args.count c.args.byte is) s c.write-written.new.self c.write-written.result before after random random2 (subst (λ (o : Option SessionState). IsSeatOf key o) c.in-Some.is seated)
-        (sym c.broken.ensures ∙ c.if-broken.false) c.write-written.ensures.goes c.write-written.ensures.aside (g.met.H.Host.reads_as_image c.write-written.new.host)))
+    (write_under key c.args.at c.as_slice.result.now line c.args.count (copies k c.args.count c.args.byte is) s c.write-written.new.self c.write-written.result before after random random2 (subst (λ (o : Option SessionState). IsSeatOf key o) c.in-Some.is seated)
+    (sym c.broken.ensures ∙ c.if-broken.false) c.write-written.ensures.goes c.write-written.ensures.aside (g.met.H.Host.reads_as_image c.write-written.new.host)))

@@ -29,9 +29,9 @@ returns-then-broken-clause-goes g c key k =
     let random = g.R.Words.state c.args.random.now in
     at_some key false (lines.Size k c.args.size) (Ok (replies.Refused whys.Broken)) c.args.seat.now s (Some s) before before random random c.in-Some.is
     (λ seated. refused_goes key false (lines.Size k c.args.size) whys.Broken (Some s) before random
-        (λ sealed seat shows.
-        let shown = shows_some sealed seat s shows in
-        first_broken (refuses whys.TooLarge (LARGEST < c.args.size) ∷ []) seat shown.shown shown.seat_is (shown.broken_is ∙ sym c.broken.ensures ∙ c.if-broken.true)) seated)
+    (λ sealed seat shows.
+    let shown = shows_some sealed seat s shows in
+    first_broken (refuses whys.TooLarge (LARGEST < c.args.size) ∷ []) seat shown.shown shown.seat_is (shown.broken_is ∙ sym c.broken.ensures ∙ c.if-broken.true)) seated)
 
 pub returns-then-size-gt-LARGEST-clause-goes : goal.returns-then-size-gt-LARGEST-clause-goes
 returns-then-size-gt-LARGEST-clause-goes g c key k =
@@ -40,9 +40,9 @@ returns-then-size-gt-LARGEST-clause-goes g c key k =
     let random = g.R.Words.state c.args.random.now in
     at_some key false (lines.Size k c.args.size) (Ok (replies.Refused whys.TooLarge)) c.args.seat.now s (Some s) before before random random c.in-Some.is
     (λ seated. refused_goes key false (lines.Size k c.args.size) whys.TooLarge (Some s) before random
-        (λ sealed seat shows.
-        let shown = shows_some sealed seat s shows in
-        first_then (refuses whys.TooLarge (LARGEST < c.args.size) ∷ []) whys.TooLarge seat shown.shown shown.seat_is (shown.broken_is ∙ sym c.broken.ensures ∙ c.if-broken.false) (inl (refl, c.if-size-gt-LARGEST.true))) seated)
+    (λ sealed seat shows.
+    let shown = shows_some sealed seat s shows in
+    first_then (refuses whys.TooLarge (LARGEST < c.args.size) ∷ []) whys.TooLarge seat shown.shown shown.seat_is (shown.broken_is ∙ sym c.broken.ensures ∙ c.if-broken.false) (inl (refl, c.if-size-gt-LARGEST.true))) seated)
 
 pub returns-in-Ok-clause-goes : goal.returns-in-Ok-clause-goes
 returns-in-Ok-clause-goes g c key k =
@@ -68,7 +68,7 @@ returns-in-Err-clause-goes g c key k =
     let random2 = g.R.Words.state c.resize.new.random in
     at_some key false (lines.Size k c.args.size) c.size_fault.result c.args.seat.now s (Some c.resize.new.session) before after random random2 c.in-Some.is
     (λ seated. subst (λ (r : Result Reply Memory). SeatGoes key false (lines.Size k c.args.size) r (Some s) (Some c.resize.new.session) before after random random2) (sym c.size_fault.ensures)
-        (size_goes key k c.args.size s c.resize.new.session (Err c.in-Err.fault) before after random random2 c.if-size-gt-LARGEST.false seated (sym c.broken.ensures ∙ c.if-broken.false) c.in-Err.ensures))
+    (size_goes key k c.args.size s c.resize.new.session (Err c.in-Err.fault) before after random random2 c.if-size-gt-LARGEST.false seated (sym c.broken.ensures ∙ c.if-broken.false) c.in-Err.ensures))
 
 pub returns-in_default-clause-booked : goal.returns-in_default-clause-booked
 returns-in_default-clause-booked g c key k seated =
@@ -82,7 +82,7 @@ returns-then-broken-clause-booked g c key k seated =
     let random = g.R.Words.state c.args.random.now in
     some_booked key false (lines.Size k c.args.size) (Ok (replies.Refused whys.Broken)) c.args.seat.now s (Some s) before before random random c.in-Some.is
     (refused_agrees key false (lines.Size k c.args.size) whys.Broken (Some s) before random
-        (λ seat looks. first_broken (refuses whys.TooLarge (LARGEST < c.args.size) ∷ []) seat looks.shown looks.seat_is (looks.broken_is ∙ sym c.broken.ensures ∙ c.if-broken.true)))
+    (λ seat looks. first_broken (refuses whys.TooLarge (LARGEST < c.args.size) ∷ []) seat looks.shown looks.seat_is (looks.broken_is ∙ sym c.broken.ensures ∙ c.if-broken.true)))
 
 pub returns-then-size-gt-LARGEST-clause-booked : goal.returns-then-size-gt-LARGEST-clause-booked
 returns-then-size-gt-LARGEST-clause-booked g c key k seated =
@@ -91,8 +91,8 @@ returns-then-size-gt-LARGEST-clause-booked g c key k seated =
     let random = g.R.Words.state c.args.random.now in
     some_booked key false (lines.Size k c.args.size) (Ok (replies.Refused whys.TooLarge)) c.args.seat.now s (Some s) before before random random c.in-Some.is
     (refused_agrees key false (lines.Size k c.args.size) whys.TooLarge (Some s) before random
-        (λ seat looks.
-        first_then (refuses whys.TooLarge (LARGEST < c.args.size) ∷ []) whys.TooLarge seat looks.shown looks.seat_is (looks.broken_is ∙ sym c.broken.ensures ∙ c.if-broken.false) (inl (refl, c.if-size-gt-LARGEST.true))))
+    (λ seat looks.
+    first_then (refuses whys.TooLarge (LARGEST < c.args.size) ∷ []) whys.TooLarge seat looks.shown looks.seat_is (looks.broken_is ∙ sym c.broken.ensures ∙ c.if-broken.false) (inl (refl, c.if-size-gt-LARGEST.true))))
 
 pub returns-in-Ok-clause-booked : goal.returns-in-Ok-clause-booked
 returns-in-Ok-clause-booked g c key k seated =
@@ -113,4 +113,4 @@ returns-in-Err-clause-booked g c key k seated =
     let random2 = g.R.Words.state c.resize.new.random in
     some_booked key false (lines.Size k c.args.size) c.size_fault.result c.args.seat.now s (Some c.resize.new.session) before after random random2 c.in-Some.is
     (subst (λ (r : Result Reply Memory). SeatBooked key false (lines.Size k c.args.size) r (Some s) (Some c.resize.new.session) before after random random2) (sym c.size_fault.ensures)
-        (size_under key k c.args.size s c.resize.new.session (Err c.in-Err.fault) before after random random2 c.if-size-gt-LARGEST.false (subst (λ (o : Option SessionState). IsSeatOf key o) c.in-Some.is seated) (sym c.broken.ensures ∙ c.if-broken.false) c.in-Err.ensures))
+    (size_under key k c.args.size s c.resize.new.session (Err c.in-Err.fault) before after random random2 c.if-size-gt-LARGEST.false (subst (λ (o : Option SessionState). IsSeatOf key o) c.in-Some.is seated) (sym c.broken.ensures ∙ c.if-broken.false) c.in-Err.ensures))

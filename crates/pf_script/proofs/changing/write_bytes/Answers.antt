@@ -31,9 +31,9 @@ returns-then-broken-clause-goes g c key k =
     let random = g.R.Words.state c.args.random.now in
     at_some key false line (Ok (replies.Refused whys.Broken)) c.args.seat.now s (Some s) before before random random c.in-Some.is
     (λ seated. refused_goes key false line whys.Broken (Some s) before random
-        (λ sealed seat shows.
-        let shown = shows_some sealed seat s shows in
-        first_broken (writing_rules seat c.args.at (length c.args.bytes.now)) seat shown.shown shown.seat_is (shown.broken_is ∙ sym c.broken.ensures ∙ c.if-broken.true)) seated)
+    (λ sealed seat shows.
+    let shown = shows_some sealed seat s shows in
+    first_broken (writing_rules seat c.args.at (length c.args.bytes.now)) seat shown.shown shown.seat_is (shown.broken_is ∙ sym c.broken.ensures ∙ c.if-broken.true)) seated)
 
 pub returns-clause-goes : goal.returns-clause-goes
 returns-clause-goes g c key k =
@@ -45,8 +45,8 @@ returns-clause-goes g c key k =
     let random2 = g.R.Words.state c.write-written.new.random in
     at_some key false line c.write_reply.result c.args.seat.now s (Some c.write-written.new.self) before after random random2 c.in-Some.is
     (λ seated. subst (λ (r : Result Reply Memory). SeatGoes key false line r (Some s) (Some c.write-written.new.self) before after random random2) (sym c.write_reply.ensures)
-        (write_goes key c.args.at c.args.bytes.now line (length c.args.bytes.now) (plain k) s c.write-written.new.self c.write-written.result before after random random2 seated (sym c.broken.ensures ∙ c.if-broken.false)
-        c.write-written.ensures.goes c.write-written.ensures.aside (g.met.H.Host.reads_as_image c.write-written.new.host)))
+    (write_goes key c.args.at c.args.bytes.now line (length c.args.bytes.now) (plain k) s c.write-written.new.self c.write-written.result before after random random2 seated (sym c.broken.ensures ∙ c.if-broken.false)
+    c.write-written.ensures.goes c.write-written.ensures.aside (g.met.H.Host.reads_as_image c.write-written.new.host)))
 
 pub returns-in_default-clause-booked : goal.returns-in_default-clause-booked
 returns-in_default-clause-booked g c key k seated =
@@ -61,7 +61,7 @@ returns-then-broken-clause-booked g c key k seated =
     let random = g.R.Words.state c.args.random.now in
     some_booked key false line (Ok (replies.Refused whys.Broken)) c.args.seat.now s (Some s) before before random random c.in-Some.is
     (refused_agrees key false line whys.Broken (Some s) before random
-        (λ seat looks. first_broken (writing_rules seat c.args.at (length c.args.bytes.now)) seat looks.shown looks.seat_is (looks.broken_is ∙ sym c.broken.ensures ∙ c.if-broken.true)))
+    (λ seat looks. first_broken (writing_rules seat c.args.at (length c.args.bytes.now)) seat looks.shown looks.seat_is (looks.broken_is ∙ sym c.broken.ensures ∙ c.if-broken.true)))
 
 pub returns-clause-booked : goal.returns-clause-booked
 returns-clause-booked g c key k seated =
@@ -73,5 +73,5 @@ returns-clause-booked g c key k seated =
     let random2 = g.R.Words.state c.write-written.new.random in
     some_booked key false line c.write_reply.result c.args.seat.now s (Some c.write-written.new.self) before after random random2 c.in-Some.is
     (subst (λ (r : Result Reply Memory). SeatBooked key false line r (Some s) (Some c.write-written.new.self) before after random random2) (sym c.write_reply.ensures)
-        (write_under key c.args.at c.args.bytes.now line (length c.args.bytes.now) (plain k) s c.write-written.new.self c.write-written.result before after random random2 (subst (λ (o : Option SessionState). IsSeatOf key o) c.in-Some.is seated)
-        (sym c.broken.ensures ∙ c.if-broken.false) c.write-written.ensures.goes c.write-written.ensures.aside (g.met.H.Host.reads_as_image c.write-written.new.host)))
+    (write_under key c.args.at c.args.bytes.now line (length c.args.bytes.now) (plain k) s c.write-written.new.self c.write-written.result before after random random2 (subst (λ (o : Option SessionState). IsSeatOf key o) c.in-Some.is seated)
+    (sym c.broken.ensures ∙ c.if-broken.false) c.write-written.ensures.goes c.write-written.ensures.aside (g.met.H.Host.reads_as_image c.write-written.new.host)))

@@ -22,9 +22,9 @@ returns-then-broken-clause-goes g c key k words =
     let before = g.H.Host.state c.args.host.now in
     at_some key false (lines.Read k c.args.at c.args.count) (Ok (replies.Refused whys.Broken)) c.args.seat.now s (Some s) before before words words c.in-Some.is
     (λ seated. refused_goes key false (lines.Read k c.args.at c.args.count) whys.Broken (Some s) before words
-        (λ sealed seat shows.
-        let shown = shows_some sealed seat s shows in
-        first_broken (refuses whys.TooLong (PIECE < c.args.count) ∷ []) seat shown.shown shown.seat_is (shown.broken_is ∙ sym c.broken.ensures ∙ c.if-broken.true)) seated)
+    (λ sealed seat shows.
+    let shown = shows_some sealed seat s shows in
+    first_broken (refuses whys.TooLong (PIECE < c.args.count) ∷ []) seat shown.shown shown.seat_is (shown.broken_is ∙ sym c.broken.ensures ∙ c.if-broken.true)) seated)
 
 pub returns-then-count-gt-LONGEST-clause-goes : goal.returns-then-count-gt-LONGEST-clause-goes
 returns-then-count-gt-LONGEST-clause-goes g c key k words =
@@ -32,9 +32,9 @@ returns-then-count-gt-LONGEST-clause-goes g c key k words =
     let before = g.H.Host.state c.args.host.now in
     at_some key false (lines.Read k c.args.at c.args.count) (Ok (replies.Refused whys.TooLong)) c.args.seat.now s (Some s) before before words words c.in-Some.is
     (λ seated. refused_goes key false (lines.Read k c.args.at c.args.count) whys.TooLong (Some s) before words
-        (λ sealed seat shows.
-        let shown = shows_some sealed seat s shows in
-        first_then (refuses whys.TooLong (PIECE < c.args.count) ∷ []) whys.TooLong seat shown.shown shown.seat_is (shown.broken_is ∙ sym c.broken.ensures ∙ c.if-broken.false) (inl (refl, c.if-count-gt-LONGEST.true))) seated)
+    (λ sealed seat shows.
+    let shown = shows_some sealed seat s shows in
+    first_then (refuses whys.TooLong (PIECE < c.args.count) ∷ []) whys.TooLong seat shown.shown shown.seat_is (shown.broken_is ∙ sym c.broken.ensures ∙ c.if-broken.false) (inl (refl, c.if-count-gt-LONGEST.true))) seated)
 
 pub returns-clause-goes : goal.returns-clause-goes
 returns-clause-goes g c key k words =
@@ -53,7 +53,7 @@ returns-then-broken-clause-booked g c key k words seated =
     let before = g.H.Host.state c.args.host.now in
     some_booked key false (lines.Read k c.args.at c.args.count) (Ok (replies.Refused whys.Broken)) c.args.seat.now s (Some s) before before words words c.in-Some.is
     (refused_agrees key false (lines.Read k c.args.at c.args.count) whys.Broken (Some s) before words
-        (λ seat looks. first_broken (refuses whys.TooLong (PIECE < c.args.count) ∷ []) seat looks.shown looks.seat_is (looks.broken_is ∙ sym c.broken.ensures ∙ c.if-broken.true)))
+    (λ seat looks. first_broken (refuses whys.TooLong (PIECE < c.args.count) ∷ []) seat looks.shown looks.seat_is (looks.broken_is ∙ sym c.broken.ensures ∙ c.if-broken.true)))
 
 pub returns-then-count-gt-LONGEST-clause-booked : goal.returns-then-count-gt-LONGEST-clause-booked
 returns-then-count-gt-LONGEST-clause-booked g c key k words seated =
@@ -61,8 +61,8 @@ returns-then-count-gt-LONGEST-clause-booked g c key k words seated =
     let before = g.H.Host.state c.args.host.now in
     some_booked key false (lines.Read k c.args.at c.args.count) (Ok (replies.Refused whys.TooLong)) c.args.seat.now s (Some s) before before words words c.in-Some.is
     (refused_agrees key false (lines.Read k c.args.at c.args.count) whys.TooLong (Some s) before words
-        (λ seat looks.
-        first_then (refuses whys.TooLong (PIECE < c.args.count) ∷ []) whys.TooLong seat looks.shown looks.seat_is (looks.broken_is ∙ sym c.broken.ensures ∙ c.if-broken.false) (inl (refl, c.if-count-gt-LONGEST.true))))
+    (λ seat looks.
+    first_then (refuses whys.TooLong (PIECE < c.args.count) ∷ []) whys.TooLong seat looks.shown looks.seat_is (looks.broken_is ∙ sym c.broken.ensures ∙ c.if-broken.false) (inl (refl, c.if-count-gt-LONGEST.true))))
 
 pub returns-clause-booked : goal.returns-clause-booked
 returns-clause-booked g c key k words seated =

@@ -35,8 +35,8 @@ returns-clause-goes g c key k words seated =
     subst (λ (r : Result Reply Memory). SeatGoes key false line r (Some s) (Some c.read-read.new.self) before after words words)
     (sym (c.read_reply.ensures ∙ ap (λ (b : List ℕ). read_reply b c.read-read.result) (lent_all buffer c.in_ok-bytes.bytes lent)))
     (read_goes key k c.args.at c.args.count s c.read-read.new.self c.read-read.result buffer before after words seated c.requires.whole c.requires.few room c.read-read.ensures.fields c.read-read.ensures.reads c.read-read.ensures.cause
-        c.read-read.ensures.backed
-        (subst (λ n. DamageComes c.read-read.result (file_of s) c.args.at n s.tree before after) (sym kept) c.read-read.ensures.damage) c.read-read.ensures.standing c.read-read.ensures.disk)
+    c.read-read.ensures.backed
+    (subst (λ n. DamageComes c.read-read.result (file_of s) c.args.at n s.tree before after) (sym kept) c.read-read.ensures.damage) c.read-read.ensures.standing c.read-read.ensures.disk)
 
 pub returns-in_err-bytes-clause-booked : goal.returns-in_err-bytes-clause-booked
 returns-in_err-bytes-clause-booked g c key k words seated =
@@ -58,4 +58,4 @@ returns-clause-booked g c key k words seated =
     subst (λ (r : Result Reply Memory). SeatBooked key false line r (Some s) (Some c.read-read.new.self) before after words words)
     (sym (c.read_reply.ensures ∙ ap (λ (b : List ℕ). read_reply b c.read-read.result) (lent_all buffer c.in_ok-bytes.bytes lent)))
     (read_under key k c.args.at c.args.count s c.read-read.new.self c.read-read.result buffer before after words seated c.requires.whole c.requires.few room c.read-read.ensures.fields c.read-read.ensures.reads c.read-read.ensures.cause
-        c.read-read.ensures.standing c.read-read.ensures.disk)
+    c.read-read.ensures.standing c.read-read.ensures.disk)

@@ -21,7 +21,7 @@ returns-in_default-clause-goes g c key k seated =
     let is : c.args.seat.now ≡ None = sym c.take.ensures.value ∙ c.in_default.is in
     subst (λ (o : Option SessionState). SeatGoes key false (lines.Close k) (Ok (replies.Refused whys.SeatEmpty)) c.args.seat.now o before before random random) (is ∙ sym c.take.ensures.after)
     (refused_goes key false (lines.Close k) whys.SeatEmpty c.args.seat.now before random
-        (λ sealed seat shows. inl (refl, shows_none sealed seat (subst (λ (o : Option SessionState). Shows sealed seat o) is shows))) seated)
+    (λ sealed seat shows. inl (refl, shows_none sealed seat (subst (λ (o : Option SessionState). Shows sealed seat o) is shows))) seated)
 
 pub returns-in-Ok-clause-goes : goal.returns-in-Ok-clause-goes
 returns-in-Ok-clause-goes g c key k =

@@ -22,7 +22,7 @@ returns-then-broken-clause-goes g c key k host =
     let random = g.R.Words.state c.args.random.now in
     at_some key false (lines.Draw k) (Ok (replies.Refused whys.Broken)) c.args.seat.now s (Some s) host host random random c.in-Some.is
     (λ seated. refused_goes key false (lines.Draw k) whys.Broken (Some s) host random
-        (λ sealed seat shows. let shown = shows_some sealed seat s shows in first_broken [] seat shown.shown shown.seat_is (shown.broken_is ∙ sym c.broken.ensures ∙ c.if-broken.true)) seated)
+    (λ sealed seat shows. let shown = shows_some sealed seat s shows in first_broken [] seat shown.shown shown.seat_is (shown.broken_is ∙ sym c.broken.ensures ∙ c.if-broken.true)) seated)
 
 pub returns-in-Ok-clause-goes : goal.returns-in-Ok-clause-goes
 returns-in-Ok-clause-goes g c key k host =

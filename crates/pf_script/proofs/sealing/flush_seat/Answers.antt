@@ -26,7 +26,7 @@ returns-then-broken-clause-goes g c key k =
     let random = g.R.Words.state c.args.random.now in
     at_some key false (lines.Flush k) (Ok (replies.Refused whys.Broken)) c.args.seat.now s (Some s) before before random random c.in-Some.is
     (λ seated. refused_goes key false (lines.Flush k) whys.Broken (Some s) before random
-        (λ sealed seat shows. let shown = shows_some sealed seat s shows in first_broken [] seat shown.shown shown.seat_is (shown.broken_is ∙ sym c.broken.ensures ∙ c.if-broken.true)) seated)
+    (λ sealed seat shows. let shown = shows_some sealed seat s shows in first_broken [] seat shown.shown shown.seat_is (shown.broken_is ∙ sym c.broken.ensures ∙ c.if-broken.true)) seated)
 
 pub returns-in-Ok-clause-goes : goal.returns-in-Ok-clause-goes
 returns-in-Ok-clause-goes g c key k =
@@ -47,7 +47,7 @@ returns-in-Err-clause-goes g c key k =
     let random2 = g.R.Words.state c.flush.new.random in
     at_some key false (lines.Flush k) (Ok c.flush_fault.result) c.args.seat.now s (Some c.flush.new.self) before after random random2 c.in-Some.is
     (λ seated. subst (λ (r : Reply). SeatGoes key false (lines.Flush k) (Ok r) (Some s) (Some c.flush.new.self) before after random random2) (sym c.flush_fault.ensures)
-        (flush_goes key k s c.flush.new.self (Err c.in-Err.fault) before after random random2 seated (sym c.broken.ensures ∙ c.if-broken.false) c.in-Err.ensures.goes c.in-Err.ensures.aside (g.met.H.Host.reads_as_image c.flush.new.host)))
+    (flush_goes key k s c.flush.new.self (Err c.in-Err.fault) before after random random2 seated (sym c.broken.ensures ∙ c.if-broken.false) c.in-Err.ensures.goes c.in-Err.ensures.aside (g.met.H.Host.reads_as_image c.flush.new.host)))
 
 pub returns-in_default-clause-booked : goal.returns-in_default-clause-booked
 returns-in_default-clause-booked g c key k seated =

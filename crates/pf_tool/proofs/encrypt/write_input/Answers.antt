@@ -1,8 +1,7 @@
-use Rattle.std.proofs.Common.{rules, ◌<◌, false, max, ◌≡◌, ℕ, ◌+◌, List, [], ◌++◌, length, take, refl, sym, subst, ap, ◌∙◌, arith, length-append, length-take, Result, Ok, Err}
+use Rattle.std.proofs.Common.{rules, ◌≡◌, ℕ, ◌+◌, List, [], ◌++◌, length, take, refl, sym, subst, ◌∙◌, arith, length-append, length-take, Ok, Err}
 use Rattle.std.proofs.lemmas.List.{length-take-le}
 use Rattle.std.proofs.lemmas.Result.{err_from_is_err_and}
 use Rattle.pf_session.specs.Changing.{WriteGoes}
-use Rattle.pf_session.specs.declared.fault.WriteFault.{WriteFault}
 use Rattle.pf_session.specs.declared.fault.Written.{Written}
 use Rattle.pf_tool.specs.SealingInput.{GavePiece, PieceWritten, none_yet, one_more, not_given, not_written}
 use Rattle.pf_tool.proofs.SessionWrites.{write_grows}
@@ -38,8 +37,8 @@ returns-in-Err-clause-stops g c =
     let piece : List ℕ = take n c.read_at.new.to in
     let why = c.in-Err.fault in
     let gave : GavePiece c.args.input.now (length so_far.0) piece h1 h2 =
-        subst (λ (k : ℕ). GavePiece c.args.input.now k piece h1 h2) is (piece_given c.args.input.now c.size-at.result n c.loop-given.piece c.read_at.new.to h1 h2 c.in_ok-given.ensures.rest c.loop-given.invariant.room c.in_ok-given.ensures.told
-        c.in_ok-given.ensures.cause.still c.read_at.ensures.counts c.in_ok-given.ensures.honest c.read_at.ensures.disk) in
+    subst (λ (k : ℕ). GavePiece c.args.input.now k piece h1 h2) is (piece_given c.args.input.now c.size-at.result n c.loop-given.piece c.read_at.new.to h1 h2 c.in_ok-given.ensures.rest c.loop-given.invariant.room c.in_ok-given.ensures.told
+    c.in_ok-given.ensures.cause.still c.read_at.ensures.counts c.in_ok-given.ensures.honest c.read_at.ensures.disk) in
     not_written so_far.0 piece c.loop-given.session c.write.new.self h1 h2 r1 why so_far.1 gave
     (subst (λ (k : ℕ). WriteGoes (Err why) k piece c.loop-given.session c.write.new.self h2 h3 r1 r3) is c.in-Err.ensures.goes) c.piece_fault.ensures
 
@@ -56,21 +55,23 @@ returns-then-given-lt-PIECE-clause-written g c =
     let piece : List ℕ = take n c.read_at.new.to in
     let w : Written = c.in_default.field-0 in
     let gave : GavePiece c.args.input.now (length so_far.0) piece h1 h2 =
-        subst (λ (k : ℕ). GavePiece c.args.input.now k piece h1 h2) is (piece_given c.args.input.now c.size-at.result n c.loop-given.piece c.read_at.new.to h1 h2 c.in_ok-given.ensures.rest c.loop-given.invariant.room c.in_ok-given.ensures.told
-        c.in_ok-given.ensures.cause.still c.read_at.ensures.counts c.in_ok-given.ensures.honest c.read_at.ensures.disk) in
+    subst (λ (k : ℕ). GavePiece c.args.input.now k piece h1 h2) is (piece_given c.args.input.now c.size-at.result n c.loop-given.piece c.read_at.new.to h1 h2 c.in_ok-given.ensures.rest c.loop-given.invariant.room c.in_ok-given.ensures.told
+    c.in_ok-given.ensures.cause.still c.read_at.ensures.counts c.in_ok-given.ensures.honest c.read_at.ensures.disk) in
     let wrote : PieceWritten c.args.input.now (length so_far.0) piece c.loop-given.session c.write.new.self h1 h3 r1 r3 =
-        record { between = h2; gave = gave; written = w; wrote = subst (λ (k : ℕ). WriteGoes (Ok w) k piece c.loop-given.session c.write.new.self h2 h3 r1 r3) is c.in_default.ensures.goes } in
-    (so_far.0 ++ piece, record {
-      earlier = so_far.0;
-      last = piece;
-      mid = c.loop-given.session;
-      between = h1;
-      words = r1;
-      whole = so_far.1;
-      wrote = wrote;
-      short = let le = length-take-le n c.read_at.new.to in let lt = c.if-given-lt-PIECE.true in omega (arith, le, lt);
-      content_is = refl;
-    })
+    record { between = h2; gave = gave; written = w; wrote = subst (λ (k : ℕ). WriteGoes (Ok w) k piece c.loop-given.session c.write.new.self h2 h3 r1 r3) is c.in_default.ensures.goes } in (
+      so_far.0 ++ piece,
+      record {
+        earlier = so_far.0;
+        last = piece;
+        mid = c.loop-given.session;
+        between = h1;
+        words = r1;
+        whole = so_far.1;
+        wrote = wrote;
+        short = let le = length-take-le n c.read_at.new.to in let lt = c.if-given-lt-PIECE.true in omega (arith, le, lt);
+        content_is = refl;
+      },
+    )
 
 pub loop-given-smaller : goal.loop-given-smaller
 loop-given-smaller g c =
@@ -102,8 +103,8 @@ loop-given-preserved g c =
     let goes : WriteGoes (Ok w) (length so_far.0) piece c.loop-given.session c.write.new.self h2 h3 r1 r3 = subst (λ (k : ℕ). WriteGoes (Ok w) k piece c.loop-given.session c.write.new.self h2 h3 r1 r3) is c.in_default.ensures.goes in
     let grown = write_grows w (length so_far.0) piece c.loop-given.session c.write.new.self h2 h3 r1 r3 goes in
     let gave : GavePiece c.args.input.now (length so_far.0) piece h1 h2 =
-        subst (λ (k : ℕ). GavePiece c.args.input.now k piece h1 h2) is (piece_given c.args.input.now c.size-at.result n c.loop-given.piece c.read_at.new.to h1 h2 c.in_ok-given.ensures.rest c.loop-given.invariant.room c.in_ok-given.ensures.told
-        c.in_ok-given.ensures.cause.still c.read_at.ensures.counts c.in_ok-given.ensures.honest c.read_at.ensures.disk) in
+    subst (λ (k : ℕ). GavePiece c.args.input.now k piece h1 h2) is (piece_given c.args.input.now c.size-at.result n c.loop-given.piece c.read_at.new.to h1 h2 c.in_ok-given.ensures.rest c.loop-given.invariant.room c.in_ok-given.ensures.told
+    c.in_ok-given.ensures.cause.still c.read_at.ensures.counts c.in_ok-given.ensures.honest c.read_at.ensures.disk) in
     let wrote : PieceWritten c.args.input.now (length so_far.0) piece c.loop-given.session c.write.new.self h1 h3 r1 r3 = record { between = h2; gave = gave; written = w; wrote = goes } in
     let rest = c.in_ok-given.ensures.rest in
     let full : length piece ≡ 32768 = let room = c.loop-given.invariant.room in let no = c.if-given-lt-PIECE.false in omega (arith, length-take n c.read_at.new.to, no, rest.within, rest.same_length, room) in

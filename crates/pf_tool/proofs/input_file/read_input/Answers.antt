@@ -1,4 +1,4 @@
-use Rattle.std.proofs.Common.{◌≡◌, ℕ, [], ◌∷◌, refl, subst, rules, Option, Some, None}
+use Rattle.std.proofs.Common.{ℕ, [], ◌∷◌, refl, subst, rules, Option, None}
 use Rattle.std.proofs.lemmas.Result.{err_from_is_err_and}
 use Rattle.pf_io.specs.Host.{LengthWas}
 use Rattle.pf_io.specs.Names.{IsName}

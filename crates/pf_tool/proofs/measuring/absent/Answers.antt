@@ -1,5 +1,5 @@
 use Rattle.std.proofs.Common.{ℕ, List, refl, sym, ap, ◌∙◌, Some}
-use Rattle.pf_tool.specs.Measuring.{NamesFile, file_named}
+use Rattle.pf_tool.specs.Measuring.{file_named}
 use Rattle.pf_tool.proofs.measuring.absent.Goals as goal
 
 pub returns-in-Ok : goal.returns-in-Ok

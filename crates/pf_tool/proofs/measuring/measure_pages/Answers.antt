@@ -1,4 +1,4 @@
-use Rattle.std.proofs.Common.{◌≡◌, List, ℕ, subst, sym, Result, Ok, Err}
+use Rattle.std.proofs.Common.{List, ℕ, subst, Err}
 use Rattle.pf_io.specs.Counts.{HasCause}
 use Rattle.enclave_measure.specs.declared.fault.MeasureFault.{MeasureFault}
 use Rattle.enclave_measure.specs.Measuring.{IsMeasured, host_part}

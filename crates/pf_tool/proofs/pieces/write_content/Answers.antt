@@ -1,4 +1,4 @@
-use Rattle.std.proofs.Common.{◌≡◌, ℕ, List, Bool, false, cond, take, refl, ◌∙◌, sym, subst, arith, ap, rules, Result, Ok, Err}
+use Rattle.std.proofs.Common.{◌≡◌, ℕ, Bool, false, cond, take, refl, ◌∙◌, sym, subst, arith, ap, rules, Result, Ok, Err}
 use Rattle.node_tree.specs.Reading.{Reads}
 use Rattle.node_tree.specs.declared.fault.TreeFault.{TreeFault}
 use Rattle.pf_io.specs.Disk.{Name}
@@ -49,7 +49,7 @@ returns-in_err-count-clause-ends g c secret node world is whole =
     let failed : Result ℕ TreeFault = Err fault in
     let size = ap (λ (t : TreeState). t.size) is in
     let reads : Reads failed name at c.read.new.to c.loop-at.session.tree c.read.new.self.tree now new =
-        subst (λ (n : Name). Reads failed n at c.read.new.to c.loop-at.session.tree c.read.new.self.tree now new) (named c.loop-at.session name inv.named inv.name) c.in_err-count.ensures.reads in
+    subst (λ (n : Name). Reads failed n at c.read.new.to c.loop-at.session.tree c.read.new.self.tree now new) (named c.loop-at.session name inv.named inv.name) c.in_err-count.ensures.reads in
     rw p.1 (read_ended fault p.0 name node secret at c.loop-at.session.tree c.read.new.self.tree old now new (g.K.Sink.state c.args.out.now) (g.K.Sink.state c.loop-at.out) c.read.new.to p.2
     (inv.so_far secret node is whole) inv.files (let t = c.loop-at-test.true in let s = inv.size in omega (arith, t, s, size)) (c.read.auto.to ∙ inv.room) reads c.in_err-count.ensures.cause (returns-in_err-count-clause-disk g c) world)
 
@@ -70,7 +70,7 @@ returns-in_err-write-clause-ends g c secret node world is whole =
     let size = ap (λ (t : TreeState). t.size) is in
     let read : Result ℕ TreeFault = Ok c.in_ok-count.count in
     let reads : Reads read name at c.read.new.to c.loop-at.session.tree c.read.new.self.tree now new =
-        subst (λ (n : Name). Reads read n at c.read.new.to c.loop-at.session.tree c.read.new.self.tree now new) (named c.loop-at.session name inv.named inv.name) c.in_ok-count.ensures.reads in
+    subst (λ (n : Name). Reads read n at c.read.new.to c.loop-at.session.tree c.read.new.self.tree now new) (named c.loop-at.session name inv.named inv.name) c.in_ok-count.ensures.reads in
     rw p.1 (write_failed name node secret at c.loop-at.session.tree old now (g.K.Sink.state c.args.out.now) out (inv.so_far secret node is whole) inv.files (let t = c.loop-at-test.true in let s = inv.size in omega (arith, t, s, size))
     c.read.new.to (c.read.auto.to ∙ inv.room) c.read.new.self.tree new (returns-in_err-write-clause-disk g c) c.in_ok-count.count reads c.in_ok-count.ensures.cause.still p.0 after p.2
     (piece_failed (take c.in_ok-count.count c.read.new.to) out after c.in_err-write.ensures.taken c.in_err-write.ensures.cause.once) world)
@@ -91,7 +91,7 @@ loop-at-preserved g c =
     let fields = c.read.ensures.fields in
     let read : Result ℕ TreeFault = Ok c.in_ok-count.count in
     let reads : Reads read name at c.read.new.to c.loop-at.session.tree c.read.new.self.tree now new =
-        subst (λ (n : Name). Reads read n at c.read.new.to c.loop-at.session.tree c.read.new.self.tree now new) (named c.loop-at.session name inv.named inv.name) c.in_ok-count.ensures.reads in
+    subst (λ (n : Name). Reads read n at c.read.new.to c.loop-at.session.tree c.read.new.self.tree now new) (named c.loop-at.session name inv.named inv.name) c.in_ok-count.ensures.reads in
     record {
       files = files;
       disk = disk;

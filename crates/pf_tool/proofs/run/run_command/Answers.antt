@@ -1,7 +1,7 @@
 use Rattle.std.proofs.Common.{sym, subst}
 use Rattle.std.specs.Prelude.{option_map}
 use Rattle.pf_tool.specs.World.{world_of}
-use Rattle.pf_tool.specs.Requests.{Decrypt, Encrypt, Manifest, request_of, Sums, Measure}
+use Rattle.pf_tool.specs.Requests.{Decrypt, Manifest, request_of, Sums, Measure}
 use Rattle.pf_tool.specs.Runs.{Runs, RunsSealing}
 use Rattle.pf_tool.specs.declared.words.Command.{Command}
 use Rattle.pf_tool.proofs.RunClauses.{concluded}
@@ -33,7 +33,7 @@ returns-in-Encrypt g c =
     let r1 = g.R.Words.state c.encrypt.new.random in
     let command = c.in-Encrypt.command in
     let runs : RunsSealing command.key.now command.input.now command.output.now (world_of h0 input o0 l0 r0) (world_of h1 input o0 l1 r1) c.conclude-in-Encrypt.result =
-        record { ended = c.encrypt.result; goes = c.encrypt.ensures (world_of h0 input o0 l0 r0); concludes = c.conclude-in-Encrypt.ensures } in
+    record { ended = c.encrypt.result; goes = c.encrypt.ensures (world_of h0 input o0 l0 r0); concludes = c.conclude-in-Encrypt.ensures } in
     subst (λ (x : Command). Runs (request_of x) (world_of h0 input o0 l0 r0) (world_of h1 input o0 l1 r1) c.conclude-in-Encrypt.result) (sym c.in-Encrypt.is) runs
 
 pub returns-in-Manifest : goal.returns-in-Manifest

@@ -56,7 +56,7 @@ returns-in_err-closings g c log =
     let start = begins_is user w1 c.new-desk.result c.in_ok-reader.reader c.new-desk.ensures.key c.new-desk.ensures.seats c.in_ok-reader.ensures in
     let status = c.in_ok-lines.lines in
     let all : ScriptRead c.args.command.now.key.now w0 status read =
-        record { user = user; begun = w1; read = record { is_key = k.key; passed = k.read w0; disk = k.disk }; all = subst (λ (a : At). AllLines a status read) start (c.in_ok-lines.ensures log) } in
+    record { user = user; begun = w1; read = record { is_key = k.key; passed = k.read w0; disk = k.disk }; all = subst (λ (a : At). AllLines a status read) start (c.in_ok-lines.ensures log) } in
     rw p.1 (no_closing status e.0 e.1 read e.2 now all e.3 e.4 refl (ap Err p.2))
 
 pub returns-in_err-write : goal.returns-in_err-write
@@ -77,7 +77,7 @@ returns-in_err-write g c log =
     let start = begins_is user w1 c.new-desk.result c.in_ok-reader.reader c.new-desk.ensures.key c.new-desk.ensures.seats c.in_ok-reader.ensures in
     let status = c.in_ok-lines.lines in
     let all : ScriptRead c.args.command.now.key.now w0 status read =
-        record { user = user; begun = w1; read = record { is_key = k.key; passed = k.read w0; disk = k.disk }; all = subst (λ (a : At). AllLines a status read) start (c.in_ok-lines.ensures log) } in
+    record { user = user; begun = w1; read = record { is_key = k.key; passed = k.read w0; disk = k.disk }; all = subst (λ (a : At). AllLines a status read) start (c.in_ok-lines.ensures log) } in
     let wrote = c.in_err-write.ensures in
     rw p.1 (no_end status c.in_ok-closings.closings read last all (c.in_ok-closings.ensures n.reader s1 log) (record { told = wrote.taken; once = wrote.cause.once }) refl (ap Err p.2))
 
@@ -98,6 +98,6 @@ returns g c log =
     let start = begins_is user w1 c.new-desk.result c.in_ok-reader.reader c.new-desk.ensures.key c.new-desk.ensures.seats c.in_ok-reader.ensures in
     let status = c.in_ok-lines.lines in
     let all : ScriptRead c.args.command.now.key.now w0 status read =
-        record { user = user; begun = w1; read = record { is_key = k.key; passed = k.read w0; disk = k.disk }; all = subst (λ (a : At). AllLines a status read) start (c.in_ok-lines.ensures log) } in
+    record { user = user; begun = w1; read = record { is_key = k.key; passed = k.read w0; disk = k.disk }; all = subst (λ (a : At). AllLines a status read) start (c.in_ok-lines.ensures log) } in
     let wrote = c.in_ok-write.ensures in
     done status c.in_ok-closings.closings read last all (c.in_ok-closings.ensures n.reader s1 log) (record { told = wrote.taken; calm = wrote.cause.still }) refl (ap Ok c.first_of.ensures)

@@ -60,11 +60,14 @@ returns-in_ok-say-in-TooLong g c log =
     let s1 = g.S.Source.state c.advance.new.input in
     let a = c.in_ok-advance in
     let reads = subst (λ (n : NextLine). ReadsOn (Ok n) c.args.reader.now c.advance.new.self s0 s1) c.in-TooLong.is (reads_on (Ok a.field-0) c.args.reader.now c.advance.new.self s0 s1 a.ensures.advances a.ensures.lines (λ shut. let t = a.ensures.again shut in (t.0, t.1, ap g.S.Source.state t.2))) in
-    let said = c.in_ok-say-in-TooLong.ensures in
-    (None, record {
-      answered = record { next = nexts.TooLong; reads = reads; answers = (refl, record { same_desk = refl; same_host = refl; same_random = refl }); log = refl; image = g.met.H.Host.reads_as_image c.args.host.now };
-      said = said.1;
-    }, said.0)
+    let said = c.in_ok-say-in-TooLong.ensures in (
+      None,
+      record {
+        answered = record { next = nexts.TooLong; reads = reads; answers = (refl, record { same_desk = refl; same_host = refl; same_random = refl }); log = refl; image = g.met.H.Host.reads_as_image c.args.host.now };
+        said = said.1;
+      },
+      said.0,
+    )
 
 pub returns-in_ok-say-in-Whole : goal.returns-in_ok-say-in-Whole
 returns-in_ok-say-in-Whole g c log =

@@ -8,16 +8,16 @@ pub invariant_of-self : goal.invariant_of-self
 invariant_of-self g c =
     let inside : DeskState = record { key = c.self.inside.key; seats = c.self.inside.seats } in
     (line_made inside c.self.invariant c.args.self.now c.self.view_is c.args.seat c.requires c.index-self-seat.result c.is_taken-taken.result (lines.Create c.args.seat c.args.name.now) refl c.is_taken-taken.ensures c.create_file.new.seat c.create_file.result (g.H.Host.state c.args.host.now) (g.H.Host.state c.create_file.new.host) (g.R.Words.state c.args.random.now) (g.R.Words.state c.create_file.new.random)
-        (record { goes = c.create_file.ensures.goes c.args.seat; booked = c.create_file.ensures.booked c.args.seat })).well
+    (record { goes = c.create_file.ensures.goes c.args.seat; booked = c.create_file.ensures.booked c.args.seat })).well
 
 pub returns-clause-goes : goal.returns-clause-goes
 returns-clause-goes g c =
     let inside : DeskState = record { key = c.self.inside.key; seats = c.self.inside.seats } in
     (line_made inside c.self.invariant c.args.self.now c.self.view_is c.args.seat c.requires c.index-self-seat.result c.is_taken-taken.result (lines.Create c.args.seat c.args.name.now) refl c.is_taken-taken.ensures c.create_file.new.seat c.create_file.result (g.H.Host.state c.args.host.now) (g.H.Host.state c.create_file.new.host) (g.R.Words.state c.args.random.now) (g.R.Words.state c.create_file.new.random)
-        (record { goes = c.create_file.ensures.goes c.args.seat; booked = c.create_file.ensures.booked c.args.seat })).goes
+    (record { goes = c.create_file.ensures.goes c.args.seat; booked = c.create_file.ensures.booked c.args.seat })).goes
 
 pub returns-clause-booked : goal.returns-clause-booked
 returns-clause-booked g c =
     let inside : DeskState = record { key = c.self.inside.key; seats = c.self.inside.seats } in
     (line_made inside c.self.invariant c.args.self.now c.self.view_is c.args.seat c.requires c.index-self-seat.result c.is_taken-taken.result (lines.Create c.args.seat c.args.name.now) refl c.is_taken-taken.ensures c.create_file.new.seat c.create_file.result (g.H.Host.state c.args.host.now) (g.H.Host.state c.create_file.new.host) (g.R.Words.state c.args.random.now) (g.R.Words.state c.create_file.new.random)
-        (record { goes = c.create_file.ensures.goes c.args.seat; booked = c.create_file.ensures.booked c.args.seat })).booked
+    (record { goes = c.create_file.ensures.goes c.args.seat; booked = c.create_file.ensures.booked c.args.seat })).booked

@@ -1,4 +1,4 @@
-use Rattle.std.proofs.Common.{refl, sym, subst, Ok, List, ℕ}
+use Rattle.std.proofs.Common.{sym, subst, Ok, List, ℕ}
 use Rattle.pf_script.specs.BookTurns.{DeskBooked}
 use Rattle.pf_script.specs.DeskSteps.{DeskGoes}
 use Rattle.pf_script.specs.declared.line.ScriptLine.{ScriptLine}

@@ -8,16 +8,16 @@ pub invariant_of-self : goal.invariant_of-self
 invariant_of-self g c =
     let inside : DeskState = record { key = c.self.inside.key; seats = c.self.inside.seats } in
     (line_made inside c.self.invariant c.args.self.now c.self.view_is c.args.seat c.requires c.index-self-seat.result false (lines.Write c.args.seat c.args.at c.args.bytes.now) refl tt c.write_bytes.new.seat c.write_bytes.result (g.H.Host.state c.args.host.now) (g.H.Host.state c.write_bytes.new.host) (g.R.Words.state c.args.random.now) (g.R.Words.state c.write_bytes.new.random)
-        (record { goes = c.write_bytes.ensures.goes c.self.inside.key c.args.seat; booked = c.write_bytes.ensures.booked c.self.inside.key c.args.seat })).well
+    (record { goes = c.write_bytes.ensures.goes c.self.inside.key c.args.seat; booked = c.write_bytes.ensures.booked c.self.inside.key c.args.seat })).well
 
 pub returns-clause-goes : goal.returns-clause-goes
 returns-clause-goes g c =
     let inside : DeskState = record { key = c.self.inside.key; seats = c.self.inside.seats } in
     (line_made inside c.self.invariant c.args.self.now c.self.view_is c.args.seat c.requires c.index-self-seat.result false (lines.Write c.args.seat c.args.at c.args.bytes.now) refl tt c.write_bytes.new.seat c.write_bytes.result (g.H.Host.state c.args.host.now) (g.H.Host.state c.write_bytes.new.host) (g.R.Words.state c.args.random.now) (g.R.Words.state c.write_bytes.new.random)
-        (record { goes = c.write_bytes.ensures.goes c.self.inside.key c.args.seat; booked = c.write_bytes.ensures.booked c.self.inside.key c.args.seat })).goes
+    (record { goes = c.write_bytes.ensures.goes c.self.inside.key c.args.seat; booked = c.write_bytes.ensures.booked c.self.inside.key c.args.seat })).goes
 
 pub returns-clause-booked : goal.returns-clause-booked
 returns-clause-booked g c =
     let inside : DeskState = record { key = c.self.inside.key; seats = c.self.inside.seats } in
     (line_made inside c.self.invariant c.args.self.now c.self.view_is c.args.seat c.requires c.index-self-seat.result false (lines.Write c.args.seat c.args.at c.args.bytes.now) refl tt c.write_bytes.new.seat c.write_bytes.result (g.H.Host.state c.args.host.now) (g.H.Host.state c.write_bytes.new.host) (g.R.Words.state c.args.random.now) (g.R.Words.state c.write_bytes.new.random)
-        (record { goes = c.write_bytes.ensures.goes c.self.inside.key c.args.seat; booked = c.write_bytes.ensures.booked c.self.inside.key c.args.seat })).booked
+    (record { goes = c.write_bytes.ensures.goes c.self.inside.key c.args.seat; booked = c.write_bytes.ensures.booked c.self.inside.key c.args.seat })).booked

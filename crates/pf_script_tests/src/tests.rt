@@ -1,6 +1,6 @@
-use crate::{LineFault, LineReader, NextLine, Reply, ScriptLine, Why, read_line, write_reply};
 use node_layout::{Damage, Kind, PathText};
 use pf_io::{Bytes, MemSink, MemSource, Source, StreamFault, Text};
+use pf_script::{LineFault, LineReader, NextLine, Reply, ScriptLine, Why, read_line, write_reply};
 use std::alloc::{AllocError, Global};
 use std::test::Fail;
 
