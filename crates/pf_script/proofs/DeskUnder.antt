@@ -1,5 +1,5 @@
 -- A line on one seat of a desk under a book, as one on the desk.
-use Rattle.std.proofs.Common.{◌≡◌, ◌≢◌, inl, inr, ⊎_elim, Bool, List, ℕ, ◌<◌, refl, sym, ◌∙◌, subst, Option, Some, None, Result, Ok, Err, length}
+use Rattle.std.proofs.Common.{◌≡◌, ◌≢◌, inl, inr, ⊎_elim, Bool, List, [], ℕ, ◌<◌, refl, sym, ◌∙◌, subst, Option, Some, None, Result, Ok, Err, length}
 use Rattle.std.specs.Prelude.{◌↔◌, IfSome}
 use Rattle.std.proofs.lemmas.List.{get_or-set_same, get_or-set_other, length-set}
 use Rattle.std.proofs.lemmas.Option.{IfSome_then}
@@ -8,7 +8,7 @@ use Rattle.pf_io.specs.Host.{HostState}
 use Rattle.pf_io.specs.Moments.{Honest}
 use Rattle.pf_io.specs.Words.{WordsState}
 use Rattle.pf_io.specs.declared.faults.Memory.{Memory}
-use Rattle.pf_io.proofs.Telling.{both_weaker}
+use Rattle.pf_io.proofs.Telling.{both_same, both_weaker, told_none}
 use Rattle.pf_session.specs.State.{SessionState}
 use Rattle.pf_script.specs.Book.{Book, Seal}
 use Rattle.pf_script.specs.BookActs.{Act, Among, booked_all}
@@ -18,10 +18,14 @@ use Rattle.pf_script.specs.BookTurns.{stands_on, ShowsUnder, no_file, of_book, o
 use Rattle.pf_script.specs.Desk.{DeskState, session_at, IsDesk}
 use Rattle.pf_script.specs.DeskSteps.{OtherHas, HasItsName}
 use Rattle.pf_script.specs.Script.{Seat, Empty, ScriptState, seat_at, HasThisName, IsTaken, state_with, seat_of_line, name_of_line}
-use Rattle.pf_script.specs.Turns.{Seen, SeatTurn, on_seat, SaysTaken}
+use Rattle.pf_script.specs.Turns.{Seen, SeatTurn, silent, on_seat, SaysTaken}
 use Rattle.pf_script.specs.Words.{SEATS}
 use Rattle.pf_script.specs.declared.line.ScriptLine.{ScriptLine}
 use Rattle.pf_script.specs.declared.reply.Reply.{Reply}
+use Rattle.pf_script.specs.declared.line.ScriptLine.TheVariants as lines
+use Rattle.pf_script.specs.declared.reply.Reply.TheVariants as replies
+use Rattle.pf_script.proofs.ActKeeping.{unchanged_now}
+use Rattle.pf_script.proofs.Refusing.{idle_seen, none_taken}
 use Rattle.pf_script.proofs.Desking.{SaysOther, same_or_not, others_apart}
 use Rattle.pf_script.proofs.Desking as desking
 use Rattle.pf_script.proofs.Seats.{booked_all_none}
@@ -109,3 +113,12 @@ module _ (old : DeskState) (desk : IsDesk old) (k : ℕ) (below : k < SEATS) (ta
   pub desk_booked : (result : Result Reply Memory) (before after : HostState) (random random' : WordsState) → SeatBooked old.key taken line result (session_at old k) left before after random random' → DeskBooked line result old new before after random random'
   desk_booked (Ok reply) before after random random' booked = desk_agrees reply before after random random' booked
   desk_booked (Err fault) before after random random' booked = tt
+
+-- a blank line
+pub blank_booked : (desk : DeskState) (host : HostState) (words : WordsState) → DeskBooked lines.Blank (Ok replies.None) desk desk host host words words
+blank_booked desk host words = record {
+  seen = idle_seen;
+  was_seen = record { answers = told_none host host refl; words = none_taken words; of_host = refl; of_words = refl };
+  under = both_same (DeskUnder lines.Blank idle_seen replies.None desk desk) host.honest host.honest refl
+      (λ a book seats state agrees reads is_state. record { acts = []; left = seats; after = state; did = (unchanged_now a, λ s has. has); is_state = is_state; turn = λ _. silent refl refl refl refl refl });
+}

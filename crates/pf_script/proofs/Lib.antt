@@ -51,6 +51,7 @@ pub mod WriteUnder
 pub mod SizeLeft
 pub mod SizeUnder
 pub mod MoveUnder
+pub mod MoveTurns
 pub mod CloseLine
 pub mod Desking
 pub mod DeskUnder

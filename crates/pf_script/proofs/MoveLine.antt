@@ -61,7 +61,7 @@ sheets_then [] more = refl
 sheets_then (act ∷ acts) more = ap (λ (l : List Sheet). sheet_of act.deed ++ l) (sheets_then acts more) ∙ sym (append_assoc (sheet_of act.deed) (sheets_of acts) (sheets_of more))
 
 -- words that were taken one after the other
-taken_then : (words more : List (List ℕ)) (a b c : WordsState) → Both a.left b.left (AreTaken words) → Both b.left c.left (AreTaken more) → Both a.left c.left (AreTaken (words ++ more))
+pub taken_then : (words more : List (List ℕ)) (a b c : WordsState) → Both a.left b.left (AreTaken words) → Both b.left c.left (AreTaken more) → Both a.left c.left (AreTaken (words ++ more))
 taken_then words more a b c one two =
     both_then (AreTaken words) (AreTaken more) (AreTaken (words ++ more)) a.left b.left c.left one two (λ x y z p q. p ∙ ap (λ (l : List (List ℕ)). words ++ l) q ∙ sym (append_assoc words more z))
 
@@ -149,7 +149,7 @@ short_in name side clean damage before after short = record {
 }
 
 -- so after other answers
-short_more : (more these : List Answer) (name : Name) (blame : Blame) → BlamesFlush name these blame → BlamesFlush name (more ++ these) blame
+pub short_more : (more these : List Answer) (name : Name) (blame : Blame) → BlamesFlush name these blame → BlamesFlush name (more ++ these) blame
 short_more more these name ByHost blames = tt
 short_more more these name (ByDamage damage) short = record {
   block = short.block;
@@ -159,7 +159,7 @@ short_more more these name (ByDamage damage) short = record {
 }
 
 -- what the calls of a move failed by
-record CarryBlamed (fault : FlushFault) (name : Name) (between after : HostState) : Type 0 where
+pub record CarryBlamed (fault : FlushFault) (name : Name) (between after : HostState) : Type 0 where
   pub blame : Blame
   pub these : List Answer
   pub told : Both between.given after.given (IsMore these)
@@ -167,7 +167,7 @@ record CarryBlamed (fault : FlushFault) (name : Name) (between after : HostState
   pub blames : BlamesFlush name these blame
   pub fault_is : fault ≡ fault_of blame
 
-carry_blamed : (fault : FlushFault) (to : Name) (nonce : List ℕ) (mid : SessionState) (between after : HostState) → CarryGoes (Err fault) to nonce mid between after → CarryBlamed fault mid.name between after
+pub carry_blamed : (fault : FlushFault) (to : Name) (nonce : List ℕ) (mid : SessionState) (between after : HostState) → CarryGoes (Err fault) to nonce mid between after → CarryBlamed fault mid.name between after
 carry_blamed faults.Words to nonce mid between after carry = absurd carry
 carry_blamed (faults.Damaged damage) to nonce mid between after short = record {
   blame = ByDamage damage;
@@ -187,7 +187,7 @@ carry_blamed faults.Host to nonce mid between after stopped = record {
 }
 
 -- the reply to a fault of a flush
-blamed_reply : (blame : Blame) → Ok (flush_reply (fault_of blame)) ≡ move_reply (Err (move_of_flush (fault_of blame)))
+pub blamed_reply : (blame : Blame) → Ok (flush_reply (fault_of blame)) ≡ move_reply (Err (move_of_flush (fault_of blame)))
 blamed_reply ByHost = refl
 blamed_reply (ByDamage damage) = refl
 
@@ -195,7 +195,7 @@ abbrev pub fault_result : FlushFault → Result (Unit {0}) FlushFault
 fault_result fault = Err fault
 
 -- a flush that had its words did not want any
-never_lacks : (fault : FlushFault) (sealed : List ℕ) (keys : List (List ℕ)) (old new : SessionState) (before after : HostState) → SealGoes (Err fault) sealed keys old new before after → fault_result fault ≡ fault_result faults.Words → ⊥
+pub never_lacks : (fault : FlushFault) (sealed : List ℕ) (keys : List (List ℕ)) (old new : SessionState) (before after : HostState) → SealGoes (Err fault) sealed keys old new before after → fault_result fault ≡ fault_result faults.Words → ⊥
 never_lacks fault sealed keys old new before after (node_short damage named short seals same said) is = absurd (cc)
 never_lacks fault sealed keys old new before after (call_failed stopped beside seals shape same said) is = absurd (cc)
 never_lacks fault sealed keys old new before after (sealed_all mid is_done beside settled seals same said) is = absurd (cc)
@@ -207,7 +207,7 @@ module _ (key : List ℕ) (k : ℕ) (to : Name) (old : SessionState) (seated : I
   abbrev looked : Option ℕ → Answer
   looked size = LengthWas to size
 
-  not_busy : (other : Why) → ¬ (refuses whys.NameBusy (false ≡ true) other)
+  pub not_busy : (other : Why) → ¬ (refuses whys.NameBusy (false ≡ true) other)
   not_busy other busy = let e : false ≡ true = busy.1 in absurd (cc)
 
   abbrev pub move_rules : List Answer → List Rule

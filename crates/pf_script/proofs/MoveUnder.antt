@@ -1,35 +1,41 @@
 -- The line `move` under a book, from the contract of a move.
-use Rattle.std.proofs.Common.{◌≡◌, inl, inr, true, false, List, [], ◌∷◌, ℕ, refl, sym, ◌∙◌, ap, subst, Option, Some, None, Ok}
+use Rattle.std.proofs.Common.{◌≡◌, ◌⊎◌, inl, inr, Bool, true, false, List, [], ◌∷◌, ◌++◌, ℕ, refl, sym, ◌∙◌, ap, subst, Option, Some, None, Ok}
 use Rattle.std.specs.Prelude.{Contains}
+use Rattle.node_tree.specs.Backing.{now}
 use Rattle.node_tree.specs.Sheet.{Sheet}
 use Rattle.node_tree.specs.State.{TreeState}
 use Rattle.pf_io.specs.Disk.{Name, IsImage, reading}
 use Rattle.pf_io.specs.Host.{Answer, HostState, Both, IsMore, ReadsAsImage}
 use Rattle.pf_io.specs.Moments.{Honest, Ran, Where}
+use Rattle.pf_io.specs.Names.{IsTarget}
 use Rattle.pf_io.specs.Words.{WordsState}
 use Rattle.pf_io.proofs.Telling.{told_none}
-use Rattle.pf_session.specs.Aside.{Aside, LeavesApart, KeepsApart}
+use Rattle.pf_session.specs.Aside.{Aside, LeavesApart, KeepsApart, LeavesApartBoth, KeepsApartBoth}
 use Rattle.pf_session.specs.Asking.{IsTaken as AreTaken}
 use Rattle.pf_session.specs.Backing.{StandsOn, RestsOn}
 use Rattle.pf_session.specs.Drawing.{IsDrawn}
-use Rattle.pf_session.specs.Moving.{FlushesFirst, as_it_is, flushed, IsKeptOn}
+use Rattle.pf_session.specs.Moving.{MovesOn as MovesAs, FlushesFirst, as_it_is, flushed, Carries, IsKeptOn, renamed, MovedAs, MovedIf}
 use Rattle.pf_session.specs.Reopening.{AsEither, Stood}
 use Rattle.pf_session.specs.Sealing.{StoodIf, Replaces}
 use Rattle.pf_session.specs.State.{SessionState}
 use Rattle.pf_script.specs.Book.{Book, Entry, Seal, Agrees}
-use Rattle.pf_script.specs.BookActs.{Flush, Among, booked_all, flushed as flushed_book, sealed_entry}
-use Rattle.pf_script.specs.BookDebts.{DidAll, seat_of}
+use Rattle.pf_script.specs.BookActs.{Flush, Move, Act, Among, booked_all, flushed as flushed_book, sealed_entry}
+use Rattle.pf_script.specs.BookDebts.{DidAll, Owes, seat_of}
 use Rattle.pf_script.specs.BookSeats.{SparesSeats}
 use Rattle.pf_script.specs.Desk.{IsSeated, seat_on}
 use Rattle.pf_script.specs.Script.{OwnSeat}
+use Rattle.pf_script.specs.SeatSteps.{SealsMoved, IsNextSheet, renamed as renamed_own}
 use Rattle.pf_script.specs.Turns.{FlushedToMove, as_it_was, was_changed, flushes}
-use Rattle.pf_script.proofs.ActKeeping.{one_spares, unchanged_now}
+use Rattle.pf_script.proofs.ActKeeping.{one_act, one_spares, unchanged_now}
 use Rattle.pf_script.proofs.CallKeeping.{at_both, on_to, read_image}
-use Rattle.pf_script.proofs.Flushed.{SealsWith, FlushEnds, not_begun, not_ended, was_ended, seal_ends}
+use Rattle.pf_script.proofs.Composing.{did_on}
+use Rattle.pf_script.proofs.During.{leaves_more}
+use Rattle.pf_script.proofs.Flushed.{SealsWith, FlushEnds, not_begun, not_ended, was_ended, seal_ends, next_of}
 use Rattle.pf_script.proofs.FlushLine.{flush_act, resealed_own}
 use Rattle.pf_script.proofs.NameMaps.{set_at-same}
 use Rattle.pf_script.proofs.Refusing.{none_taken}
-use Rattle.pf_script.proofs.Seats.{seats_after, seat_is_left}
+use Rattle.pf_script.proofs.SeatCalls.{own_same}
+use Rattle.pf_script.proofs.Seats.{seats_after, seat_is_left, among_on, among_back}
 use Rattle.pf_script.proofs.Under.{flush_did}
 
 module _ (key : List ℕ) (old : SessionState) (seated : IsSeated key old) (whole : old.broken ≡ false) where
@@ -160,3 +166,74 @@ module _ (key : List ℕ) (old : SessionState) (seated : IsSeated key old) (whol
             image_now = read_image between.honest t.0 t.1 reads;
           },
         )
+
+    -- the move after that, on the sheet that the file then stands for
+    module _ (to : Name) (of_to : IsTarget to) (done : Bool) (mid new : SessionState) (words : List (List ℕ)) (t b : Honest) (known : FirstKnown mid words t) (nonce : List ℕ) (between after : HostState) (is_t : between.honest ≡ Some t) (is_b : after.honest ≡ Some b)
+        (absent : t.now to ≡ None) (carries : Carries done to nonce mid between after) (well : IsImage b.now (reading b.now)) where
+      abbrev on : MovesAs done to nonce known.base_now mid between after
+      on = carries.each known.base_now known.stood_now.as_sheet.stands.linked known.rests
+
+      abbrev act : Act
+      act = record { deed = Move old.name (seat_of old.key to on.next); done = done }
+
+      abbrev left_now : List Seal
+      left_now = seats_after (Move old.name (seat_of old.key to on.next)) done known.left
+
+      moved_ran : Where (Stood old.key old.name known.base_now) (Ran (λ disk. MovedAs old.key old.name known.base_now to on.next) (MovedIf done old.key old.name to on.next)) t b
+      moved_ran stood =
+          subst (λ (k : List ℕ). Ran (λ disk. MovedAs k old.name known.base_now to on.next) (MovedIf done k old.name to on.next) t b) known.key_is
+          (subst (λ (n : Name). Ran (λ disk. MovedAs mid.key n known.base_now to on.next) (MovedIf done mid.key n to on.next) t b) known.name_is
+          (at_both (Where (λ disk. Stood mid.key mid.name known.base_now disk × (disk to ≡ None)) (Ran (λ disk. MovedAs mid.key mid.name known.base_now to on.next) (MovedIf done mid.key mid.name to on.next))) between.honest after.honest t b is_t is_b on.moved
+          (
+            subst (λ (k : List ℕ). Stood k mid.name known.base_now t.now) (sym known.key_is) (subst (λ (n : Name). Stood old.key n known.base_now t.now) (sym known.name_is) stood),
+            absent,
+          )))
+
+      others : Ran (LeavesApartBoth old.name to) (KeepsApartBoth old.name to) t b
+      others = subst (λ (n : Name). Ran (LeavesApartBoth n to) (KeepsApartBoth n to) t b) known.name_is (at_both (Ran (LeavesApartBoth mid.name to) (KeepsApartBoth mid.name to)) between.honest after.honest t b is_t is_b carries.aside)
+
+      pub did_move : DidAll book seats (flushes own known.sheets ++ act ∷ []) left_now m b
+      did_move =
+          did_on book seats known.left left_now (flushes own known.sheets) (act ∷ []) m t b known.did
+          (one_act (booked_all (flushes own known.sheets) book) known.left act.deed done t b
+          (record {
+            targets = (of_to, seated.of_script.is_target);
+            others = record {
+              leaves = leaves_more others.leaves (λ image leaves other far. leaves other (record { of_old = far.1; of_new = far.0 }));
+              ends = λ other far. others.ends other (record { of_old = far.1; of_new = far.0 });
+            };
+            reads = well;
+          })
+          (subst (λ (o : Option Entry). Owes known.left act.deed done o t b) (sym known.in_book)
+              (absent, (known.base_now, known.there_now, record { path_is = on.is_next.path_is; content_is = on.same_content; sealed = moved_ran }))))
+
+      pub spares_move : SparesSeats (flushes own known.sheets ++ act ∷ []) seats left_now
+      spares_move seat has apart =
+          one_spares known.left act.deed done seat (known.spares seat has (λ among. apart (among_back (flushes own known.sheets) (act ∷ []) seat.name (inl among)))) (λ among. apart (among_back (flushes own known.sheets) (act ∷ []) seat.name (inr among)))
+
+      pub only_move : (n : Name) → Among (flushes own known.sheets ++ act ∷ []) n → (n ≡ to) ⊎ (n ≡ old.name)
+      only_move n among = by_case (among_on (flushes own known.sheets) (act ∷ []) n among)
+        where
+          by_case : Among (flushes own known.sheets) n ⊎ Among (act ∷ []) n → (n ≡ to) ⊎ (n ≡ old.name)
+          by_case (inl is) = inr (known.only n is)
+          by_case (inr (inl is)) = is
+          by_case (inr (inr none)) = absurd none
+
+      pub seals_moved : (first second : List ℕ) → nonce ≡ first ++ second → SealsMoved (seat_on known.base_now mid) to (first ∷ second ∷ []) on.next
+      seals_moved first second drawn = record {
+        first = first;
+        second = second;
+        words_are = refl;
+        next = subst (λ (n : List ℕ). IsNextSheet known.base_now to n (now known.base_now mid.tree) [] [] on.next) drawn
+            (subst (λ (d : List ℕ). IsNextSheet known.base_now to nonce (now known.base_now mid.tree) d [] on.next) known.rests.clean (next_of known.base_now mid.tree to nonce [] on.next on.is_next));
+      }
+
+      -- the session under its new name
+      pub renamed_seat : new ≡ renamed to nonce mid → renamed_own (seat_on known.base_now mid) to on.next ≡ seat_on on.next new
+      renamed_seat same =
+          subst (λ (s : SessionState). renamed_own (seat_on known.base_now mid) to on.next ≡ seat_on on.next s) (sym same)
+          (own_same on.next mid.key mid.key to to (now known.base_now mid.tree) (now on.next mid.tree) mid.tree.dirty mid.tree.dirty mid.changed mid.changed mid.drawn mid.drawn mid.broken mid.broken refl refl
+          (known.rests.stands.now_is ∙ sym on.same_content ∙ sym on.on_next.stands.now_is) refl refl refl refl)
+
+      pub moved_kept : new ≡ renamed to nonce mid → IsKeptOn on.next new
+      moved_kept same = subst (λ (s : SessionState). IsKeptOn on.next s) (sym same) (record { backed = on.on_next.stands.backed; rests = λ _. on.on_next })

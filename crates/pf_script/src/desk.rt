@@ -212,7 +212,8 @@ impl Desk {
         name: &str,
     ) -> Result<Reply, Memory>
         requires { seat < SEAT_COUNT }
-        ensures { DeskGoes (lines.Move seat name.now) result self.old self.new (H.state host.old) (H.state host.new) (R.state random.old) (R.state random.new) }
+        ensures goes { DeskGoes (lines.Move seat name.now) result self.old self.new (H.state host.old) (H.state host.new) (R.state random.old) (R.state random.new) }
+        ensures booked { DeskBooked (lines.Move seat name.now) result self.old self.new (H.state host.old) (H.state host.new) (R.state random.old) (R.state random.new) }
     {
         let seat = seat as usize;
         let taken = self.is_taken(seat, name);
@@ -240,7 +241,8 @@ impl Desk {
         line: &ScriptLine,
     ) -> Result<Reply, Memory>
         requires { IfSome (seat_of_line line.now) (λ seat. seat < SEAT_COUNT) }
-        ensures { DeskGoes line.now result self.old self.new (H.state host.old) (H.state host.new) (R.state random.old) (R.state random.new) }
+        ensures goes { DeskGoes line.now result self.old self.new (H.state host.old) (H.state host.new) (R.state random.old) (R.state random.new) }
+        ensures booked { DeskBooked line.now result self.old self.new (H.state host.old) (H.state host.new) (R.state random.old) (R.state random.new) }
     {
         match line {
             ScriptLine::Blank => Ok(Reply::None),

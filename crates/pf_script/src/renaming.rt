@@ -1,5 +1,6 @@
 // The line `move`.
 ghost use Rattle.std.specs.Prelude.{◌≡◌, ℕ, List, IfSome, false};
+ghost use Rattle.pf_script.specs.BookTurns.{SeatBooked};
 ghost use Rattle.pf_script.specs.Desk.{IsSeatOf};
 ghost use Rattle.pf_script.specs.DeskSteps.{SeatGoes};
 ghost use Rattle.pf_script.specs.SeatReplies.{move_reply as reply_of_move};
@@ -37,7 +38,8 @@ pub(crate) fn move_file<H: Host, R: Words>(
     taken: bool,
 ) -> Result<Reply, Memory>
     requires { IfSome seat.old (λ session. session.beside ≡ false) }
-    ensures { (key : List ℕ) (k : ℕ) → IsSeatOf key seat.old → SeatGoes key taken (lines.Move k name.now) result seat.old seat.new (H.state host.old) (H.state host.new) (R.state random.old) (R.state random.new) }
+    ensures goes { (key : List ℕ) (k : ℕ) → IsSeatOf key seat.old → SeatGoes key taken (lines.Move k name.now) result seat.old seat.new (H.state host.old) (H.state host.new) (R.state random.old) (R.state random.new) }
+    ensures booked { (key : List ℕ) (k : ℕ) → IsSeatOf key seat.old → SeatBooked key taken (lines.Move k name.now) result seat.old seat.new (H.state host.old) (H.state host.new) (R.state random.old) (R.state random.new) }
 {
     let Some(session) = seat else {
         return Ok(Reply::Refused {

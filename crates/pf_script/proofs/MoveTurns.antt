@@ -1,0 +1,331 @@
+-- The line `move` under a book: how it ends.
+use Rattle.std.proofs.Common.{◌≡◌, ◌≢◌, ◌⊎◌, inl, inr, Bool, true, false, List, [], ◌∷◌, ◌++◌, ℕ, refl, sym, ◌∙◌, ap, subst, Option, Some, None, Result, Err}
+use Rattle.std.specs.Prelude.{Contains}
+use Rattle.node_tree.specs.Sheet.{Sheet}
+use Rattle.pf_io.specs.Disk.{Name, Disk, File, IsImage, reading, read_of}
+use Rattle.pf_io.specs.Host.{Answer, LengthWas, HostState, Both, IsMore, OnDisk, ReadsAsImage}
+use Rattle.pf_io.specs.Moments.{Honest, Ran, Where}
+use Rattle.pf_io.specs.Names.{IsTarget, recovery_of}
+use Rattle.pf_io.specs.Words.{WordsState}
+use Rattle.pf_io.specs.declared.faults.Memory.{Memory}
+use Rattle.pf_io.proofs.Telling.{told_none, told_on, both_same}
+use Rattle.pf_session.specs.Aside.{LeavesApart, KeepsApart, LeavesApartBoth, KeepsApartBoth, AsideBoth}
+use Rattle.pf_session.specs.Creating.{LooksUp}
+use Rattle.pf_session.specs.Faults.{move_of_flush}
+use Rattle.pf_session.specs.Reopening.{AsEither, Stood}
+use Rattle.pf_session.specs.Sealing.{StoodIf}
+use Rattle.pf_session.specs.Asking.{IsTaken as AreTaken}
+use Rattle.pf_session.specs.Moving.{MoveGoes, misnamed, no_memory, look_up_failed, was_there, no_words, not_flushed, not_moved, moved, IsFree, FlushFails, FlushesFirst, Moves, UndamagedMove, IsKeptOn, renamed}
+use Rattle.pf_session.specs.State.{SessionState}
+use Rattle.pf_session.specs.declared.fault.FlushFault.{FlushFault}
+use Rattle.pf_session.specs.declared.fault.MoveFault.{MoveFault}
+use Rattle.pf_script.specs.Book.{Book, Entry, Seal, Agrees}
+use Rattle.pf_script.specs.BookActs.{Flush, Move, Act}
+use Rattle.pf_script.specs.BookDebts.{Unchanged, DidAll, seat_of}
+use Rattle.pf_script.specs.BookSeats.{Covers, KeepsUnder}
+use Rattle.pf_script.specs.BookTurns.{SeenIn, ShowsUnder, of_book, other_file, SeatUnder, SeatAgrees, SeatBooked}
+use Rattle.pf_script.specs.Desk.{IsSeated, seat_on}
+use Rattle.pf_script.specs.DeskSteps.{CountsFault, Concerns}
+use Rattle.pf_script.specs.Rules.{NoneRefuses, rules}
+use Rattle.pf_script.specs.Script.{OwnSeat, Seat, Own}
+use Rattle.pf_script.specs.SeatReplies.{flush_reply, move_reply}
+use Rattle.pf_script.specs.SeatSteps.{broken_seat, renamed as renamed_own}
+use Rattle.pf_script.specs.Turns.{Seen, Standing, SeatTurn, Blame, ByHost, ByDamage, BlamesFlush, Fails, flushes, moved as moved_line, not_moved as not_moved_line, refused, accepted, host_failed, was_damaged, words_failed, not_looked_up, not_flushed_to_move, no_move}
+use Rattle.pf_script.specs.declared.line.ScriptLine.{ScriptLine}
+use Rattle.pf_script.specs.declared.line.ScriptLine.TheVariants as lines
+use Rattle.pf_script.specs.declared.reply.Reply.{Reply}
+use Rattle.pf_script.specs.declared.reply.Reply.TheVariants as replies
+use Rattle.pf_script.specs.declared.reply.Why.TheVariants as whys
+use Rattle.pf_script.proofs.ActKeeping.{unchanged_now, one_spares}
+use Rattle.pf_script.proofs.CallKeeping.{at_both, both_with, on_to, read_image}
+use Rattle.pf_script.proofs.Composing.{did_on}
+use Rattle.pf_script.proofs.Flushed.{FlushEnds, not_begun, not_ended, was_ended, seal_ends, host_blamed, fault_of}
+use Rattle.pf_script.proofs.FlushLine.{flush_act}
+use Rattle.pf_script.proofs.MoveLine.{move_rules, not_busy, never_lacks, blamed_reply, short_more, taken_then, CarryBlamed, carry_blamed}
+use Rattle.pf_script.proofs.Ruling.{never}
+use Rattle.pf_script.proofs.Seats.{seats_after}
+use Rattle.pf_script.proofs.MoveCallKeeping.{move_keeps}
+use Rattle.pf_script.proofs.MoveUnder.{FirstIn, first_in, FirstKnown, first_known, did_move, spares_move, only_move, seals_moved, renamed_seat, moved_kept}
+use Rattle.pf_script.proofs.Refusing.{none_taken, none_then, first_then}
+use Rattle.pf_script.proofs.SeatCalls.{seen_by}
+use Rattle.pf_script.proofs.StepKeeping.{keeps_more}
+use Rattle.pf_script.proofs.Under.{KnownUnder, own_under, none_concerned, one_concerned, flush_did, left_seat}
+
+module _ (key : List ℕ) (k : ℕ) (to : Name) (old : SessionState) (seated : IsSeated key old) (whole : old.broken ≡ false) (new : SessionState) (before after : HostState) (random random' : WordsState)
+    (keeps : OnDisk before after (KeepsUnder (Covers old) (Covers new) (λ name. (name ≡ to) ⊎ (name ≡ old.name)))) where
+  abbrev line : ScriptLine
+  line = lines.Move k to
+
+  -- the two names are concerned
+  pub both_concerned : (n : Name) → (n ≡ to) ⊎ (n ≡ old.name) → Concerns false line (Some old) n
+  both_concerned n (inl same) = inr (ap (λ (x : Name). Some x) (sym same), refl)
+  both_concerned n (inr same) = inl same
+
+  pub on_move : (P : Honest → Honest → Type 0) (seen : Seen) (reply : Reply) → OnDisk before after P → ((a b : Honest) → before.honest ≡ Some a → after.honest ≡ Some b → P a b → KnownUnder key false line seen reply old whole (Some new) a b)
+      → OnDisk before after (SeatUnder key false line seen reply (Some old) (Some new))
+  on_move P seen reply holds known =
+      both_with P (SeatUnder key false line seen reply (Some old) (Some new)) before.honest after.honest holds
+      (λ a b is is2 p.
+      own_under key false line seen reply old whole (Some new) a b
+      (keeps_more (Covers old) (Covers new) (λ name. (name ≡ to) ⊎ (name ≡ old.name)) (Concerns false line (Some old)) a b both_concerned
+          (at_both (KeepsUnder (Covers old) (Covers new) (λ name. (name ≡ to) ⊎ (name ≡ old.name))) before.honest after.honest a b is is2 keeps))
+      (known a b is is2 p))
+
+  -- nothing was changed
+  idle : (reply : Reply) (these : List Answer) (words : List (List ℕ)) (of_host of_words : Bool) → new ≡ old → OnDisk before after Unchanged → Both before.given after.given (IsMore these) → Both random.left random'.left (AreTaken words)
+      → CountsFault of_host before.faults after.faults → CountsFault of_words random.faults random'.faults
+      → ((standing : Standing) (base : Sheet) → SeatTurn standing key false (Own (seat_on base old)) line (seen_by these words of_host of_words) reply [] (Own (seat_on base old))) → SeatAgrees key false line reply (Some old) (Some new) before after random random'
+  idle reply these words of_host of_words same only told taken on_host on_words turn = record {
+    seen = seen_by these words of_host of_words;
+    was_seen = record { answers = told; words = taken; of_host = on_host; of_words = on_words };
+    under = on_move Unchanged (seen_by these words of_host of_words) reply only
+        (λ a b is is2 only_ab book seats agrees base on. record {
+          acts = [];
+          left = seats;
+          after = Own (seat_on base old);
+          did = (only_ab, λ s has. has);
+          shows = subst (λ (s : SessionState). ShowsUnder book seats (Own (seat_on base old)) (Some s)) (sym same) (of_book base old whole on.seated on.kept refl refl);
+          spares = λ s has apart. has;
+          concerned = none_concerned false line (Some old);
+          turn = λ _. turn _ base;
+        });
+  }
+
+  stays_so : after ≡ before → OnDisk before after Unchanged
+  stays_so stays = both_same Unchanged before.honest after.honest (ap (λ (h : HostState). h.honest) stays) (λ a. unchanged_now a)
+
+  none_taken_now : random' ≡ random → Both random.left random'.left (AreTaken [])
+  none_taken_now same = subst (λ (w : WordsState). Both random.left w.left (AreTaken [])) (sym same) (none_taken random)
+
+  -- up to the want of words
+  misnamed_under : ¬ (IsTarget to) → new ≡ old → after ≡ before → random' ≡ random → SeatAgrees key false line (replies.Refused whys.BadName) (Some old) (Some new) before after random random'
+  misnamed_under bad same stays words =
+      idle (replies.Refused whys.BadName) [] [] false false same (stays_so stays) (told_none before after (ap (λ (h : HostState). h.given) stays)) (none_taken_now words) (ap (λ (h : HostState). h.faults) stays) (ap (λ (w : WordsState). w.faults) words)
+      (λ standing base.
+      let own = seat_on base old in
+      refused whys.BadName (first_then (move_rules key k to old seated whole []) whys.BadName (Own own) own refl whole (inr (not_busy key k to old seated whole, inl (refl, bad)))) (record { host = refl; random = refl }) refl refl refl refl)
+
+  looks_under : (size : ℕ) → IsTarget to → LooksUp to (Some size) before after → new ≡ old → random' ≡ random → SeatAgrees key false line (replies.Refused whys.TargetExists) (Some old) (Some new) before after random random'
+  looks_under size good looks same words =
+      let given = LengthWas to (Some size) ∷ [] in
+      idle (replies.Refused whys.TargetExists) given [] false false same looks.disk looks.asked.asked.told (none_taken_now words) looks.asked.asked.faults (ap (λ (w : WordsState). w.faults) words)
+      (λ standing base.
+      let own = seat_on base old in
+      refused whys.TargetExists
+      (first_then (move_rules key k to old seated whole given) whys.TargetExists (Own own) own refl whole (inr (not_busy key k to old seated whole, inr ((λ other bad. bad.1 good), inl (refl, (size, [], refl))))))
+      (record { host = refl; random = refl }) refl refl refl refl)
+
+  -- the turn of a line that failed
+  fault_turn : (standing : Standing) (own : OwnSeat) (these : List Answer) (words : List (List ℕ)) (blame : Blame) (acts : List Act) (left : Seat) → Fails key (seen_by these words (host_blamed blame) false) blame (Own own) line acts left
+      → SeatTurn standing key false (Own own) line (seen_by these words (host_blamed blame) false) (flush_reply (fault_of blame)) acts left
+  fault_turn standing own these words ByHost acts left fails = host_failed (record { host = refl; random = refl }) fails refl
+  fault_turn standing own these words (ByDamage damage) acts left fails = was_damaged damage (record { host = refl; random = refl }) fails refl
+
+  module _ (aside : AsideBoth old.name to before after) (reads : ReadsAsImage after) where
+    -- reads before the acts
+    did_later : (book : Book) (seats left : List Seal) (acts : List Act) (a m b : Honest) → Unchanged a m → DidAll book seats acts left m b → DidAll book seats acts left a b
+    did_later book seats left acts a m b only did = did_on book seats seats left [] acts a m b (only, λ s has. has) did
+
+    -- it was not flushed
+    unflushed : (start : HostState) (fault : FlushFault) → IsFree to before start → (fails : FlushFails fault old new start after random random') → FlushEnds (Err fault) old new start after random fails.between
+        → SeatBooked key false line (move_reply (Err (move_of_flush fault))) (Some old) (Some new) before after random random'
+    unflushed start fault free fails (not_begun words seen same stays said) = absurd (never_lacks fault fails.sealed fails.keys old new start after fails.goes said)
+    unflushed start fault free fails (was_ended these words seen seals same dirty said) = absurd (cc)
+    unflushed start fault free fails (not_ended blame these words seen blames seals key_is name_is broken said) =
+        let first = fails.drawn.first in
+        let second = fails.drawn.second in
+        let all = words ++ first ∷ second ∷ [] in
+        let given = LengthWas to None ∷ these in
+        let fault_is : fault ≡ fault_of blame = cc in
+        subst (λ (f : FlushFault). SeatBooked key false line (move_reply (Err (move_of_flush f))) (Some old) (Some new) before after random random') (sym fault_is)
+        (subst (λ (r : Result Reply Memory). SeatBooked key false line r (Some old) (Some new) before after random random') (blamed_reply blame)
+        (record {
+          seen = seen_by given all (host_blamed blame) false;
+          was_seen = record {
+            answers = told_on (LengthWas to None ∷ []) these before start after free.looks.asked.asked.told seen.told;
+            words = taken_then words (first ∷ second ∷ []) random fails.between random' seen.taken fails.drawn.took.told;
+            of_host = subst (λ n. CountsFault (host_blamed blame) n after.faults) free.looks.asked.asked.faults seen.on_host;
+            of_words = fails.drawn.took.calm ∙ seen.on_words;
+          };
+          under = on_move (Ran (LeavesApartBoth old.name to) (KeepsApartBoth old.name to)) (seen_by given all (host_blamed blame) false) (flush_reply (fault_of blame)) aside
+              (λ a b is_a is_b ran book seats agrees base on.
+              let m = on_to Unchanged before.honest start.honest a is_a free.looks.disk in
+              let next = seals base on.stood.as_sheet.stands.linked on.kept.backed in
+              let own = seat_on base old in
+              let stood_m = subst (λ (d : Disk). Stood old.key old.name base d) (sym m.2.ends) on.stood in
+              let acts : List Act = flush_act old next.0 false ∷ [] in record {
+                acts = acts;
+                left = seats_after (Flush (seat_of old.key old.name next.0)) false seats;
+                after = Own (broken_seat own);
+                did = did_later book seats (seats_after (Flush (seat_of old.key old.name next.0)) false seats) acts a m.0 b m.2
+                    (flush_did book seats false old.key old.name base next.0 m.0 b on.entry seated.of_script.is_target (at_both (Ran (LeavesApart old.name) (KeepsApart old.name)) start.honest after.honest m.0 b m.1 is_b fails.aside)
+                        (read_image after.honest b is_b reads) on.was on.seated
+                        (record { path_is = next.1.next.path_is; sealed = at_both (Where (Stood old.key old.name base) (Ran (AsEither old.key old.name base next.0) (StoodIf false old.key old.name next.0))) start.honest after.honest m.0 b m.1 is_b next.2 }));
+                shows = other_file (broken_seat own) new (inl broken) (sym key_is) (sym name_is) (sym broken) refl refl;
+                spares = one_spares seats (Flush (seat_of old.key old.name next.0)) false;
+                concerned = one_concerned false line old false next.0;
+                turn = λ _. fault_turn _ own given all blame acts (Own (broken_seat own))
+                    (not_flushed_to_move k to own words next.0 first second blame fails.is_changed next.1 refl (short_more (LengthWas to None ∷ []) these old.name blame blames));
+              });
+        }))
+
+    -- once the name is free, and what had to be flushed is
+    module _ (start between : HostState) (mid : SessionState) (nonce : List ℕ) (free : IsFree to before start) (first : FlushesFirst old mid nonce start between random random') where
+      f : FirstIn key old seated whole mid nonce start between random random'
+      f = first_in key old seated whole mid nonce start between random random' first
+
+      abbrev all_words : List (List ℕ)
+      all_words = f.words ++ f.drawn.first ∷ f.drawn.second ∷ []
+
+      abbrev all_given : List Answer → List Answer
+      all_given more = LengthWas to None ∷ (f.these ++ more)
+
+      was_seen : (more : List Answer) (of_host : Bool) → Both between.given after.given (IsMore more) → CountsFault of_host between.faults after.faults → SeenIn (seen_by (all_given more) all_words of_host false) before after random random'
+      was_seen more of_host told counts = record {
+        answers = told_on (LengthWas to None ∷ []) (f.these ++ more) before start after free.looks.asked.asked.told (told_on f.these more start between after f.told told);
+        words = taken_then f.words (f.drawn.first ∷ f.drawn.second ∷ []) random f.words_mid random' f.taken f.drawn.took.told;
+        of_host = subst (λ n. CountsFault of_host n after.faults) (f.on_host ∙ free.looks.asked.asked.faults) counts;
+        of_words = f.drawn.took.calm ∙ f.on_words;
+      }
+
+      passes : (base : Sheet) (more : List Answer) → NoneRefuses (rules key false (Own (seat_on base old)) line (all_given more))
+      passes base more =
+          none_then (move_rules key k to old seated whole (all_given more)) (Own (seat_on base old)) (seat_on base old) refl whole
+          (not_busy key k to old seated whole, ((λ other bad. bad.1 free.is_target), ((λ other there. not_there there.1.0 there.1.1 there.1.2), tt)))
+        where
+          not_there : (size : ℕ) (others : List Answer) → all_given more ≡ LengthWas to (Some size) ∷ others → ⊥
+          not_there size others is = absurd (cc)
+
+      -- under a book that knows the name
+      module _ (a b : Honest) (is_a : before.honest ≡ Some a) (is_b : after.honest ≡ Some b) (book : Book) (seats : List Seal) (agrees : Agrees book seats a.now) (image : IsImage a.now (reading a.now)) (base : Sheet) (entry : Entry) (was : book old.name ≡ Some entry)
+          (there : Contains seats (seat_of old.key old.name base)) (kept : IsKeptOn base old) (stood : Stood old.key old.name base a.now) where
+        m : (m : Honest) × (start.honest ≡ Some m) × Unchanged a m
+        m = on_to Unchanged before.honest start.honest a is_a free.looks.disk
+
+        agrees_m : Agrees book seats m.0.now
+        agrees_m = subst (λ (d : Disk). Agrees book seats d) (sym m.2.ends) agrees
+
+        image_m : IsImage m.0.now (reading m.0.now)
+        image_m = subst (λ (d : Disk). IsImage d (reading d)) (sym m.2.ends) image
+
+        stood_m : Stood old.key old.name base m.0.now
+        stood_m = subst (λ (d : Disk). Stood old.key old.name base d) (sym m.2.ends) stood
+
+        t : (t : Honest) × (between.honest ≡ Some t) × FirstKnown key old seated whole book seats m.0 agrees_m image_m base entry was there kept stood_m mid f.words t
+        t = first_known key old seated whole book seats m.0 agrees_m image_m base entry was there kept stood_m mid f.words start between m.1 f.left
+
+        -- the old name is there, and the new one is not
+        apart : old.name ≢ to
+        apart same =
+            never old.key base (reading a.now old.name) (reading a.now (recovery_of old.name))
+            (ap (λ (o : Option File). read_of o) (ap a.now same ∙ sym (ap (λ (d : Disk). d to) m.2.ends) ∙ at_both (λ x y. y.now to ≡ None) before.honest start.honest a m.0 is_a m.1 free.absent)) stood.as_sheet
+
+        absent_now : (done : Bool) → Moves done to nonce mid between after → t.0.now to ≡ None
+        absent_now done moves = at_both (λ x y. x.now to ≡ None) between.honest after.honest t.0 b t.1 is_b (moves.absent (λ same. apart (sym t.2.name_is ∙ same)))
+
+      -- it was not moved; no node was damaged
+      uncarried : (fault : FlushFault) → CarryBlamed fault mid.name between after → Moves false to nonce mid between after → new ≡ record mid { broken = true } → UndamagedMove (Err (move_of_flush fault)) old before
+          → SeatBooked key false line (move_reply (Err (move_of_flush fault))) (Some old) (Some new) before after random random'
+      uncarried fault by moves same undamaged =
+          subst (λ (x : FlushFault). SeatBooked key false line (move_reply (Err (move_of_flush x))) (Some old) (Some new) before after random random') (sym by.fault_is)
+          (subst (λ (r : Result Reply Memory). SeatBooked key false line r (Some old) (Some new) before after random random') (blamed_reply by.blame)
+          (record {
+            seen = seen_by (all_given by.these) all_words (host_blamed by.blame) false;
+            was_seen = was_seen by.these (host_blamed by.blame) by.told by.on_host;
+            under = on_move (Ran (LeavesApartBoth old.name to) (KeepsApartBoth old.name to)) (seen_by (all_given by.these) all_words (host_blamed by.blame) false) (flush_reply (fault_of by.blame)) aside
+                (λ a b is_a is_b ran book seats agrees base on.
+                let own = seat_on base old in
+                let m = m a b is_a is_b book seats agrees on.image base on.entry on.was on.seated on.kept on.stood in
+                let t = t a b is_a is_b book seats agrees on.image base on.entry on.was on.seated on.kept on.stood in
+                let agrees_m = agrees_m a b is_a is_b book seats agrees on.image base on.entry on.was on.seated on.kept on.stood in
+                let image_m = image_m a b is_a is_b book seats agrees on.image base on.entry on.was on.seated on.kept on.stood in
+                let stood_m = stood_m a b is_a is_b book seats agrees on.image base on.entry on.was on.seated on.kept on.stood in
+                let absent = absent_now a b is_a is_b book seats agrees on.image base on.entry on.was on.seated on.kept on.stood false moves in
+                let well = read_image after.honest b is_b reads in
+                let next = moves.carries.each t.2.base_now t.2.stood_now.as_sheet.stands.linked t.2.rests in
+                let acts : List Act = flushes own t.2.sheets ++ record { deed = Move old.name (seat_of old.key to next.next); done = false } ∷ [] in
+                let left = seats_after (Move old.name (seat_of old.key to next.next)) false t.2.left in record {
+                  acts = acts;
+                  left = left;
+                  after = Own (broken_seat (seat_on t.2.base_now mid));
+                  did = did_later book seats left acts a m.0 b m.2
+                      (did_move key old seated whole book seats m.0 agrees_m image_m base on.entry on.was on.seated on.kept stood_m to free.is_target false mid new f.words t.0 b t.2 nonce between after t.1 is_b absent moves.carries well);
+                  shows = other_file (broken_seat (seat_on t.2.base_now mid)) new (inl (ap (λ (s : SessionState). s.broken) same)) (sym (ap (λ (s : SessionState). s.key) same)) (sym (ap (λ (s : SessionState). s.name) same))
+                      (sym (ap (λ (s : SessionState). s.broken) same)) refl refl;
+                  spares = spares_move key old seated whole book seats m.0 agrees_m image_m base on.entry on.was on.seated on.kept stood_m to free.is_target false mid new f.words t.0 b t.2 nonce between after t.1 is_b absent moves.carries well;
+                  concerned = λ n among.
+                      both_concerned n (only_move key old seated whole book seats m.0 agrees_m image_m base on.entry on.was on.seated on.kept stood_m to free.is_target false mid new f.words t.0 b t.2 nonce between after t.1 is_b absent moves.carries well n among);
+                  turn = λ _. fault_turn _ own (all_given by.these) all_words by.blame acts (Own (broken_seat (seat_on t.2.base_now mid)))
+                      (not_moved_line k to own (seat_on t.2.base_now mid) f.words (f.drawn.first ∷ f.drawn.second ∷ []) t.2.sheets next.next by.blame t.2.first
+                          (seals_moved key old seated whole book seats m.0 agrees_m image_m base on.entry on.was on.seated on.kept stood_m to free.is_target false mid new f.words t.0 b t.2 nonce between after t.1 is_b absent moves.carries well
+                          f.drawn.first f.drawn.second f.drawn.is) refl
+                          (short_more (LengthWas to None ∷ []) (f.these ++ by.these) old.name by.blame (short_more f.these by.these old.name by.blame (subst (λ (n : Name). BlamesFlush n by.these by.blame) t.2.name_is by.blames))));
+                });
+          }))
+
+      -- it was moved
+      carried : (more : List Answer) → Both between.given after.given (IsMore more) → after.faults ≡ between.faults → Moves true to nonce mid between after → new ≡ renamed to nonce mid
+          → SeatAgrees key false line replies.Moved (Some old) (Some new) before after random random'
+      carried more told calm moves same = record {
+        seen = seen_by (all_given more) all_words false false;
+        was_seen = was_seen more false told calm;
+        under = on_move (Ran (LeavesApartBoth old.name to) (KeepsApartBoth old.name to)) (seen_by (all_given more) all_words false false) replies.Moved aside
+            (λ a b is_a is_b ran book seats agrees base on.
+            let own = seat_on base old in
+            let m = m a b is_a is_b book seats agrees on.image base on.entry on.was on.seated on.kept on.stood in
+            let t = t a b is_a is_b book seats agrees on.image base on.entry on.was on.seated on.kept on.stood in
+            let agrees_m = agrees_m a b is_a is_b book seats agrees on.image base on.entry on.was on.seated on.kept on.stood in
+            let image_m = image_m a b is_a is_b book seats agrees on.image base on.entry on.was on.seated on.kept on.stood in
+            let stood_m = stood_m a b is_a is_b book seats agrees on.image base on.entry on.was on.seated on.kept on.stood in
+            let absent = absent_now a b is_a is_b book seats agrees on.image base on.entry on.was on.seated on.kept on.stood true moves in
+            let well = read_image after.honest b is_b reads in
+            let next = moves.carries.each t.2.base_now t.2.stood_now.as_sheet.stands.linked t.2.rests in
+            let deed = Move old.name (seat_of old.key to next.next) in
+            let acts : List Act = flushes own t.2.sheets ++ record { deed = deed; done = true } ∷ [] in
+            let left = seats_after deed true t.2.left in record {
+              acts = acts;
+              left = left;
+              after = Own (renamed_own (seat_on t.2.base_now mid) to next.next);
+              did = did_later book seats left acts a m.0 b m.2
+                  (did_move key old seated whole book seats m.0 agrees_m image_m base on.entry on.was on.seated on.kept stood_m to free.is_target true mid new f.words t.0 b t.2 nonce between after t.1 is_b absent moves.carries well);
+              shows = of_book next.next new (ap (λ (s : SessionState). s.broken) same ∙ t.2.whole_mid)
+                  (left_seat deed t.2.left new (ap (λ (s : SessionState). s.key) same ∙ t.2.key_is) (ap (λ (s : SessionState). s.name) same))
+                  (moved_kept key old seated whole book seats m.0 agrees_m image_m base on.entry on.was on.seated on.kept stood_m to free.is_target true mid new f.words t.0 b t.2 nonce between after t.1 is_b absent moves.carries well same)
+                  (ap Own (renamed_seat key old seated whole book seats m.0 agrees_m image_m base on.entry on.was on.seated on.kept stood_m to free.is_target true mid new f.words t.0 b t.2 nonce between after t.1 is_b absent moves.carries well same)) refl;
+              spares = spares_move key old seated whole book seats m.0 agrees_m image_m base on.entry on.was on.seated on.kept stood_m to free.is_target true mid new f.words t.0 b t.2 nonce between after t.1 is_b absent moves.carries well;
+              concerned = λ n among.
+                  both_concerned n (only_move key old seated whole book seats m.0 agrees_m image_m base on.entry on.was on.seated on.kept stood_m to free.is_target true mid new f.words t.0 b t.2 nonce between after t.1 is_b absent moves.carries well n among);
+              turn = λ _.
+                  accepted (passes base more) (record { host = refl; random = refl })
+                  (moved_line k to own (seat_on t.2.base_now mid) f.words (f.drawn.first ∷ f.drawn.second ∷ []) t.2.sheets next.next t.2.first
+                      (seals_moved key old seated whole book seats m.0 agrees_m image_m base on.entry on.was on.seated on.kept stood_m to free.is_target true mid new f.words t.0 b t.2 nonce between after t.1 is_b absent moves.carries well
+                      f.drawn.first f.drawn.second f.drawn.is) refl);
+            });
+      }
+
+    by_case : (result : Result (Unit {0}) MoveFault) → UndamagedMove result old before → MoveGoes result to old new before after random random' → SeatBooked key false line (move_reply result) (Some old) (Some new) before after random random'
+    by_case result undamaged (misnamed bad same stays words said) = subst (λ (r : Result (Unit {0}) MoveFault). SeatBooked key false line (move_reply r) (Some old) (Some new) before after random random') (sym said) (misnamed_under bad same stays words)
+    by_case result undamaged (no_memory good same stays words said) = subst (λ (r : Result (Unit {0}) MoveFault). SeatBooked key false line (move_reply r) (Some old) (Some new) before after random random') (sym said) tt
+    by_case result undamaged (look_up_failed good fails same words said) =
+        subst (λ (r : Result (Unit {0}) MoveFault). SeatBooked key false line (move_reply r) (Some old) (Some new) before after random random') (sym said)
+        (idle replies.HostFault [] [] true false same fails.disk fails.asked.asked.told (none_taken_now words) fails.asked.asked.faults (ap (λ (w : WordsState). w.faults) words)
+        (λ standing base. host_failed (record { host = refl; random = refl }) (not_looked_up k to (seat_on base old) refl) refl))
+    by_case result undamaged (was_there size good looks same words said) = subst (λ (r : Result (Unit {0}) MoveFault). SeatBooked key false line (move_reply r) (Some old) (Some new) before after random random') (sym said) (looks_under size good looks same words)
+    by_case result undamaged (no_words free fewer same said) =
+        subst (λ (r : Result (Unit {0}) MoveFault). SeatBooked key false line (move_reply r) (Some old) (Some new) before after random random') (sym said)
+        (idle replies.WordsFault (LengthWas to None ∷ []) fewer.words false true same free.looks.disk free.looks.asked.asked.told fewer.told free.looks.asked.asked.faults fewer.once
+        (λ standing base. words_failed (record { host = refl; random = refl }) (no_move k to (seat_on base old)) refl))
+    by_case result undamaged (not_flushed start fault free fails said) =
+        subst (λ (r : Result (Unit {0}) MoveFault). SeatBooked key false line (move_reply r) (Some old) (Some new) before after random random') (sym said)
+        (unflushed start fault free fails (seal_ends old seated.of_script new start after random fails.between (Err fault) fails.sealed fails.keys fails.came fails.goes))
+    by_case result undamaged (not_moved start between mid nonce fault free first carry moves same said) =
+        subst (λ (r : Result (Unit {0}) MoveFault). SeatBooked key false line (move_reply r) (Some old) (Some new) before after random random') (sym said)
+        (uncarried start between mid nonce free first fault (carry_blamed fault to nonce mid between after carry) moves same (subst (λ (r : Result (Unit {0}) MoveFault). UndamagedMove r old before) said undamaged))
+    by_case result undamaged (moved start between mid nonce free first carry moves same said) =
+        subst (λ (r : Result (Unit {0}) MoveFault). SeatBooked key false line (move_reply r) (Some old) (Some new) before after random random') (sym said)
+        (carried start between mid nonce free first _ carry.asked.told carry.asked.faults moves same)
+
+pub move_under : (key : List ℕ) (k : ℕ) (to : Name) (old new : SessionState) (result : Result (Unit {0}) MoveFault) (before after : HostState) (random random' : WordsState) → IsSeated key old → old.broken ≡ false
+    → MoveGoes result to old new before after random random' → AsideBoth old.name to before after → UndamagedMove result old before → ReadsAsImage after → SeatBooked key false (lines.Move k to) (move_reply result) (Some old) (Some new) before after random random'
+move_under key k to old new result before after random random' seated whole goes aside undamaged reads =
+    by_case key k to old seated whole new before after random random' (move_keeps old seated.of_script whole to result new before after random random' goes aside reads) aside reads result undamaged goes
