@@ -109,7 +109,7 @@ def test_session_answers_line_by_line():
     with subprocess.Popen(SESSION, stdin=subprocess.PIPE, stdout=subprocess.PIPE, bufsize=0) as session:
         for line, reply in script:
             session.stdin.write(line)
-            same(session.stdout.read(len(reply)), reply, line)
+            same(session.stdout.readline(), reply, line)
         session.stdin.close()
         same(session.stdout.read(), b"end\n", "end")
         same(session.wait(60), 0, "status")

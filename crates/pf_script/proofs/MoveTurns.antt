@@ -68,7 +68,7 @@ module _ (key : List ℕ) (k : ℕ) (to : Name) (old : SessionState) (seated : I
       (λ a b is is2 p.
       own_under key false line seen reply old whole (Some new) a b
       (keeps_more (Covers old) (Covers new) (λ name. (name ≡ to) ⊎ (name ≡ old.name)) (Concerns false line (Some old)) a b both_concerned
-          (at_both (KeepsUnder (Covers old) (Covers new) (λ name. (name ≡ to) ⊎ (name ≡ old.name))) before.honest after.honest a b is is2 keeps))
+      (at_both (KeepsUnder (Covers old) (Covers new) (λ name. (name ≡ to) ⊎ (name ≡ old.name))) before.honest after.honest a b is is2 keeps))
       (known a b is is2 p))
 
   -- nothing was changed
@@ -159,8 +159,8 @@ module _ (key : List ℕ) (k : ℕ) (to : Name) (old : SessionState) (seated : I
                 after = Own (broken_seat own);
                 did = did_later book seats (seats_after (Flush (seat_of old.key old.name next.0)) false seats) acts a m.0 b m.2
                     (flush_did book seats false old.key old.name base next.0 m.0 b on.entry seated.of_script.is_target (at_both (Ran (LeavesApart old.name) (KeepsApart old.name)) start.honest after.honest m.0 b m.1 is_b fails.aside)
-                        (read_image after.honest b is_b reads) on.was on.seated
-                        (record { path_is = next.1.next.path_is; sealed = at_both (Where (Stood old.key old.name base) (Ran (AsEither old.key old.name base next.0) (StoodIf false old.key old.name next.0))) start.honest after.honest m.0 b m.1 is_b next.2 }));
+                    (read_image after.honest b is_b reads) on.was on.seated
+                    (record { path_is = next.1.next.path_is; sealed = at_both (Where (Stood old.key old.name base) (Ran (AsEither old.key old.name base next.0) (StoodIf false old.key old.name next.0))) start.honest after.honest m.0 b m.1 is_b next.2 }));
                 shows = other_file (broken_seat own) new (inl broken) (sym key_is) (sym name_is) (sym broken) refl refl;
                 spares = one_spares seats (Flush (seat_of old.key old.name next.0)) false;
                 concerned = one_concerned false line old false next.0;
@@ -257,9 +257,9 @@ module _ (key : List ℕ) (k : ℕ) (to : Name) (old : SessionState) (seated : I
                       both_concerned n (only_move key old seated whole book seats m.0 agrees_m image_m base on.entry on.was on.seated on.kept stood_m to free.is_target false mid new f.words t.0 b t.2 nonce between after t.1 is_b absent moves.carries well n among);
                   turn = λ _. fault_turn _ own (all_given by.these) all_words by.blame acts (Own (broken_seat (seat_on t.2.base_now mid)))
                       (not_moved_line k to own (seat_on t.2.base_now mid) f.words (f.drawn.first ∷ f.drawn.second ∷ []) t.2.sheets next.next by.blame t.2.first
-                          (seals_moved key old seated whole book seats m.0 agrees_m image_m base on.entry on.was on.seated on.kept stood_m to free.is_target false mid new f.words t.0 b t.2 nonce between after t.1 is_b absent moves.carries well
-                          f.drawn.first f.drawn.second f.drawn.is) refl
-                          (short_more (LengthWas to None ∷ []) (f.these ++ by.these) old.name by.blame (short_more f.these by.these old.name by.blame (subst (λ (n : Name). BlamesFlush n by.these by.blame) t.2.name_is by.blames))));
+                      (seals_moved key old seated whole book seats m.0 agrees_m image_m base on.entry on.was on.seated on.kept stood_m to free.is_target false mid new f.words t.0 b t.2 nonce between after t.1 is_b absent moves.carries well
+                      f.drawn.first f.drawn.second f.drawn.is) refl
+                      (short_more (LengthWas to None ∷ []) (f.these ++ by.these) old.name by.blame (short_more f.these by.these old.name by.blame (subst (λ (n : Name). BlamesFlush n by.these by.blame) t.2.name_is by.blames))));
                 });
           }))
 
@@ -298,8 +298,8 @@ module _ (key : List ℕ) (k : ℕ) (to : Name) (old : SessionState) (seated : I
               turn = λ _.
                   accepted (passes base more) (record { host = refl; random = refl })
                   (moved_line k to own (seat_on t.2.base_now mid) f.words (f.drawn.first ∷ f.drawn.second ∷ []) t.2.sheets next.next t.2.first
-                      (seals_moved key old seated whole book seats m.0 agrees_m image_m base on.entry on.was on.seated on.kept stood_m to free.is_target true mid new f.words t.0 b t.2 nonce between after t.1 is_b absent moves.carries well
-                      f.drawn.first f.drawn.second f.drawn.is) refl);
+                  (seals_moved key old seated whole book seats m.0 agrees_m image_m base on.entry on.was on.seated on.kept stood_m to free.is_target true mid new f.words t.0 b t.2 nonce between after t.1 is_b absent moves.carries well
+                  f.drawn.first f.drawn.second f.drawn.is) refl);
             });
       }
 

@@ -183,8 +183,7 @@ module _ (key : List ℕ) (old : SessionState) (seated : IsSeated key old) (whol
       moved_ran stood =
           subst (λ (k : List ℕ). Ran (λ disk. MovedAs k old.name known.base_now to on.next) (MovedIf done k old.name to on.next) t b) known.key_is
           (subst (λ (n : Name). Ran (λ disk. MovedAs mid.key n known.base_now to on.next) (MovedIf done mid.key n to on.next) t b) known.name_is
-          (at_both (Where (λ disk. Stood mid.key mid.name known.base_now disk × (disk to ≡ None)) (Ran (λ disk. MovedAs mid.key mid.name known.base_now to on.next) (MovedIf done mid.key mid.name to on.next))) between.honest after.honest t b is_t is_b on.moved
-          (
+          (at_both (Where (λ disk. Stood mid.key mid.name known.base_now disk × (disk to ≡ None)) (Ran (λ disk. MovedAs mid.key mid.name known.base_now to on.next) (MovedIf done mid.key mid.name to on.next))) between.honest after.honest t b is_t is_b on.moved (
             subst (λ (k : List ℕ). Stood k mid.name known.base_now t.now) (sym known.key_is) (subst (λ (n : Name). Stood old.key n known.base_now t.now) (sym known.name_is) stood),
             absent,
           )))
@@ -205,7 +204,7 @@ module _ (key : List ℕ) (old : SessionState) (seated : IsSeated key old) (whol
             reads = well;
           })
           (subst (λ (o : Option Entry). Owes known.left act.deed done o t b) (sym known.in_book)
-              (absent, (known.base_now, known.there_now, record { path_is = on.is_next.path_is; content_is = on.same_content; sealed = moved_ran }))))
+          (absent, (known.base_now, known.there_now, record { path_is = on.is_next.path_is; content_is = on.same_content; sealed = moved_ran }))))
 
       pub spares_move : SparesSeats (flushes own known.sheets ++ act ∷ []) seats left_now
       spares_move seat has apart =

@@ -1,4 +1,7 @@
 //! Scripts on a desk over a host in memory.
+ghost use Rattle.std.specs.Prelude.{◌<◌, IsTrue, IfSome};
+ghost use Rattle.pf_script.specs.Script.{seat_of_line};
+
 use pf_io::{ListWords, MemHost, MemSink, Memory};
 use pf_script::{Desk, LineFault, Reply, ScriptLine, Why, read_line, write_reply};
 use std::alloc::Global;
@@ -15,7 +18,9 @@ fn words_of(alloc: Global, count: u8) -> Result<ListWords, Fail> {
     Ok(random)
 }
 
-fn is_below(line: &ScriptLine) -> bool {
+fn is_below(line: &ScriptLine) -> bool
+    ensures { IsTrue result → IfSome (seat_of_line line.now) (λ seat. seat < 8) }
+{
     match line {
         ScriptLine::Blank => true,
         ScriptLine::Create { seat, .. }

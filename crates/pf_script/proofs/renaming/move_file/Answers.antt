@@ -40,9 +40,9 @@ returns-then-broken-clause-goes g c key k =
     let random = g.R.Words.state c.args.random.now in
     at_some key c.args.taken (lines.Move k c.args.name.now) (Ok (replies.Refused whys.Broken)) c.args.seat.now s (Some s) before before random random c.in-Some.is
     (λ seated. refused_goes key c.args.taken (lines.Move k c.args.name.now) whys.Broken (Some s) before random
-        (λ sealed seat shows.
-        let shown = shows_some sealed seat s shows in
-        first_broken (move_rest c.args.taken c.args.name.now) seat shown.shown shown.seat_is (shown.broken_is ∙ sym c.broken.ensures ∙ c.if-broken.true)) seated)
+    (λ sealed seat shows.
+    let shown = shows_some sealed seat s shows in
+    first_broken (move_rest c.args.taken c.args.name.now) seat shown.shown shown.seat_is (shown.broken_is ∙ sym c.broken.ensures ∙ c.if-broken.true)) seated)
 
 pub returns-then-taken-clause-goes : goal.returns-then-taken-clause-goes
 returns-then-taken-clause-goes g c key k =
@@ -51,9 +51,9 @@ returns-then-taken-clause-goes g c key k =
     let random = g.R.Words.state c.args.random.now in
     at_some key c.args.taken (lines.Move k c.args.name.now) (Ok (replies.Refused whys.NameBusy)) c.args.seat.now s (Some s) before before random random c.in-Some.is
     (λ seated. refused_goes key c.args.taken (lines.Move k c.args.name.now) whys.NameBusy (Some s) before random
-        (λ sealed seat shows.
-        let shown = shows_some sealed seat s shows in
-        first_then (move_rest c.args.taken c.args.name.now) whys.NameBusy seat shown.shown shown.seat_is (shown.broken_is ∙ sym c.broken.ensures ∙ c.if-broken.false) (inl (refl, c.if-taken.true))) seated)
+    (λ sealed seat shows.
+    let shown = shows_some sealed seat s shows in
+    first_then (move_rest c.args.taken c.args.name.now) whys.NameBusy seat shown.shown shown.seat_is (shown.broken_is ∙ sym c.broken.ensures ∙ c.if-broken.false) (inl (refl, c.if-taken.true))) seated)
 
 pub returns-clause-goes : goal.returns-clause-goes
 returns-clause-goes g c key k =
@@ -65,9 +65,9 @@ returns-clause-goes g c key k =
     let line = lines.Move k c.args.name.now in
     at_some key c.args.taken line c.move_reply.result c.args.seat.now s (Some c.move_to-moved.new.self) before after random random2 c.in-Some.is
     (λ seated. subst (λ (r : Result Reply Memory). SeatGoes key c.args.taken line r (Some s) (Some c.move_to-moved.new.self) before after random random2) (sym c.move_reply.ensures)
-        (subst (λ (taken : Bool). SeatGoes key taken line (move_reply c.move_to-moved.result) (Some s) (Some c.move_to-moved.new.self) before after random random2) (sym c.if-taken.false)
-        (move_goes key k c.args.name.now s c.move_to-moved.new.self c.move_to-moved.result before after random random2 seated (sym c.broken.ensures ∙ c.if-broken.false)
-            c.move_to-moved.ensures.goes c.move_to-moved.ensures.aside (g.met.H.Host.reads_as_image c.move_to-moved.new.host))))
+    (subst (λ (taken : Bool). SeatGoes key taken line (move_reply c.move_to-moved.result) (Some s) (Some c.move_to-moved.new.self) before after random random2) (sym c.if-taken.false)
+    (move_goes key k c.args.name.now s c.move_to-moved.new.self c.move_to-moved.result before after random random2 seated (sym c.broken.ensures ∙ c.if-broken.false)
+    c.move_to-moved.ensures.goes c.move_to-moved.ensures.aside (g.met.H.Host.reads_as_image c.move_to-moved.new.host))))
 
 pub returns-in_default-clause-booked : goal.returns-in_default-clause-booked
 returns-in_default-clause-booked g c key k seated =
@@ -81,7 +81,7 @@ returns-then-broken-clause-booked g c key k seated =
     let random = g.R.Words.state c.args.random.now in
     some_booked key c.args.taken (lines.Move k c.args.name.now) (Ok (replies.Refused whys.Broken)) c.args.seat.now s (Some s) before before random random c.in-Some.is
     (refused_agrees key c.args.taken (lines.Move k c.args.name.now) whys.Broken (Some s) before random
-        (λ seat looks. first_broken (move_rest c.args.taken c.args.name.now) seat looks.shown looks.seat_is (looks.broken_is ∙ sym c.broken.ensures ∙ c.if-broken.true)))
+    (λ seat looks. first_broken (move_rest c.args.taken c.args.name.now) seat looks.shown looks.seat_is (looks.broken_is ∙ sym c.broken.ensures ∙ c.if-broken.true)))
 
 pub returns-then-taken-clause-booked : goal.returns-then-taken-clause-booked
 returns-then-taken-clause-booked g c key k seated =
@@ -90,8 +90,8 @@ returns-then-taken-clause-booked g c key k seated =
     let random = g.R.Words.state c.args.random.now in
     some_booked key c.args.taken (lines.Move k c.args.name.now) (Ok (replies.Refused whys.NameBusy)) c.args.seat.now s (Some s) before before random random c.in-Some.is
     (refused_agrees key c.args.taken (lines.Move k c.args.name.now) whys.NameBusy (Some s) before random
-        (λ seat looks.
-        first_then (move_rest c.args.taken c.args.name.now) whys.NameBusy seat looks.shown looks.seat_is (looks.broken_is ∙ sym c.broken.ensures ∙ c.if-broken.false) (inl (refl, c.if-taken.true))))
+    (λ seat looks.
+    first_then (move_rest c.args.taken c.args.name.now) whys.NameBusy seat looks.shown looks.seat_is (looks.broken_is ∙ sym c.broken.ensures ∙ c.if-broken.false) (inl (refl, c.if-taken.true))))
 
 pub returns-clause-booked : goal.returns-clause-booked
 returns-clause-booked g c key k seated =
@@ -103,6 +103,6 @@ returns-clause-booked g c key k seated =
     let line = lines.Move k c.args.name.now in
     some_booked key c.args.taken line c.move_reply.result c.args.seat.now s (Some c.move_to-moved.new.self) before after random random2 c.in-Some.is
     (subst (λ (r : Result Reply Memory). SeatBooked key c.args.taken line r (Some s) (Some c.move_to-moved.new.self) before after random random2) (sym c.move_reply.ensures)
-        (subst (λ (taken : Bool). SeatBooked key taken line (move_reply c.move_to-moved.result) (Some s) (Some c.move_to-moved.new.self) before after random random2) (sym c.if-taken.false)
-        (move_under key k c.args.name.now s c.move_to-moved.new.self c.move_to-moved.result before after random random2 (subst (λ (o : Option SessionState). IsSeatOf key o) c.in-Some.is seated) (sym c.broken.ensures ∙ c.if-broken.false)
-            c.move_to-moved.ensures.goes c.move_to-moved.ensures.aside c.move_to-moved.ensures.undamaged (g.met.H.Host.reads_as_image c.move_to-moved.new.host))))
+    (subst (λ (taken : Bool). SeatBooked key taken line (move_reply c.move_to-moved.result) (Some s) (Some c.move_to-moved.new.self) before after random random2) (sym c.if-taken.false)
+    (move_under key k c.args.name.now s c.move_to-moved.new.self c.move_to-moved.result before after random random2 (subst (λ (o : Option SessionState). IsSeatOf key o) c.in-Some.is seated) (sym c.broken.ensures ∙ c.if-broken.false)
+    c.move_to-moved.ensures.goes c.move_to-moved.ensures.aside c.move_to-moved.ensures.undamaged (g.met.H.Host.reads_as_image c.move_to-moved.new.host))))
