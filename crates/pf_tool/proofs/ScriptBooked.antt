@@ -1,20 +1,16 @@
 -- What a session does under a book with which it may begin.
-use Rattle.std.proofs.Common.{◌≡◌, ◌⊎◌, inl, inr, ℕ, Bool, true, false, List, [], ◌∷◌, ◌++◌, map, refl, sym, ◌∙◌, ap, subst, Option, Some, None, Result, Ok, Err}
+use Rattle.std.proofs.Common.{◌≡◌, inl, inr, ℕ, true, false, List, [], refl, sym, ◌∙◌, ap, subst, Option, Some, None}
 use Rattle.std.specs.Prelude.{Contains, IfSome}
-use Rattle.std.specs.List.{flat_map}
-use Rattle.std.proofs.lemmas.List.{append-nil}
 use Rattle.pf_io.specs.Disk.{Disk, IsImage, reading}
 use Rattle.pf_io.specs.Host.{HostState, Both, ReadsAsImage}
-use Rattle.pf_io.specs.Moments.{Honest, LeavesOnly}
+use Rattle.pf_io.specs.Moments.{Honest}
 use Rattle.pf_io.specs.Unchanged.{KeepsDisk}
 use Rattle.node_tree.specs.Sheet.{Sheet}
 use Rattle.pf_session.specs.Moving.{IsKeptOn}
 use Rattle.pf_session.specs.State.{SessionState}
-use Rattle.pf_script.specs.Book.{Book, Entry, Seal, ImageFits, Agrees}
-use Rattle.pf_script.specs.BookActs.{FitsDuring, booked_all}
+use Rattle.pf_script.specs.Book.{Book, Seal, Agrees}
 use Rattle.pf_script.specs.BookDebts.{Unchanged, seat_of}
 use Rattle.pf_script.specs.BookLaws.{StartsWith}
-use Rattle.pf_script.specs.BookRuns.{FollowsUnder}
 use Rattle.pf_script.specs.BookSeats.{Covers, KeepsUnder}
 use Rattle.pf_script.specs.BookTurns.{ShowsUnder, no_file, of_book, other_file, IsStateUnder}
 use Rattle.pf_script.specs.Desk.{DeskState, session_at}
@@ -27,7 +23,7 @@ use Rattle.pf_script.proofs.BookRunning.{IsUnder, under_as}
 use Rattle.pf_script.proofs.Composing.{all_agrees, all_leaves}
 use Rattle.pf_script.proofs.Starting.{starts}
 use Rattle.pf_tool.specs.BookScripts.{StopsUnder, RunsUnder}
-use Rattle.pf_tool.specs.Scripting.{At, begins, KeyRead}
+use Rattle.pf_tool.specs.Scripting.{At, begins}
 use Rattle.pf_tool.specs.Transcripts.{empty_seats}
 use Rattle.pf_tool.specs.World.{World}
 use Rattle.pf_tool.proofs.ScriptContent.{same_all}

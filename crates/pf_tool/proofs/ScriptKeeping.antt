@@ -1,10 +1,10 @@
 -- What a whole session does under a book with which it may begin.
-use Rattle.std.proofs.Common.{◌≡◌, ◌⊎◌, inl, inr, ⊎_elim, ℕ, Bool, true, false, List, [], ◌∷◌, ◌++◌, map, refl, sym, ◌∙◌, ap, subst, append_assoc, Option, Some, None, Result, Ok, Err}
+use Rattle.std.proofs.Common.{◌≡◌, ◌⊎◌, inl, inr, ⊎_elim, ℕ, Bool, true, false, List, [], ◌∷◌, ◌++◌, map, refl, sym, ◌∙◌, ap, subst, append_assoc, Option, Some, Result, Err}
 use Rattle.std.specs.Prelude.{IfSome}
 use Rattle.std.specs.List.{flat_map}
 use Rattle.std.proofs.lemmas.List.{append-nil}
 use Rattle.pf_io.specs.Disk.{Name, IsImage, reading}
-use Rattle.pf_io.specs.Host.{HostState, Both, OnDisk, ReadsAsImage}
+use Rattle.pf_io.specs.Host.{Both, OnDisk, ReadsAsImage}
 use Rattle.pf_io.specs.Lines.{lines_of}
 use Rattle.pf_io.specs.Moments.{Honest}
 use Rattle.pf_io.specs.Streams.{SourceState, SinkState, TakesFront}
@@ -24,8 +24,8 @@ use Rattle.pf_script.specs.Words.{SEATS}
 use Rattle.pf_tool.specs.BookScripts.{StopsUnder, KeepsScript, no_script, script}
 use Rattle.pf_tool.specs.Outcomes.{SaysScript}
 use Rattle.pf_tool.specs.Replying.{spoken_text, closed_text, first_of, end_text}
-use Rattle.pf_tool.specs.Reports.{WroteAll, SinkFailed}
-use Rattle.pf_tool.specs.Scripting.{At, begins, ScriptGoes, no_key, no_reader, no_line, no_closing, no_end, done, AllLines, LineStops, not_read, not_answered, not_said, KeyRead, ScriptRead, Closings}
+use Rattle.pf_tool.specs.Reports.{WroteAll}
+use Rattle.pf_tool.specs.Scripting.{At, begins, ScriptGoes, no_key, no_reader, no_line, no_closing, no_end, done, AllLines, LineStops, not_read, not_answered, not_said, KeyRead, Closings}
 use Rattle.pf_tool.specs.Transcripts.{Item, Transcript, exchange_of, exchanges_of, item_text, item_status, text_of, status_of, AnswerEach, AnswersFirst, IsStarved, PutOut, whole, cut_off}
 use Rattle.pf_tool.specs.World.{World, with_log}
 use Rattle.pf_tool.specs.declared.fault.Fault.{Fault}

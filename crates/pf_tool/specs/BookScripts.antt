@@ -1,5 +1,5 @@
 -- What a session does to an honest disk, under a book with which it may begin.
-use Rattle.std.specs.Prelude.{◌≡◌, ◌⊎◌, ℕ, List, [], Option, Some, IfSome}
+use Rattle.std.specs.Prelude.{◌≡◌, ◌⊎◌, ℕ, List, [], IfSome}
 use Rattle.pf_io.specs.Moments.{Honest, LeavesOnly}
 use Rattle.pf_script.specs.Book.{Book, Seal, ImageFits, Agrees}
 use Rattle.pf_script.specs.BookActs.{Act, booked_all, FitsDuring}
