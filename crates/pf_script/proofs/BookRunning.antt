@@ -1,19 +1,19 @@
 -- Exchanges under a book, one after the other.
-use Rattle.std.proofs.Common.{◌≡◌, List, [], ◌∷◌, ◌++◌, refl, subst, Option, Some, None, Result, Ok}
+use Rattle.std.proofs.Common.{◌≡◌, List, [], ◌∷◌, ◌++◌, refl, subst, Option, Some, None}
 use Rattle.pf_io.specs.Disk.{IsImage, reading}
 use Rattle.pf_io.specs.Host.{HostState, Both, ReadsAsImage}
 use Rattle.pf_io.specs.Moments.{Honest}
 use Rattle.pf_io.specs.Words.{WordsState}
 use Rattle.pf_script.specs.Book.{Book, Seal, Agrees}
 use Rattle.pf_script.specs.BookActs.{booked_all}
-use Rattle.pf_script.specs.BookRuns.{ActsIn, FollowsUnder}
+use Rattle.pf_script.specs.BookRuns.{FollowsUnder}
 use Rattle.pf_script.specs.BookTurns.{IsStateUnder, DeskUnder, DeskAgrees}
 use Rattle.pf_script.specs.Desk.{DeskState}
 use Rattle.pf_script.specs.Script.{ScriptState}
 use Rattle.pf_script.specs.ScriptRuns.{Exchange}
 use Rattle.pf_script.specs.declared.line.ScriptLine.{ScriptLine}
 use Rattle.pf_script.specs.declared.reply.Reply.{Reply}
-use Rattle.pf_script.proofs.CallKeeping.{at_both, read_image}
+use Rattle.pf_script.proofs.CallKeeping.{read_image}
 use Rattle.pf_script.proofs.Composing.{all_agrees, all_leaves}
 
 pub under_as : {E F : Book → ScriptState → Honest → Type 0} (book : Book) (state : ScriptState) (xs : List Exchange) (disk : Honest) → ((b : Book) (s : ScriptState) (d : Honest) → E b s d → F b s d) → FollowsUnder book state xs disk E → FollowsUnder book state xs disk F

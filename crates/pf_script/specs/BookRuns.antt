@@ -1,8 +1,8 @@
 -- A run of a script under a book, on an honest disk.
-use Rattle.std.specs.Prelude.{◌≡◌, List, [], ◌∷◌}
+use Rattle.std.specs.Prelude.{List, [], ◌∷◌}
 use Rattle.pf_io.specs.Disk.{reading}
 use Rattle.pf_io.specs.Moments.{Honest, LeavesOnly}
-use Rattle.pf_script.specs.Book.{Book, Seal, ImageFits, Agrees}
+use Rattle.pf_script.specs.Book.{Book, Seal, Agrees}
 use Rattle.pf_script.specs.BookActs.{Act, booked_all, FitsDuring}
 use Rattle.pf_script.specs.BookTurns.{stands_on, KnowsLine}
 use Rattle.pf_script.specs.Script.{ScriptState}

@@ -35,12 +35,12 @@ stops_idle starved desk host after book state d b is at_end same =
     let e : Some d ≡ Some b = sym is.is_disk ∙ ap (λ (h : HostState). h.honest) (sym same) ∙ at_end in
     let one : d ≡ b = cc in
     subst (λ (z : Honest). StopsUnder starved book state d z) one (record {
-          acts = [];
-          left = is.seats;
-          leaves = all_leaves book is.seats [] is.seats d d is.agrees is.image (unchanged_now d, λ seat has. has);
-          agrees = is.agrees;
-          none = inl refl;
-        })
+      acts = [];
+      left = is.seats;
+      leaves = all_leaves book is.seats [] is.seats d d is.agrees is.image (unchanged_now d, λ seat has. has);
+      agrees = is.agrees;
+      none = inl refl;
+    })
 
 -- the seats of a state under a book are covered by it
 covered : (desk : DeskState) (book : Book) (seats : List Seal) (state : ScriptState) → IsStateUnder book seats state desk → CoversDesk desk book seats

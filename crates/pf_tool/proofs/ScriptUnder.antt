@@ -56,20 +56,21 @@ line_under reply old new answered = by_next answered.next reply answered.reads a
   where
     too_long : (bytes : List ℕ) → LONGEST_LINE < length bytes → (line : ScriptLine) → ¬ (IsScriptLine bytes line)
     too_long bytes long line is = let short = is.not_long in omega (arith, long, short)
+
     by_next : (next : NextLine) (reply : Option Reply) → Reads (Ok next) old new → NextAnswered next new.reader.line reply old new → LineUnder reply old new
     by_next nexts.End reply reads answers = absurd answers
     by_next nexts.TooLong reply reads answers =
         let read = read_settled nexts.TooLong old new (λ e. absurd (cc)) reads in
         subst (λ (r : Option Reply). LineUnder r old new) (sym answers.0) (record {
-              item = NoLine;
-              reads = both_weaker (λ b n. GoesOn (Ok nexts.TooLong) (lines_of (old.reader.pending ++ b)) new.reader (lines_of (new.reader.pending ++ n)))
-                  (λ b n. (bytes : List ℕ) × (lines_of (old.reader.pending ++ b) ≡ bytes ∷ lines_of (new.reader.pending ++ n)) × AnswersBytes bytes NoLine) old.world.input.left new.world.input.left read.1
-                  (λ b n goes. (goes.0, goes.2, too_long goes.0 goes.1));
-              text_is = refl;
-              status_is = refl;
-              settled = read.0;
-              under = idle_under old new answers.1;
-            })
+          item = NoLine;
+          reads = both_weaker (λ b n. GoesOn (Ok nexts.TooLong) (lines_of (old.reader.pending ++ b)) new.reader (lines_of (new.reader.pending ++ n)))
+              (λ b n. (bytes : List ℕ) × (lines_of (old.reader.pending ++ b) ≡ bytes ∷ lines_of (new.reader.pending ++ n)) × AnswersBytes bytes NoLine) old.world.input.left new.world.input.left read.1
+              (λ b n goes. (goes.0, goes.2, too_long goes.0 goes.1));
+          text_is = refl;
+          status_is = refl;
+          settled = read.0;
+          under = idle_under old new answers.1;
+        })
     by_next nexts.Whole None reads answers =
         let read = read_settled nexts.Whole old new (λ e. absurd (cc)) reads in
         record {
@@ -105,9 +106,10 @@ lines_more items start mid now reply reads under one = (
       (λ before left. (first : List (List ℕ)) × (lines_of (start.reader.pending ++ before) ≡ first ++ lines_of (now.reader.pending ++ left)) × AnswerEach first (items ++ one.item ∷ []))
       start.world.input.left mid.world.input.left now.world.input.left reads one.reads
       (λ a b c first next. (
-      first.0 ++ next.0 ∷ [],
-      first.1 ∙ ap (λ (l : List (List ℕ)). first.0 ++ l) next.1 ∙ sym (append_assoc first.0 (next.0 ∷ []) (lines_of (now.reader.pending ++ c))),
-      each_on first.0 items next.0 one.item first.2 next.2)),
+        first.0 ++ next.0 ∷ [],
+        first.1 ∙ ap (λ (l : List (List ℕ)). first.0 ++ l) next.1 ∙ sym (append_assoc first.0 (next.0 ∷ []) (lines_of (now.reader.pending ++ c))),
+        each_on first.0 items next.0 one.item first.2 next.2,
+      )),
   subst (λ (l : List Exchange). Under l start now) (sym (items_on items one.item)) (then_under (flat_map exchange_of items) (exchange_of one.item) start mid now under one.under),
 )
 
@@ -122,13 +124,13 @@ pub record LinesUnder (start : At) (status : ℕ) (now : At) : Type 0 where
 
 pub lines_under : (start : At) (status : ℕ) (now : At) → start.reader.stage ≡ stages.Open → Lines start status now → LinesUnder start status now
 lines_under start status now ready (none_yet _ _ zero_is same) = subst (λ (n : At). LinesUnder start status n) (sym same) (record {
-      items = [];
-      reads = both_same (λ before left. (first : List (List ℕ)) × (lines_of (start.reader.pending ++ before) ≡ first ++ lines_of (start.reader.pending ++ left)) × AnswerEach first []) start.world.input.left start.world.input.left refl (λ bytes. ([], refl, tt));
-      settled = inl ready;
-      under = λ book state disk is. is;
-      said = wrote_nothing start.world.out start.world.out refl;
-      status_is = zero_is;
-    })
+  items = [];
+  reads = both_same (λ before left. (first : List (List ℕ)) × (lines_of (start.reader.pending ++ before) ≡ first ++ lines_of (start.reader.pending ++ left)) × AnswerEach first []) start.world.input.left start.world.input.left refl (λ bytes. ([], refl, tt));
+  settled = inl ready;
+  under = λ book state disk is. is;
+  said = wrote_nothing start.world.out start.world.out refl;
+  status_is = zero_is;
+})
 lines_under start status now ready (one_more earlier _ reply mid _ so_far goes is) =
     let old = lines_under start earlier mid ready so_far in
     let one = line_under reply mid now goes.answered in
