@@ -6,8 +6,6 @@ mod laws;
 mod place;
 mod resolving;
 mod seeking;
-#[cfg(test)]
-mod tests;
 mod verdict;
 
 pub use laws::{

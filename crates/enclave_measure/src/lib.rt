@@ -12,8 +12,6 @@ mod lines;
 mod page;
 mod reading;
 mod records;
-#[cfg(test)]
-mod tests;
 mod words;
 
 pub use enclave::measure;

@@ -12,8 +12,6 @@ mod mounting;
 mod names;
 mod places;
 mod summing;
-#[cfg(test)]
-mod tests;
 mod trusting;
 mod walk;
 

@@ -4,8 +4,6 @@
 mod change;
 mod clearing;
 mod copying;
-#[cfg(test)]
-mod edit_tests;
 pub mod examples;
 mod fault;
 mod flushing;
@@ -16,8 +14,6 @@ mod numbers;
 mod putting;
 mod sealing;
 mod stepping;
-#[cfg(test)]
-mod tests;
 mod tree;
 
 pub use fault::TreeFault;

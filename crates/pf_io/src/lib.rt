@@ -45,10 +45,3 @@ pub use streams::{Sink, Source};
 pub use tear::Tear;
 pub use text::{Bytes, Text};
 pub use words::Words;
-
-#[cfg(test)]
-mod crash_tests;
-#[cfg(test)]
-mod disk_tests;
-#[cfg(test)]
-mod tests;

@@ -9,8 +9,6 @@ mod marks;
 mod names;
 mod pieces;
 mod rendering;
-#[cfg(test)]
-mod tests;
 mod values;
 
 pub use fault::RenderFault;

@@ -1,4 +1,4 @@
-use crate::{Layout, LayoutFault, MeasureFault, measure};
+use enclave_measure::{Layout, LayoutFault, MeasureFault, measure};
 use pf_io::MemHost;
 use std::alloc::Global;
 use std::test::Fail;

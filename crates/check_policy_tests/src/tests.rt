@@ -1,4 +1,4 @@
-use crate::{Place, ResolveFault, Verdict, decide, normal, resolve};
+use check_policy::{Place, ResolveFault, Verdict, decide, normal, resolve};
 use manifest_model::Manifest;
 use std::alloc::Global;
 use std::process::Abort;

@@ -1,8 +1,8 @@
-use crate::{RenderFault, is_value_name, render};
 use pf_io::Text;
 use std::alloc::Global;
 use std::process::Abort;
 use std::test::Fail;
+use template_text::{RenderFault, is_value_name, render};
 
 fn pairs(alloc: Global, values: &[(&str, &str)]) -> Result<Vec<(Text, Text)>, Fail> {
     let mut pairs = Vec::new(alloc);

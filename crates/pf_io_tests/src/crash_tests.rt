@@ -1,5 +1,5 @@
 // Crashes of a host in memory after each call of a script, tried with each tear.
-use crate::{Host, HostFault, MemHost, Tear, write_by_side_file};
+use pf_io::{Host, HostFault, MemHost, Tear, write_by_side_file};
 use std::alloc::Global;
 use std::test::Fail;
 

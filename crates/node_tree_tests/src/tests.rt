@@ -1,12 +1,12 @@
 //! Files of several sizes, sealed node by node, and read through their trees.
 ghost use Rattle.std.specs.Prelude.{◌≡◌, ◌≤◌, ◌^◌, length};
 
-use crate::{Tree, TreeFault};
 use aes_gcm::{Key, seal_in_place};
 use node_layout::{
     Damage, Kind, MetaPlain, MetaSecret, PathText, data_place, node_count, open_meta, parent_of,
     seal_meta, set_entry, slot_of,
 };
+use node_tree::{Tree, TreeFault};
 use pf_io::MemHost;
 use std::alloc::{AllocError, Global};
 use std::process::Abort;

@@ -4,8 +4,8 @@ ghost use Rattle.std.specs.Prelude.{◌≡◌, ◌≤◌, ◌^◌, length};
 use crate::tests::{
     NONCE, USER, content_byte, damaged, expect_pieces, expect_read, file_of, host_of, tree_of,
 };
-use crate::{Tree, resized_range};
 use node_layout::{Kind, PathText, data_place, parent_of, seal_meta};
+use node_tree::{Tree, resized_range};
 use pf_io::{Host, MemHost};
 use std::alloc::Global;
 use std::process::Abort;

@@ -1,5 +1,5 @@
 use crate::tests::opened;
-use crate::{
+use pf_io::{
     DeviceWords, DiskHost, Host, Sink, Source, StdSink, StdSource, StreamFault, Text, Words,
 };
 use std::alloc::Global;

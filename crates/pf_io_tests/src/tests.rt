@@ -1,4 +1,4 @@
-use crate::{
+use pf_io::{
     Bytes, Host, HostFault, ListWords, MemHost, MemSink, MemSource, Sink, Source, StreamFault,
     Text, Words, WordsFault, is_name, is_target, read_number,
 };

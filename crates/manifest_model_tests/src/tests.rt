@@ -1,4 +1,4 @@
-use crate::{Manifest, ManifestFault, Mount, MountKind, Policy, Trusted, normal_name};
+use manifest_model::{Manifest, ManifestFault, Mount, MountKind, Policy, Trusted, normal_name};
 use std::alloc::Global;
 use std::process::Abort;
 use std::test::Fail;
