@@ -16,7 +16,8 @@ use Rattle.pf_session.specs.declared.fault.FlushFault.{FlushFault}
 use Rattle.pf_script.specs.BookActs.{Flush}
 use Rattle.pf_script.specs.BookDebts.{seat_of}
 use Rattle.pf_script.specs.BookSeats.{Covers, CoversNone, KeepsUnder}
-use Rattle.pf_script.specs.BookTurns.{stands_on, no_file, SeatUnder, SeatAgrees}
+use Rattle.pf_script.specs.BookTurns.{no_file, SeatUnder, SeatAgrees}
+use Rattle.pf_script.specs.FileTurns.{stands_on}
 use Rattle.pf_script.specs.Desk.{IsSeated, seat_on}
 use Rattle.pf_script.specs.Script.{OwnSeat, Seat, Empty, Own}
 use Rattle.pf_script.specs.SeatReplies.{flush_reply}

@@ -14,7 +14,8 @@ use Rattle.pf_session.specs.declared.fault.FlushFault.{FlushFault}
 use Rattle.pf_script.specs.BookActs.{Flush}
 use Rattle.pf_script.specs.BookDebts.{seat_of}
 use Rattle.pf_script.specs.BookSeats.{Covers, KeepsUnder}
-use Rattle.pf_script.specs.BookTurns.{stands_on, ShowsUnder, of_book, other_file, SeatUnder, SeatAgrees, SeenIn}
+use Rattle.pf_script.specs.BookTurns.{ShowsUnder, of_book, other_file, SeatUnder, SeatAgrees, SeenIn}
+use Rattle.pf_script.specs.FileTurns.{stands_on}
 use Rattle.pf_script.specs.Desk.{IsSeated, seat_on}
 use Rattle.pf_script.specs.Script.{OwnSeat, Own}
 use Rattle.pf_script.specs.SeatReplies.{flush_reply}

@@ -14,7 +14,8 @@ use Rattle.pf_session.specs.State.{SessionState}
 use Rattle.pf_script.specs.Book.{Book, Seal, Agrees}
 use Rattle.pf_script.specs.BookDebts.{seat_of}
 use Rattle.pf_script.specs.BookSeats.{Covers, KeepsUnder}
-use Rattle.pf_script.specs.BookTurns.{stands_on, of_book, LineUnder, SeatBooked}
+use Rattle.pf_script.specs.BookTurns.{of_book, LineUnder, SeatBooked}
+use Rattle.pf_script.specs.FileTurns.{stands_on}
 use Rattle.pf_script.specs.Desk.{IsSeated, seat_on}
 use Rattle.pf_script.specs.Rules.{NoneRefuses, rules}
 use Rattle.pf_script.specs.Script.{Own}

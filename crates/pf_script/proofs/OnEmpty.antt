@@ -16,7 +16,8 @@ use Rattle.pf_script.specs.Book.{Book, Seal, Agrees}
 use Rattle.pf_script.specs.BookActs.{Act}
 use Rattle.pf_script.specs.BookDebts.{Unchanged}
 use Rattle.pf_script.specs.BookSeats.{CoversNone, KeepsUnder}
-use Rattle.pf_script.specs.BookTurns.{stands_on, no_file, LineUnder, SeatUnder, SeatBooked}
+use Rattle.pf_script.specs.BookTurns.{no_file, LineUnder, SeatUnder, SeatBooked}
+use Rattle.pf_script.specs.FileTurns.{stands_on}
 use Rattle.pf_script.specs.Desk.{IsSeatOf, Shows, no_file as no_file_now}
 use Rattle.pf_script.specs.DeskSteps.{Unfolds, SeatTurns, SeatAsks, CountsFault, CoversSome, Concerns, HasItsName, SeatGoes, TakesNone, is_host_fault, is_words_fault}
 use Rattle.pf_script.specs.Rules.{Rule, IsFirst, NoneRefuses, seating_rules}
@@ -114,7 +115,7 @@ module _ (key : List ℕ) (line : ScriptLine) (name : Name) (names : name_of_lin
     }
 
     -- want of memory
-    pub empty_wants : ¬ (TakesNone line) → new ≡ None → KeepsDisk before after → after.faults ≡ before.faults → random' ≡ random → WhereTold before after (λ given. Unit {0}) → SeatGoes key false line (Err (record {})) None new before after random random'
+    pub empty_wants : ¬ (TakesNone line) → new ≡ None → KeepsDisk before after → after.faults ≡ before.faults → random' ≡ random → WhereTold before after (λ given. Unit {0}) → SeatGoes key false line (Err (record { spares = ?;})) None new before after random random'
     empty_wants takes none disk calm same told = record {
       asks = tt;
       books = books;

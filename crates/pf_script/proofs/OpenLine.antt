@@ -38,7 +38,8 @@ use Rattle.pf_script.specs.Book.{Book, Entry, Seal, Agrees}
 use Rattle.pf_script.specs.BookActs.{Opening, Among, speaks}
 use Rattle.pf_script.specs.BookDebts.{Unchanged, seat_of}
 use Rattle.pf_script.specs.BookSeats.{CoversNone, CoversMade, KeepsUnder}
-use Rattle.pf_script.specs.BookTurns.{stands_on, of_book, Knows, LineUnder, SeatUnder}
+use Rattle.pf_script.specs.BookTurns.{of_book, Knows, LineUnder, SeatUnder}
+use Rattle.pf_script.specs.FileTurns.{stands_on}
 use Rattle.pf_script.specs.Desk.{IsSeated, Shows, whole_file, seat_on}
 use Rattle.pf_script.specs.DeskSteps.{CountsFault, Unfolds, then_more, in_the_end, SeatTurns, SeatAsks, Concerns, CoversSome}
 use Rattle.pf_script.specs.Rules.{IsFirst as IsFirstRule, NoneRefuses, opening_rules, other_version as other_version_rule}
@@ -296,7 +297,7 @@ module _ (key : List ℕ) (k : ℕ) (name : Name) (utf8 : IsUtf8 name) (before a
             by_entry (Some entry) was = by_speaks entry was (speaks key entry) refl
 
     is_accepted : Opens key name (Some name) before after (Ok session) → OpensOnFirst session before after → OnDisk before after (OpensEither session) → Halves (Ok (replies.Opened session.tree.size)) (Some session)
-    is_accepted goes first either = record {
+    is_accepted goes first either = record { spares = ?;
       goes = record {
         asks = told_these (λ came. (sheets : List Sheet) → Unforged key sheets came → OnFirst sheets session came) (λ given. SeatAsks key false line (replies.Opened session.tree.size) None (Some session) given before after words words) came before after told first
             (λ on. record { seen = seen; was_seen = record { answers = refl; words = none_taken words; of_host = calm; of_words = refl }; turns = turns on });

@@ -79,7 +79,7 @@ module _ (key : List ℕ) (taken : Bool) (line : ScriptLine) (old : SessionState
   -- memory was wanting
   pub goes_wanting : (fault : Memory) (new : SessionState) → SeatWants line (Some old) (Some new) before after random random' → OnDisk before after (KeepsUnder (Covers old) (Covers new) (λ name. name ≡ old.name)) → IsSeated key new → new.name ≡ old.name
       → after.faults ≡ before.faults → random'.faults ≡ random.faults → SeatGoes key taken line (Err fault) (Some old) (Some new) before after random random'
-  goes_wanting fault new wants books seated name_is on_host on_words = record {
+  goes_wanting fault new wants books seated name_is on_host on_words = record { spares = ?;
     asks = tt;
     books = books_on (Covers new) books;
     counts = (on_host, on_words);
@@ -92,12 +92,12 @@ module _ (key : List ℕ) (taken : Bool) (line : ScriptLine) (old : SessionState
     -- the session goes on
     pub goes_told : (new : SessionState) → WhereTold before after (λ given. SeatAsks key taken line reply (Some old) (Some new) given before after random random')
         → OnDisk before after (KeepsUnder (Covers old) (Covers new) (λ name. name ≡ old.name)) → IsSeated key new → new.name ≡ old.name → SeatGoes key taken line (Ok reply) (Some old) (Some new) before after random random'
-    goes_told new asks books seated name_is = record { asks = asks; books = books_on (Covers new) books; counts = counts; wants = tt; seated = seated; named = λ name has. inl (has ∙ name_is) }
+    goes_told new asks books seated name_is = record { spares = ?; asks = asks; books = books_on (Covers new) books; counts = counts; wants = tt; seated = seated; named = λ name has. inl (has ∙ name_is) }
 
     -- it is let go
     pub out_told : WhereTold before after (λ given. SeatAsks key taken line reply (Some old) None given before after random random')
         → OnDisk before after (KeepsUnder (Covers old) CoversNone (λ name. name ≡ old.name)) → SeatGoes key taken line (Ok reply) (Some old) None before after random random'
-    out_told asks books = record { asks = asks; books = books_on CoversNone books; counts = counts; wants = tt; seated = tt; named = λ name none. absurd none }
+    out_told asks books = record { spares = ?; asks = asks; books = books_on CoversNone books; counts = counts; wants = tt; seated = tt; named = λ name none. absurd none }
 
 module _ (key : List ℕ) (taken : Bool) (line : ScriptLine) (reply : Reply) (old : SessionState) (before after : HostState) (random random' : WordsState) (these : List Answer) (words : List (List ℕ)) (of_host of_words : Bool)
     (seen : SeenOf these words of_host of_words before after random random') (host_is : is_host_fault reply ≡ of_host) (words_is : is_words_fault reply ≡ of_words) where

@@ -18,7 +18,8 @@ use Rattle.pf_session.specs.declared.fault.SizeFault.{SizeFault}
 use Rattle.pf_script.specs.Book.{Book, Seal, Agrees}
 use Rattle.pf_script.specs.BookDebts.{seat_of}
 use Rattle.pf_script.specs.BookSeats.{IsOfScript, Covers, KeepsUnder}
-use Rattle.pf_script.specs.BookTurns.{stands_on, of_book, SeatBooked}
+use Rattle.pf_script.specs.BookTurns.{of_book, SeatBooked}
+use Rattle.pf_script.specs.FileTurns.{stands_on}
 use Rattle.pf_script.specs.Desk.{IsSeated, seat_on}
 use Rattle.pf_script.specs.DeskSteps.{CountsFault}
 use Rattle.pf_script.specs.Rules.{NoneRefuses, rules}

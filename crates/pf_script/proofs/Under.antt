@@ -79,7 +79,7 @@ module _ (key : List ℕ) (taken : Bool) (line : ScriptLine) (seen : Seen) (repl
   unknown_under before old new a b keeps book seats seat agrees reads covers unknown =
       let kept = keeps book seats agrees reads covers in
       let then = seat_after (booked_all kept.0 book) kept.1 new kept.3 in
-      record { acts = kept.0; left = kept.1; after = then.after; did = kept.2; shows = then.shows; spares = kept.4; concerned = kept.5; turn = λ knows. absurd (unknown knows) }
+      record { over = ?; acts = kept.0; left = kept.1; after = then.after; did = kept.2; shows = then.shows; spares = kept.4; concerned = kept.5; turn = λ knows. absurd (unknown knows) }
 
   -- a line on a whole session
   module _ (old : SessionState) (whole : old.broken ≡ false) (new : Option SessionState) (a b : Honest) where
@@ -177,7 +177,7 @@ refused_agrees key taken line why old host words first = record {
   seen = idle_seen;
   was_seen = record { answers = told_none host host refl; words = none_taken words; of_host = refl; of_words = refl };
   under = both_same (SeatUnder key taken line idle_seen (replies.Refused why) old old) host.honest host.honest refl
-      (λ a book seats seat agrees reads shows. record {
+      (λ a book seats seat agrees reads shows. record { over = ?;
         acts = [];
         left = seats;
         after = seat;

@@ -1,15 +1,13 @@
 -- What a line does under a book: the book goes on beside the state of the script.
 use Rattle.std.specs.Prelude.{⊤, ◌≡◌, ◌⊎◌, ℕ, Bool, true, false, List, length, Contains, Option, Some, None, IfSome, IsSome, IsSomeAnd, Result, Ok}
 use Rattle.node_tree.specs.Sheet.{Sheet}
-use Rattle.pf_io.specs.Disk.{Name, Files, IsImage, reading}
+use Rattle.pf_io.specs.Disk.{Name, IsImage, reading}
 use Rattle.pf_io.specs.Host.{HostState, Both, IsMore, OnDisk}
 use Rattle.pf_io.specs.Moments.{Honest}
-use Rattle.pf_io.specs.Names.{recovery_of}
 use Rattle.pf_io.specs.Words.{WordsState}
 use Rattle.pf_io.specs.declared.faults.Memory.{Memory}
 use Rattle.pf_session.specs.Asking.{IsTaken as AreTaken}
 use Rattle.pf_session.specs.Moving.{IsKeptOn}
-use Rattle.pf_session.specs.Reopening.{ReopensAs}
 use Rattle.pf_session.specs.State.{SessionState}
 use Rattle.pf_script.specs.Book.{Book, Seal, Agrees}
 use Rattle.pf_script.specs.BookActs.{Act, Among, booked_all, speaks}
@@ -18,16 +16,13 @@ use Rattle.pf_script.specs.BookSeats.{SparesSeats}
 use Rattle.pf_script.specs.Desk.{DeskState, session_at, seat_on}
 use Rattle.pf_script.specs.DeskSteps.{CountsFault, Concerns, WhereReplied}
 use Rattle.pf_script.specs.Script.{OwnSeat, Seat, Empty, Own, ScriptState, seat_at, seat_of_line}
-use Rattle.pf_script.specs.Turns.{Seen, Standing, SeatTurn, Turn}
+use Rattle.pf_script.specs.FileTurns.{stands_on, SeatOver, TurnOver}
+use Rattle.pf_script.specs.Turns.{Seen, Failed, SeatTurn, Turn}
 use Rattle.pf_script.specs.Words.{SEATS}
 use Rattle.pf_script.specs.declared.line.ScriptLine.{ScriptLine}
 use Rattle.pf_script.specs.declared.line.ScriptLine.TheVariants as lines
 use Rattle.pf_script.specs.declared.reply.Reply.{Reply}
 use Rattle.pf_script.specs.declared.reply.Reply.TheVariants as replies
-
--- An opening stands on the sheet as which the file, as it reads before the step, reopens.
-abbrev pub stands_on : List ℕ → Files → Standing
-stands_on key files name given sheet = ReopensAs key sheet (files name) (files (recovery_of name))
 
 -- A seat shows a session: one that is whole and on a name of the book stands on the sheet of one of the seats of the book. Of another one only key and name are known.
 pub data ShowsUnder (book : Book) (seats : List Seal) (seat : Seat) (session : Option SessionState) : Type 0 where
@@ -36,11 +31,15 @@ pub data ShowsUnder (book : Book) (seats : List Seal) (seat : Seat) (session : O
   other_file : (shown : OwnSeat) (own : SessionState) → (own.broken ≡ true) ⊎ (book own.name ≡ None) → shown.key ≡ own.key → shown.name ≡ own.name → shown.broken ≡ own.broken → seat ≡ Own shown → session ≡ Some own
       → ShowsUnder book seats seat session
 
--- The book tells what a line comes to on a seat: it speaks of the seat's name, or an opening that is accepted is of a name that it goes on to speak of.
+-- an opening that is accepted is of a name of which the book goes on to speak
+abbrev pub SpeaksOfOpened : Book → List ℕ → ScriptLine → Reply → Type 0
+SpeaksOfOpened book key (lines.Open k name) (replies.Opened size) = IsSomeAnd (book name) (λ entry. speaks key entry ≡ true)
+SpeaksOfOpened book key line reply = ⊤
+
+-- The book tells what a line comes to on a seat: it speaks of the seat's name, or of the name that is opened.
 abbrev pub Knows : Book → List ℕ → Seat → ScriptLine → Reply → Type 0
 Knows book key (Own own) line reply = (own.broken ≡ true) ⊎ IsSome (book own.name)
-Knows book key Empty (lines.Open k name) (replies.Opened size) = IsSomeAnd (book name) (λ entry. speaks key entry ≡ true)
-Knows book key Empty line reply = ⊤
+Knows book key Empty line reply = SpeaksOfOpened book key line reply
 
 -- what was seen in a step, also of a host that does not tell its answers
 pub record SeenIn (seen : Seen) (before after : HostState) (random random' : WordsState) : Type 0 where
@@ -49,7 +48,7 @@ pub record SeenIn (seen : Seen) (before after : HostState) (random random' : Wor
   pub of_host : CountsFault seen.host_failed before.faults after.faults
   pub of_words : CountsFault seen.words_failed random.faults random'.faults
 
--- A line on a seat: what was done to names owes what it has to, and is that of the line's turn, where the book tells it.
+-- A line on a seat: what was done to names owes what it has to, and is that of the line's turn, where the book tells it. Where nothing failed, this is the turn that the files give.
 pub record LineUnder (key : List ℕ) (taken : Bool) (line : ScriptLine) (seen : Seen) (reply : Reply) (old new : Option SessionState) (book : Book) (seats : List Seal) (seat : Seat) (a b : Honest) : Type 0 where
   pub acts : List Act
   pub left : List Seal
@@ -59,6 +58,7 @@ pub record LineUnder (key : List ℕ) (taken : Bool) (line : ScriptLine) (seen :
   pub spares : SparesSeats acts seats left
   pub concerned : (name : Name) → Among acts name → Concerns taken line old name
   pub turn : Knows book key seat line reply → SeatTurn (stands_on key (reading a.now)) key taken seat line seen reply acts after
+  pub over : Knows book key seat line reply → Failed seen false false → SeatOver key taken seat line seen.words reply acts after (reading a.now) (reading b.now)
 
 -- so under each book that agrees with the disk before, on each seat that shows the session
 abbrev pub SeatUnder : List ℕ → Bool → ScriptLine → Seen → Reply → Option SessionState → Option SessionState → Honest → Honest → Type 0
@@ -91,6 +91,7 @@ pub record TurnUnder (line : ScriptLine) (seen : Seen) (reply : Reply) (new : De
   pub did : DidAll book seats acts left a b
   pub is_state : IsStateUnder (booked_all acts book) left after new
   pub turn : KnowsLine book state line reply → Turn (stands_on state.key (reading a.now)) state line seen reply acts after
+  pub over : KnowsLine book state line reply → Failed seen false false → TurnOver state line seen.words reply acts after (reading a.now) (reading b.now)
 
 abbrev pub DeskUnder : ScriptLine → Seen → Reply → DeskState → DeskState → Honest → Honest → Type 0
 DeskUnder line seen reply old new a b =

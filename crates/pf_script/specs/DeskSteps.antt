@@ -5,13 +5,16 @@ use Rattle.node_tree.specs.Unforged.{Unforged}
 use Rattle.pf_io.specs.Counts.{counted}
 use Rattle.pf_io.specs.Disk.{Name}
 use Rattle.pf_io.specs.Host.{Answer, HostState, Both, WhereTold, OnDisk}
+use Rattle.pf_io.specs.Moments.{Ran}
 use Rattle.pf_io.specs.Unchanged.{KeepsDisk}
 use Rattle.pf_io.specs.Words.{WordsState}
 use Rattle.pf_io.specs.declared.faults.Memory.{Memory}
+use Rattle.pf_session.specs.Aside.{Apart}
 use Rattle.pf_session.specs.Asking.{IsTaken as AreTaken}
 use Rattle.pf_session.specs.Reading.{KeepsFields}
 use Rattle.pf_session.specs.State.{SessionState}
 use Rattle.pf_script.specs.BookActs.{Act}
+use Rattle.pf_script.specs.BookDebts.{LeavesOthers, KeepsOthers}
 use Rattle.pf_script.specs.BookSeats.{Covering, Covers, CoversNone, KeepsUnder}
 use Rattle.pf_script.specs.Desk.{DeskState, session_at, IsSeatOf, Shows, IsStateOf}
 use Rattle.pf_script.specs.Script.{Seat, ScriptState, sheets_of, seat_of_line, name_of_line}
@@ -67,7 +70,19 @@ OtherHas desk k name = (j : ℕ) × (j ≢ k) × HasItsName (session_at desk j) 
 abbrev pub Concerns : Bool → ScriptLine → Option SessionState → Name → Type 0
 Concerns taken line old name = HasItsName old name ⊎ ((name_of_line line ≡ Some name) × (taken ≡ false))
 
--- So for a desk.
+-- a name that is apart from each of these
+abbrev pub ApartFrom : (Name → Type 0) → Name → Type 0
+ApartFrom concerned other = (name : Name) → concerned name → Apart name other
+
+-- Whatever stands at these names, every name apart from them is as before at every moment and in the end.
+abbrev pub Spares : (Name → Type 0) → HostState → HostState → Type 0
+Spares concerned before after = OnDisk before after (Ran (LeavesOthers (ApartFrom concerned)) (KeepsOthers (ApartFrom concerned)))
+
+-- So for a desk: the names of its seats, and the one that the line gives.
+abbrev pub ConcernsDesk : ScriptLine → DeskState → Name → Type 0
+ConcernsDesk line desk name = (name_of_line line ≡ Some name) ⊎ ((k : ℕ) × HasItsName (session_at desk k) name)
+
+-- What was asked of a desk.
 pub record Asks (line : ScriptLine) (reply : Reply) (old new : DeskState) (given : List Answer) (before after : HostState) (random random' : WordsState) : Type 0 where
   pub seen : Seen
   pub was_seen : WasSeen seen given before after random random'
@@ -170,12 +185,15 @@ pub record SeatGoes (key : List ℕ) (taken : Bool) (line : ScriptLine) (result 
   pub wants : WhereWanting result (SeatWants line old new before after random random')
   pub seated : IsSeatOf key new
   pub named : (name : Name) → HasItsName new name → Concerns taken line old name
+  pub spares : Spares (Concerns taken line old) before after
 
 -- A line on a desk.
 pub record DeskGoes (line : ScriptLine) (result : Result Reply Memory) (old new : DeskState) (before after : HostState) (random random' : WordsState) : Type 0 where
   pub key_is : new.key ≡ old.key
   pub asks : WhereReplied result (λ reply. WhereTold before after (λ given. Asks line reply old new given before after random random'))
   pub books : KeepsBooks old new before after
+  pub named : (k : ℕ) (name : Name) → HasItsName (session_at new k) name → ConcernsDesk line old name
+  pub spares : Spares (ConcernsDesk line old) before after
   pub counts : CountsReply result before after random random'
   pub wants : WhereWanting result (Wants line old new before after random random')
 

@@ -18,6 +18,8 @@ pub mod Turns
 pub mod Desk
 pub mod DeskSteps
 pub mod SeatReplies
+pub mod FileTurns
 pub mod BookTurns
 pub mod ScriptRuns
 pub mod BookRuns
+pub mod FileRuns

@@ -1,13 +1,38 @@
 -- What a session does to an honest disk, under a book with which it may begin.
-use Rattle.std.specs.Prelude.{◌≡◌, ◌⊎◌, ℕ, List, [], Option, Some, IfSome}
+use Rattle.std.specs.Prelude.{◌≡◌, ◌⊎◌, ℕ, zero, suc, true, List, [], ◌∷◌, ◌++◌, map, Option, Some, IfSome, Result, Ok, Err}
+use Rattle.std.specs.List.{flat_map}
+use Rattle.pf_io.specs.Counts.{counted}
+use Rattle.pf_io.specs.Disk.{Name, Files, reading}
+use Rattle.pf_io.specs.Host.{OnHonest}
 use Rattle.pf_io.specs.Moments.{Honest, LeavesOnly}
 use Rattle.pf_script.specs.Book.{Book, Seal, ImageFits, Agrees}
 use Rattle.pf_script.specs.BookActs.{Act, booked_all, FitsDuring}
 use Rattle.pf_script.specs.BookRuns.{FollowsUnder}
-use Rattle.pf_script.specs.Script.{ScriptState}
+use Rattle.pf_script.specs.FileRuns.{FollowsOver, TakesWords}
+use Rattle.pf_script.specs.Script.{ScriptState, Seat, Empty, Own, seat_at}
 use Rattle.pf_script.specs.ScriptRuns.{Exchange}
-use Rattle.pf_tool.specs.Transcripts.{Transcript, exchanges_of, empty_seats, AnswersFirst, IsStarved, PutOut}
+use Rattle.pf_script.specs.Words.{SEATS}
+use Rattle.pf_script.specs.declared.line.ScriptLine.{ScriptLine}
+use Rattle.pf_script.specs.declared.line.ScriptLine.TheVariants as lines
+use Rattle.pf_tool.specs.Endings.{Ending}
+use Rattle.pf_tool.specs.Keys.{KeyOver}
+use Rattle.pf_tool.specs.Transcripts.{Transcript, exchange_of, exchanges_of, empty_seats, AnswersFirst, IsStarved, PutOut, SeenUntil}
 use Rattle.pf_tool.specs.World.{World}
+
+-- the lines that close the seats that are not empty, from the k-th on
+abbrev pub closing_of : ℕ → Seat → List ScriptLine
+closing_of k Empty = []
+closing_of k (Own own) = lines.Close k ∷ []
+
+abbrev pub closings : ℕ → ℕ → ScriptState → List ScriptLine
+closings zero k state = []
+closings (suc more) k state = closing_of k (seat_at state k) ++ closings more (suc k) state
+
+-- The seats that the lines leave are closed in order: the first of them, and all where `end` followed.
+pub record AreClosings (transcript : Transcript) (state : ScriptState) : Type 0 where
+  pub rest : List ScriptLine
+  pub in_order : closings SEATS 0 state ≡ map (λ exchange. exchange.line) transcript.closed ++ rest
+  pub all : transcript.ended ≡ true → rest ≡ []
 
 -- behind the last exchange nothing is done but where there was no memory for a step
 pub record StopsUnder (starved : Type 0) (book : Book) (state : ScriptState) (old new : Honest) : Type 0 where
@@ -15,17 +40,38 @@ pub record StopsUnder (starved : Type 0) (book : Book) (state : ScriptState) (ol
   pub left : List Seal
   pub leaves : LeavesOnly (FitsDuring book acts) old new
   pub agrees : Agrees (booked_all acts book) left new.now
-  pub none : (acts ≡ []) ⊎ starved
+  pub none : ((acts ≡ []) × (new.now ≡ old.now)) ⊎ starved
 
--- The key is read, and then the exchanges follow each other.
-pub record RunsUnder (user : List ℕ) (exchanges : List Exchange) (starved : Type 0) (book : Book) (old new : Honest) : Type 0 where
+-- The key is read, then the lines follow each other, and then the closings.
+pub record RunsUnder (user : List ℕ) (transcript : Transcript) (starved : Type 0) (book : Book) (old new : Honest) : Type 0 where
   pub start : Honest
   pub reads : LeavesOnly (ImageFits book) old start
+  pub same : start.now ≡ old.now
   pub agrees : Agrees book [] start.now
-  pub follows : FollowsUnder book (empty_seats user []) exchanges start (λ book state last. StopsUnder starved book state last new)
+  pub follows : FollowsUnder book (empty_seats user []) (flat_map exchange_of transcript.items) start
+      (λ later state mid. AreClosings transcript state × FollowsUnder later state transcript.closed mid (λ last after end. StopsUnder starved last after end new))
 
--- No script came, nothing of the input was read, and the book stays; or the exchanges of a transcript, whose text the output took and whose lines are the first of the input, ran under the book.
-pub data KeepsScript (old new : World) (status : ℕ) (book : Book) (a b : Honest) : Type 0 where
-  no_script : new.input ≡ old.input → LeavesOnly (ImageFits book) a b → Agrees book [] b.now → KeepsScript old new status book a b
-  script : (user : List ℕ) (transcript : Transcript) → IfSome old.input.left (AnswersFirst transcript) → PutOut transcript old new status → RunsUnder user (exchanges_of transcript) (IsStarved old new status) book a b
-      → KeepsScript old new status book a b
+-- Why no script came: files give no key, a call for it failed, or there was no memory for its lines.
+abbrev pub NoScript : Name → Files → World → World → ℕ → Type 0
+NoScript key files old new status = ((ending : Ending) × KeyOver files key (Err ending)) ⊎ (new.host.faults ≡ counted old.host.faults) ⊎ IsStarved old new status
+
+-- No script came, nothing of the input was read, and the book stays. Or the files gave a key, and a transcript whose text the output took, whose lines are the first of the input and in which
+-- was seen what was seen in this run, ran under the book.
+pub data KeepsScript (key : Name) (old new : World) (status : ℕ) (book : Book) (a b : Honest) : Type 0 where
+  no_script : NoScript key (reading a.now) old new status → new.input ≡ old.input → LeavesOnly (ImageFits book) a b → Agrees book [] b.now → KeepsScript key old new status book a b
+  script : (user : List ℕ) (transcript : Transcript) → KeyOver (reading a.now) key (Ok user) → SeenUntil key user (exchanges_of transcript) old new status → IfSome old.input.left (AnswersFirst transcript) → PutOut transcript old new status
+      → RunsUnder user transcript (IsStarved old new status) book a b → KeepsScript key old new status book a b
+
+-- what the run leaves of files
+abbrev pub FilesAre : Files → World → Type 0
+FilesAre files new = OnHonest new.host (λ now. (name : Name) → now name ≡ files name)
+
+-- A run over files in which nothing fails: each line of the input is answered as the files then give, with the random words in order, and then the seats are closed. Of its text the output
+-- took all, with the status of its replies; where there was no memory, a front.
+pub record GivesScript (user : List ℕ) (book : Book) (files : Files) (old new : World) (status : ℕ) : Type 0 where
+  pub transcript : Transcript
+  pub lines : IfSome old.input.left (AnswersFirst transcript)
+  pub words : IfSome old.random.left (TakesWords (exchanges_of transcript))
+  pub put : PutOut transcript old new status
+  pub runs : FollowsOver book (empty_seats user []) (flat_map exchange_of transcript.items) files
+      (λ later state mid. AreClosings transcript state × FollowsOver later state transcript.closed mid (λ last after left. FilesAre left new ⊎ IsStarved old new status))

@@ -1,18 +1,24 @@
 -- What a run of the program comes to, by what its words ask for.
-use Rattle.std.specs.Prelude.{⊤, ◌≡◌, ◌≢◌, ◌⊎◌, ℕ, suc, ◌<◌, ◌≤◌, List, [], length, Option, Some, None, Result, Err}
+use Rattle.std.specs.Prelude.{⊤, ◌≡◌, ◌≢◌, ◌⊎◌, ℕ, suc, ◌<◌, ◌≤◌, List, [], length, Contains, Option, Some, None, IfSome, Result, Ok, Err}
 use Rattle.std.specs.List.{concat}
 use Rattle.node_layout.specs.Metadata.{MOST_SIZE}
 use Rattle.pf_io.specs.Counts.{counted, counted_by, counted_times}
 use Rattle.pf_io.specs.Disk.{Name, Files, Disk, Image, IsImageAt}
-use Rattle.pf_io.specs.Host.{Answer, HostState, Both, OnDisk, files_of}
+use Rattle.pf_io.specs.Host.{Answer, HostState, Both, OnDisk, OnDiskNow, files_of}
+use Rattle.pf_io.specs.Lines.{lines_of}
 use Rattle.pf_io.specs.Moments.{Ran}
 use Rattle.pf_io.specs.Names.{side_of}
 use Rattle.pf_io.specs.Streams.{TakesFront}
 use Rattle.pf_io.specs.Answered.{WereTold}
 use Rattle.pf_io.specs.Unchanged.{KeepsDisk}
+use Rattle.pf_session.specs.Aside.{Apart}
 use Rattle.pf_script.specs.Book.{Book}
+use Rattle.pf_script.specs.BookDebts.{LeavesOthers, KeepsOthers}
 use Rattle.pf_script.specs.BookLaws.{StartsWith}
 use Rattle.pf_script.specs.LineReading.{MOST_READS}
+use Rattle.pf_script.specs.Script.{name_of_line}
+use Rattle.pf_script.specs.ScriptLines.{IsScriptLine}
+use Rattle.pf_script.specs.declared.line.ScriptLine.{ScriptLine}
 use Rattle.pf_tool.specs.World.{World, with_log}
 use Rattle.pf_tool.specs.Events.{Event, answers_in}
 use Rattle.pf_tool.specs.Endings.{Ending, Done, Refused, TooLarge, MayStarve, Stop, AtEnd, Starved, ending_line, ending_status, memory_line, no_command_line}
@@ -26,7 +32,7 @@ use Rattle.pf_tool.specs.Encrypting.{EncryptRefused, EncryptGoes, EncryptOver, I
 use Rattle.pf_tool.specs.Keys.{KeyRefused, KeyOver}
 use Rattle.pf_tool.specs.Scripting.{ScriptGoes}
 use Rattle.pf_tool.specs.Transcripts.{TookScript}
-use Rattle.pf_tool.specs.BookScripts.{KeepsScript}
+use Rattle.pf_tool.specs.BookScripts.{KeepsScript, GivesScript}
 use Rattle.pf_tool.specs.SealedContents.{GavePieces, GaveSealed}
 use Rattle.pf_tool.specs.Contents.{TookContent}
 use Rattle.pf_tool.specs.Manifests.{ManifestLeads, ManifestLeaves, ManifestOver, GaveRendered, IsRendered}
@@ -179,9 +185,15 @@ pub data Honestly (request : Request) (files : Files) (old new : World) (status 
   starved : ((pieces : List (List ℕ)) (ending : Ending) → Over request files pieces ending → Both old.out.bytes new.out.bytes (TakesFront (concat pieces))) → status ≡ 5 → WroteAll memory_line old.log new.log
       → Honestly request files old new status
 
--- so for a session, where files give no key
-abbrev pub HonestScript : Name → Files → World → World → ℕ → Type 0
-HonestScript key files old new status = (ending : Ending) → KeyOver files key (Err ending) → Honestly (Session key) files old new status
+-- no count of the host's faults rose, nor of the random words'
+pub record NoneRose (old new : World) : Type 0 where
+  pub host : ¬ (Rose old.host.faults new.host.faults)
+  pub random : ¬ (Rose old.random.faults new.random.faults)
+
+-- So for a session: what is said where files give no key, and the run of its script where they do, for each book with which it may begin.
+pub record HonestScript (key : Name) (files : Files) (old new : World) (status : ℕ) : Type 0 where
+  pub refused : (ending : Ending) → KeyOver files key (Err ending) → Honestly (Session key) files old new status
+  pub runs : (user : List ℕ) → KeyOver files key (Ok user) → NoneRose old new → OnDiskNow old.host (λ disk. (book : Book) → StartsWith book disk → GivesScript user book files old new status)
 
 abbrev pub GivesHonestly : Request → Files → World → World → ℕ → Type 0
 GivesHonestly (Decrypt key input) files old new status = Honestly (Decrypt key input) files old new status
@@ -217,15 +229,21 @@ pub record OutputEnds (output : Name) (IsNew : Disk → Option (List ℕ) → Ty
 abbrev pub LeavesOutput : Name → (Disk → Option (List ℕ) → Type 0) → World → World → ℕ → Type 0
 LeavesOutput output IsNew old new status = OnDisk old.host new.host (Ran (OutputLeft output IsNew (MayBeNew old new status)) (OutputEnds output IsNew (MayBeNew old new status) (status ≡ 0)))
 
--- for each book with which a run may begin: what each of its exchanges did to names, with the images of every moment as the book says, and in the end the book after them agrees with the disk
-abbrev pub KeepsBooks : World → World → ℕ → Type 0
-KeepsBooks old new status = OnDisk old.host new.host (λ before after. (book : Book) → StartsWith book before.now → KeepsScript old new status book before after)
+-- a name that is apart from each that a line of the input gives
+abbrev pub IsUnnamed : List ℕ → Name → Type 0
+IsUnnamed input other = (bytes : List ℕ) (line : ScriptLine) (name : Name) → Contains (lines_of input) bytes → IsScriptLine bytes line → name_of_line line ≡ Some name → Apart name other
+
+-- For each book with which a session may begin: what each of its exchanges did to names, with the images of every moment as the book says, and in the end the book after them agrees with the
+-- disk. Every name apart from those of its lines is as before, whatever fails.
+pub record SessionOnDisk (key : Name) (old new : World) (status : ℕ) : Type 0 where
+  pub books : OnDisk old.host new.host (λ before after. (book : Book) → StartsWith book before.now → KeepsScript key old new status book before after)
+  pub spares : IfSome old.input.left (λ input. OnDisk old.host new.host (Ran (LeavesOthers (IsUnnamed input)) (KeepsOthers (IsUnnamed input))))
 
 -- a run at every moment of it, and in the end, on an honest disk
 abbrev pub OnDisks : Request → World → World → ℕ → Type 0
 OnDisks (Decrypt key input) old new status = KeepsDisk old.host new.host
 OnDisks (Encrypt key input output) old new status = LeavesOutput output (IsVersion key input output) old new status
-OnDisks (Session key) old new status = KeepsBooks old new status
+OnDisks (Session key) old new status = SessionOnDisk key old new status
 OnDisks (Manifest values template None) old new status = KeepsDisk old.host new.host
 OnDisks (Manifest values template (Some output)) old new status = LeavesOutput output (IsRendered values template) old new status
 OnDisks (Sums manifest None) old new status = KeepsDisk old.host new.host

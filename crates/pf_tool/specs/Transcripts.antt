@@ -136,5 +136,14 @@ pub record TookTranscript (user : List ℕ) (behind : List Answer) (transcript :
 abbrev pub key_and : Name → List ℕ → List Answer → List Answer
 key_and key user behind = LengthWas key (Some 16) ∷ Gave key 0 16 user ∷ behind
 
+-- What a run whose key was given saw: the key, then what was seen in these exchanges; and where there was no memory for a step, what came in it.
+pub record SeenUntil (key : Name) (user : List ℕ) (exchanges : List Exchange) (old new : World) (status : ℕ) : Type 0 where
+  pub until : World
+  pub given : List Answer
+  pub more : List Answer
+  pub seen : SeenIn exchanges given old until
+  pub told : Both old.host.given new.host.given (IsMore (key_and key user (given ++ more)))
+  pub to_the_end : ((more ≡ []) × (until.host ≡ new.host) × (until.random ≡ new.random)) ⊎ IsStarved old new status
+
 abbrev pub TookScript : Name → World → World → ℕ → Type 0
 TookScript key old new status = (user : List ℕ) (behind : List Answer) → length user ≡ 16 → WereTold (key_and key user behind) old.host new.host → (transcript : Transcript) × TookTranscript user behind transcript old new status

@@ -1,0 +1,35 @@
+-- A run of a script over files in which nothing fails.
+use Rattle.std.specs.Prelude.{◌≡◌, ℕ, List, [], ◌∷◌, ◌++◌, length, map}
+use Rattle.std.specs.List.{flat_map}
+use Rattle.pf_io.specs.Disk.{Files}
+use Rattle.pf_script.specs.Book.{Book}
+use Rattle.pf_script.specs.BookActs.{Act, booked_all}
+use Rattle.pf_script.specs.BookTurns.{SpeaksOfOpened}
+use Rattle.pf_script.specs.FileTurns.{TurnOver}
+use Rattle.pf_script.specs.Script.{ScriptState, Empty, seat_at}
+use Rattle.pf_script.specs.ScriptRuns.{Exchange}
+
+-- Each exchange is the turn that the files then give, from the state and the files that the one before left.
+abbrev pub RunsOver : ScriptState → List Exchange → Files → ScriptState → Files → Type 0
+RunsOver state [] files after new = (after ≡ state) × (new ≡ files)
+RunsOver state (exchange ∷ exchanges) files after new =
+    (acts : List Act) × (mid : ScriptState) × (between : Files) × TurnOver state exchange.line exchange.seen.words exchange.reply acts mid files between × RunsOver mid exchanges between after new
+
+-- So it is as long as each file that is opened is one of which the book speaks. In the end book, state and files have E.
+abbrev pub FollowsOver : Book → ScriptState → List Exchange → Files → (Book → ScriptState → Files → Type 0) → Type 0
+FollowsOver book state [] files E = E book state files
+FollowsOver book state (exchange ∷ exchanges) files E =
+    SpeaksOfOpened book state.key exchange.line exchange.reply
+    → (acts : List Act) × (after : ScriptState) × (next : Files) × TurnOver state exchange.line exchange.seen.words exchange.reply acts after files next × FollowsOver (booked_all acts book) after exchanges next E
+
+-- the words that some exchanges took are the first of these
+pub record TakesWords (exchanges : List Exchange) (words : List (List ℕ)) : Type 0 where
+  pub left : List (List ℕ)
+  pub in_order : words ≡ flat_map (λ exchange. exchange.seen.words) exchanges ++ left
+
+-- Files, lines and words have one run from empty seats: the replies of two are the same.
+abbrev pub OneRun : Type 0
+OneRun =
+    (state after other : ScriptState) (files new others : Files) (words : List (List ℕ)) (exchanges those : List Exchange) → length state.key ≡ 16 → ((k : ℕ) → seat_at state k ≡ Empty)
+    → map (λ exchange. exchange.line) exchanges ≡ map (λ exchange. exchange.line) those → TakesWords exchanges words → TakesWords those words → RunsOver state exchanges files after new → RunsOver state those files other others
+    → map (λ exchange. exchange.reply) exchanges ≡ map (λ exchange. exchange.reply) those
