@@ -52,6 +52,7 @@ pub mod WriteUnder
 pub mod SizeLeft
 pub mod SizeUnder
 pub mod MoveUnder
+pub mod MoveOver
 pub mod MoveTurns
 pub mod CloseLine
 pub mod Desking
