@@ -300,14 +300,14 @@ module _ (key : List ℕ) (k : ℕ) (to : Name) (old : SessionState) (seated : I
             let left = seats_after deed true t.2.left in
             let then = Own (renamed_own (seat_on t.2.base_now mid) to next.next) in
             let did : DidAll book seats acts left a b =
-                did_later book seats left acts a m.0 b m.2
-                (did_move key old seated whole book seats m.0 agrees_m image_m base on.entry on.was on.seated on.kept stood_m to free.is_target true mid new f.words t.0 b t.2 nonce between after t.1 is_b absent moves.carries well) in
+            did_later book seats left acts a m.0 b m.2
+            (did_move key old seated whole book seats m.0 agrees_m image_m base on.entry on.was on.seated on.kept stood_m to free.is_target true mid new f.words t.0 b t.2 nonce between after t.1 is_b absent moves.carries well) in
             let turn : (rest : List Answer) → SeatTurn (stands_on key (reading a.now)) key false (Own own) line (seen_by (LengthWas to None ∷ rest) all_words false false) replies.Moved acts then =
-                λ rest.
-                accepted (passes base rest) (record { host = refl; random = refl })
-                (moved_line k to own (seat_on t.2.base_now mid) f.words (f.drawn.first ∷ f.drawn.second ∷ []) t.2.sheets next.next t.2.first
-                (seals_moved key old seated whole book seats m.0 agrees_m image_m base on.entry on.was on.seated on.kept stood_m to free.is_target true mid new f.words t.0 b t.2 nonce between after t.1 is_b absent moves.carries well
-                f.drawn.first f.drawn.second f.drawn.is) refl) in record {
+            λ rest.
+            accepted (passes base rest) (record { host = refl; random = refl })
+            (moved_line k to own (seat_on t.2.base_now mid) f.words (f.drawn.first ∷ f.drawn.second ∷ []) t.2.sheets next.next t.2.first
+            (seals_moved key old seated whole book seats m.0 agrees_m image_m base on.entry on.was on.seated on.kept stood_m to free.is_target true mid new f.words t.0 b t.2 nonce between after t.1 is_b absent moves.carries well
+            f.drawn.first f.drawn.second f.drawn.is) refl) in record {
               acts = acts;
               left = left;
               after = then;
