@@ -1,7 +1,7 @@
 -- A line that is one change, under a book.
-use Rattle.std.proofs.Common.{◌≡◌, inl, Bool, true, false, List, [], ◌∷◌, ℕ, refl, sym, subst, Option, Some, length}
+use Rattle.std.proofs.Common.{◌≡◌, inl, Bool, true, false, List, [], ◌∷◌, ℕ, refl, sym, ◌∙◌, ap, subst, Option, Some, length}
 use Rattle.std.proofs.lemmas.List.Elements.{Contains-push}
-use Rattle.std.specs.Prelude.{Contains}
+use Rattle.std.specs.Prelude.{Contains, IsSome}
 use Rattle.node_tree.specs.Applying.{Step}
 use Rattle.node_tree.specs.Backing.{now}
 use Rattle.node_tree.specs.Sheet.{Sheet}
@@ -11,11 +11,11 @@ use Rattle.pf_io.specs.Moments.{Honest}
 use Rattle.pf_io.specs.Words.{WordsState}
 use Rattle.pf_session.specs.Aside.{Aside}
 use Rattle.pf_session.specs.State.{SessionState}
-use Rattle.pf_script.specs.Book.{Book, Seal, Agrees}
+use Rattle.pf_script.specs.Book.{Book, Entry, Seal, Agrees}
 use Rattle.pf_script.specs.BookDebts.{seat_of}
 use Rattle.pf_script.specs.BookSeats.{Covers, KeepsUnder}
 use Rattle.pf_script.specs.BookTurns.{of_book, LineUnder, SeatBooked}
-use Rattle.pf_script.specs.FileTurns.{stands_on}
+use Rattle.pf_script.specs.FileTurns.{stands_on, answers_of}
 use Rattle.pf_script.specs.Desk.{IsSeated, seat_on}
 use Rattle.pf_script.specs.Rules.{NoneRefuses, rules}
 use Rattle.pf_script.specs.Script.{Own}
@@ -31,6 +31,7 @@ use Rattle.pf_script.proofs.ChangeLeft.{ChangeIn}
 use Rattle.pf_script.proofs.ChangeLine.{outcome_reply, none_made}
 use Rattle.pf_script.proofs.ChangeTold.{Outcome, Went, Broke, Lacked, Wanted, Grew}
 use Rattle.pf_script.proofs.ChangeUnder.{Progress, Fell, change_known}
+use Rattle.pf_script.proofs.FilesLeft.{files_after, flushes_booked}
 use Rattle.pf_script.proofs.Flushed.{host_blamed, fault_of}
 use Rattle.pf_script.proofs.SeatCalls.{seen_by}
 use Rattle.pf_script.proofs.Under.{OnBase, on_disk}
@@ -65,6 +66,7 @@ module _ (key : List ℕ) (line : ScriptLine) (old new : SessionState) (seated :
     spares = fell.spares;
     concerned = λ n among. inl (fell.only n among);
     turn = λ _. subst (λ (s : Seen). SeatTurn (stands_on key (reading a.now)) key false (Own (seat_on base old)) line s reply fell.acts fell.after) (sym is) (fell.turn these);
+    over = λ _ calm. absurd (fell.failed (sym (ap (λ (s : Seen). s.host_failed) is) ∙ calm.host) (sym (ap (λ (s : Seen). s.words_failed) is) ∙ calm.random));
   }
 
 module _ (key : List ℕ) (line : ScriptLine) (old new : SessionState) (seated : IsSeated key old) (whole : old.broken ≡ false) (before after : HostState) (random random' : WordsState)
@@ -93,6 +95,11 @@ module _ (key : List ℕ) (line : ScriptLine) (old new : SessionState) (seated :
             turn = λ _.
                 accepted (passes base is.these) (record { host = refl; random = refl })
                 (changed own (seat_on out.base_now new) line (replied flushed) (step ∷ []) out.sheets_now (asks (length (now base old.tree))) then.was.makes (replies_to flushed out.sheets_now out.grew));
+            over = λ _ calm. record {
+              turn = accepted (passes base (answers_of (reading a.now) line)) (record { host = refl; random = refl })
+                  (changed own (seat_on out.base_now new) line (replied flushed) (step ∷ []) out.sheets_now (asks (length (now base old.tree))) then.was.makes (replies_to flushed out.sheets_now out.grew));
+              files = files_after book seats then.left (flushes own out.sheets_now) a b agrees on.image then.did (flushes_booked own out.sheets_now book (subst (λ (o : Option Entry). IsSome o) (sym on.was) refl));
+            };
           });
     }
     line_under (Broke blame) is = record {
