@@ -80,7 +80,7 @@ module _ (key : List ℕ) (line : ScriptLine) (old new : SessionState) (seated :
     spares = fell.spares;
     concerned = λ n among. inl (fell.only n among);
     turn = λ _. subst (λ (s : Seen). SeatTurn (stands_on key (reading a.now)) key false (Own (seat_on base old)) line s reply fell.acts fell.after) (sym is) (fell.turn these);
-    over = λ _ calm. absurd (fell.fails (ap (λ (s : Seen). s.host_failed) (sym is) ∙ calm.host) (ap (λ (s : Seen). s.words_failed) (sym is) ∙ calm.random));
+    over = λ _ calm. absurd (fell.failed (ap (λ (s : Seen). s.host_failed) (sym is) ∙ calm.host) (ap (λ (s : Seen). s.words_failed) (sym is) ∙ calm.random));
   }
 
 module _ (key : List ℕ) (line : ScriptLine) (old new : SessionState) (seated : IsSeated key old) (whole : old.broken ≡ false) (before after : HostState) (random random' : WordsState)
