@@ -17,6 +17,7 @@ pub mod Opened
 pub mod Deeds
 pub mod Moving
 pub mod Composing
+pub mod FilesLeft
 pub mod Starting
 pub mod Seats
 pub mod ActKeeping
