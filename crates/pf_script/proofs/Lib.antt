@@ -36,6 +36,7 @@ pub mod Refusing
 pub mod Flushed
 pub mod SeatCalls
 pub mod FlushLine
+pub mod OverGiven
 pub mod Under
 pub mod FlushUnder
 pub mod CloseUnder
