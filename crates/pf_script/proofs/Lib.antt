@@ -37,6 +37,7 @@ pub mod Refusing
 pub mod Flushed
 pub mod SeatCalls
 pub mod FlushLine
+pub mod OverGiven
 pub mod Under
 pub mod FlushUnder
 pub mod CloseUnder
