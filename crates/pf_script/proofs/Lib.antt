@@ -37,6 +37,7 @@ pub mod Refusing
 pub mod Flushed
 pub mod SeatCalls
 pub mod FlushLine
+pub mod OverGiven
 pub mod Under
 pub mod FlushUnder
 pub mod CloseUnder
@@ -73,3 +74,4 @@ pub mod DeskLine
 pub mod BlankLine
 pub mod MoveLine
 pub mod BookRunning
+pub mod FilesLeft
