@@ -74,4 +74,3 @@ pub mod DeskLine
 pub mod BlankLine
 pub mod MoveLine
 pub mod BookRunning
-pub mod FilesLeft

@@ -43,13 +43,13 @@ use Rattle.pf_script.proofs.Composing.{did_on}
 use Rattle.pf_script.proofs.FilesLeft.{files_after, moved_booked}
 use Rattle.pf_script.proofs.Flushed.{FlushEnds, not_begun, not_ended, was_ended, seal_ends, host_blamed, fault_of}
 use Rattle.pf_script.proofs.FlushLine.{flush_act}
-use Rattle.pf_script.proofs.MoveLine.{move_rules, not_busy, never_lacks, blamed_reply, short_more, taken_then, CarryBlamed, carry_blamed}
+use Rattle.pf_script.proofs.MoveLine.{move_rules, not_busy, move_passes, never_lacks, blamed_reply, short_more, taken_then, CarryBlamed, carry_blamed}
 use Rattle.pf_script.proofs.MoveOver.{looked_length, by_length, not_calm}
 use Rattle.pf_script.proofs.Ruling.{never}
 use Rattle.pf_script.proofs.Seats.{seats_after}
 use Rattle.pf_script.proofs.MoveCallKeeping.{move_keeps}
 use Rattle.pf_script.proofs.MoveUnder.{FirstIn, first_in, FirstKnown, first_known, did_move, spares_move, only_move, seals_moved, renamed_seat, moved_kept}
-use Rattle.pf_script.proofs.Refusing.{none_taken, none_then, first_then}
+use Rattle.pf_script.proofs.Refusing.{none_taken, first_then}
 use Rattle.pf_script.proofs.SeatCalls.{seen_by, false_true}
 use Rattle.pf_script.proofs.StepKeeping.{keeps_more}
 use Rattle.pf_script.proofs.Under.{KnownUnder, own_under, none_concerned, one_concerned, flush_did, left_seat}
@@ -129,10 +129,10 @@ module _ (key : List ℕ) (k : ℕ) (to : Name) (old : SessionState) (seated : I
           (record { host = refl; random = refl }) refl refl refl refl
 
   -- the turn of a line that failed
-  fault_turn : (standing : Standing) (own : OwnSeat) (these : List Answer) (words : List (List ℕ)) (blame : Blame) (acts : List Act) (left : Seat) → Fails key (seen_by these words (host_blamed blame) false) blame (Own own) line acts left
+  fault_turn : (standing : Standing) (own : OwnSeat) (these : List Answer) (words : List (List ℕ)) (blame : Blame) (acts : List Act) (left : Seat) → NoneRefuses (rules key false (Own own) line these) → Fails key (seen_by these words (host_blamed blame) false) blame (Own own) line acts left
       → SeatTurn standing key false (Own own) line (seen_by these words (host_blamed blame) false) (flush_reply (fault_of blame)) acts left
-  fault_turn standing own these words ByHost acts left fails = host_failed (record { host = refl; random = refl }) fails refl
-  fault_turn standing own these words (ByDamage damage) acts left fails = was_damaged damage (record { host = refl; random = refl }) fails refl
+  fault_turn standing own these words ByHost acts left none fails = host_failed (record { host = refl; random = refl }) fails refl
+  fault_turn standing own these words (ByDamage damage) acts left none fails = was_damaged damage none (record { host = refl; random = refl }) fails refl
 
   module _ (aside : AsideBoth old.name to before after) (reads : ReadsAsImage after) where
     -- reads before the acts
@@ -177,7 +177,7 @@ module _ (key : List ℕ) (k : ℕ) (to : Name) (old : SessionState) (seated : I
                 shows = other_file (broken_seat own) new (inl broken) (sym key_is) (sym name_is) (sym broken) refl refl;
                 spares = one_spares seats (Flush (seat_of old.key old.name next.0)) false;
                 concerned = one_concerned false line old false next.0;
-                turn = λ _. fault_turn _ own given all blame acts (Own (broken_seat own))
+                turn = λ _. fault_turn _ own given all blame acts (Own (broken_seat own)) (move_passes key k to old seated whole free.is_target base these)
                     (not_flushed_to_move k to own words next.0 first second blame fails.is_changed next.1 refl (short_more (LengthWas to None ∷ []) these old.name blame blames));
                 over = λ _ calm. absurd (not_calm blame given all old before a is_a base on.kept on.stood (subst (λ (f : FlushFault). UndamagedMove (Err (move_of_flush f)) old before) fault_is undamaged) calm);
               });
@@ -201,14 +201,6 @@ module _ (key : List ℕ) (k : ℕ) (to : Name) (old : SessionState) (seated : I
         of_host = subst (λ n. CountsFault of_host n after.faults) (f.on_host ∙ free.looks.asked.asked.faults) counts;
         of_words = f.drawn.took.calm ∙ f.on_words;
       }
-
-      passes : (base : Sheet) (rest : List Answer) → NoneRefuses (rules key false (Own (seat_on base old)) line (LengthWas to None ∷ rest))
-      passes base rest =
-          none_then (move_rules key k to old seated whole (LengthWas to None ∷ rest)) (Own (seat_on base old)) (seat_on base old) refl whole
-          (not_busy key k to old seated whole, ((λ other bad. bad.1 free.is_target), ((λ other there. not_there there.1.0 there.1.1 there.1.2), tt)))
-        where
-          not_there : (size : ℕ) (others : List Answer) → LengthWas to None ∷ rest ≡ LengthWas to (Some size) ∷ others → ⊥
-          not_there size others is = absurd (cc)
 
       -- under a book that knows the name
       module _ (a b : Honest) (is_a : before.honest ≡ Some a) (is_b : after.honest ≡ Some b) (book : Book) (seats : List Seal) (agrees : Agrees book seats a.now) (image : IsImage a.now (reading a.now)) (base : Sheet) (entry : Entry) (was : book old.name ≡ Some entry)
@@ -269,7 +261,7 @@ module _ (key : List ℕ) (k : ℕ) (to : Name) (old : SessionState) (seated : I
                   spares = spares_move key old seated whole book seats m.0 agrees_m image_m base on.entry on.was on.seated on.kept stood_m to free.is_target false mid new f.words t.0 b t.2 nonce between after t.1 is_b absent moves.carries well;
                   concerned = λ n among.
                       both_concerned n (only_move key old seated whole book seats m.0 agrees_m image_m base on.entry on.was on.seated on.kept stood_m to free.is_target false mid new f.words t.0 b t.2 nonce between after t.1 is_b absent moves.carries well n among);
-                  turn = λ _. fault_turn _ own (all_given by.these) all_words by.blame acts (Own (broken_seat (seat_on t.2.base_now mid)))
+                  turn = λ _. fault_turn _ own (all_given by.these) all_words by.blame acts (Own (broken_seat (seat_on t.2.base_now mid))) (move_passes key k to old seated whole free.is_target base (f.these ++ by.these))
                       (not_moved_line k to own (seat_on t.2.base_now mid) f.words (f.drawn.first ∷ f.drawn.second ∷ []) t.2.sheets next.next by.blame t.2.first
                       (seals_moved key old seated whole book seats m.0 agrees_m image_m base on.entry on.was on.seated on.kept stood_m to free.is_target false mid new f.words t.0 b t.2 nonce between after t.1 is_b absent moves.carries well
                       f.drawn.first f.drawn.second f.drawn.is) refl
@@ -304,7 +296,7 @@ module _ (key : List ℕ) (k : ℕ) (to : Name) (old : SessionState) (seated : I
             (did_move key old seated whole book seats m.0 agrees_m image_m base on.entry on.was on.seated on.kept stood_m to free.is_target true mid new f.words t.0 b t.2 nonce between after t.1 is_b absent moves.carries well) in
             let turn : (rest : List Answer) → SeatTurn (stands_on key (reading a.now)) key false (Own own) line (seen_by (LengthWas to None ∷ rest) all_words false false) replies.Moved acts then =
             λ rest.
-            accepted (passes base rest) (record { host = refl; random = refl })
+            accepted (move_passes key k to old seated whole free.is_target base rest) (record { host = refl; random = refl })
             (moved_line k to own (seat_on t.2.base_now mid) f.words (f.drawn.first ∷ f.drawn.second ∷ []) t.2.sheets next.next t.2.first
             (seals_moved key old seated whole book seats m.0 agrees_m image_m base on.entry on.was on.seated on.kept stood_m to free.is_target true mid new f.words t.0 b t.2 nonce between after t.1 is_b absent moves.carries well
             f.drawn.first f.drawn.second f.drawn.is) refl) in record {
