@@ -73,4 +73,3 @@ pub mod DeskLine
 pub mod BlankLine
 pub mod MoveLine
 pub mod BookRunning
-pub mod FilesLeft
