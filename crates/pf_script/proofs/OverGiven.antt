@@ -47,6 +47,13 @@ none_last name block last = by_front last.before last.split
 none_is : (name : Name) (size : ℕ) (others : List Answer) → [] ≡ LengthWas name (Some size) ∷ others → ⊥
 none_is name size others same = absurd (cc)
 
+-- no count rose, where one did
+pub no_host_fault : {given : List Answer} {words : List (List ℕ)} {of_words : Bool} → Failed (record { given = given; words = words; host_failed = true; words_failed = of_words }) false false → ⊥
+no_host_fault calm = not_both calm.host
+
+pub no_words_fault : {given : List Answer} {words : List (List ℕ)} {of_host : Bool} → Failed (record { given = given; words = words; host_failed = of_host; words_failed = true }) false false → ⊥
+no_words_fault calm = not_both calm.random
+
 module _ (key : List ℕ) (files : Files) (taken : Bool) (seat : Seat) (line : ScriptLine) (seen : Seen) where
   abbrev over : Seen
   over = seen_over files line seen.words
