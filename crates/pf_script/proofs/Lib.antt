@@ -53,6 +53,7 @@ pub mod WriteUnder
 pub mod SizeLeft
 pub mod SizeUnder
 pub mod MoveUnder
+pub mod MoveOver
 pub mod MoveTurns
 pub mod CloseLine
 pub mod Desking
