@@ -127,6 +127,7 @@ module _ (key : List ℕ) (line : ScriptLine) (old new : SessionState) (whole : 
           broke = λ blame is acts ends. absurd (cc);
           lack = λ is acts ends. absurd (cc);
           memory = λ is. absurd (cc);
+          passes = passes base given;
         }) told
       where
         same_flag : (f g : Bool) → Went f ≡ Went g → f ≡ g
@@ -143,6 +144,7 @@ module _ (key : List ℕ) (line : ScriptLine) (old new : SessionState) (whole : 
               subst (λ (b : Blame). LineEnds key sealed own line given words (host_blamed b) false (flush_reply (fault_of b)) new acts) (sym (same_blame blame other is)) ends;
           lack = λ is acts ends. absurd (cc);
           memory = λ is. absurd (cc);
+          passes = passes base given;
         }) told
       where
         same_blame : (b other : Blame) → Broke b ≡ Broke other → b ≡ other
@@ -158,6 +160,7 @@ module _ (key : List ℕ) (line : ScriptLine) (old new : SessionState) (whole : 
           broke = λ blame is acts ends. absurd (cc);
           lack = λ is acts ends. ends;
           memory = λ is. absurd (cc);
+          passes = passes base given;
         }) told
 
   module _ (before after : HostState) (random random' : WordsState) (books : OnDisk before after (KeepsUnder (Covers old) (Covers new) (λ name. name ≡ old.name))) (seated : IsSeated key new) (name_is : new.name ≡ old.name)

@@ -1,8 +1,7 @@
 -- The line `close` under a book, from the contract of a closing.
-use Rattle.std.proofs.Common.{◌≡◌, ◌⊎◌, inl, inr, Bool, true, false, List, [], ◌∷◌, ℕ, refl, sym, ◌∙◌, ap, subst, Option, Some, None, Result}
-use Rattle.std.specs.Prelude.{IsSome}
+use Rattle.std.proofs.Common.{◌≡◌, ◌⊎◌, inl, inr, Bool, true, false, List, [], ◌∷◌, ℕ, refl, sym, ◌∙◌, ap, subst, Some, None, Result}
 use Rattle.node_tree.specs.Sheet.{Sheet}
-use Rattle.pf_io.specs.Disk.{Disk, reading}
+use Rattle.pf_io.specs.Disk.{reading}
 use Rattle.pf_io.specs.Host.{Answer, HostState, Both, OnDisk, ReadsAsImage}
 use Rattle.pf_io.specs.Moments.{Honest, Ran, Where}
 use Rattle.pf_io.specs.Words.{WordsState}
@@ -15,42 +14,38 @@ use Rattle.pf_session.specs.Reopening.{AsEither, Stood}
 use Rattle.pf_session.specs.Sealing.{StoodIf}
 use Rattle.pf_session.specs.State.{SessionState}
 use Rattle.pf_session.specs.declared.fault.FlushFault.{FlushFault}
-use Rattle.pf_script.specs.Book.{Entry}
 use Rattle.pf_script.specs.BookActs.{Flush}
 use Rattle.pf_script.specs.BookDebts.{DidAll, seat_of}
 use Rattle.pf_script.specs.BookSeats.{Covers, CoversNone, KeepsUnder}
 use Rattle.pf_script.specs.BookTurns.{no_file, SeatUnder, SeatAgrees}
-use Rattle.pf_script.specs.FileTurns.{stands_on, FilesAfter}
+use Rattle.pf_script.specs.FileTurns.{stands_on}
 use Rattle.pf_script.specs.Desk.{IsSeated, seat_on}
 use Rattle.pf_script.specs.Script.{OwnSeat, Seat, Empty, Own}
 use Rattle.pf_script.specs.SeatReplies.{flush_reply}
 use Rattle.pf_script.specs.SeatSteps.{Seals as SealsOwn}
-use Rattle.pf_script.specs.Turns.{Seen, Standing, SeatTurn, Blame, ByHost, ByDamage, BlamesFlush, accepted, host_failed, was_damaged, words_failed, not_sealed, of_close, no_last_flush, let_go as lets_go, flushed_last as flushes_last, flushes}
+use Rattle.pf_script.specs.Turns.{Seen, Standing, SeatTurn, Blame, ByHost, ByDamage, BlamesFlush, accepted, host_failed, was_damaged, words_failed, not_sealed, of_close, no_last_flush, let_go as lets_go, flushed_last as flushes_last}
 use Rattle.pf_script.specs.declared.line.ScriptLine.TheVariants as lines
 use Rattle.pf_script.specs.declared.reply.Reply.{Reply}
 use Rattle.pf_script.specs.declared.reply.Reply.TheVariants as replies
 use Rattle.pf_script.proofs.ActKeeping.{one_spares}
 use Rattle.pf_script.proofs.CallKeeping.{at_both, both_with, read_image, same_disk, close_keeps}
-use Rattle.pf_script.proofs.CloseLine.{close_result}
-use Rattle.pf_script.proofs.FilesLeft.{files_after, flushes_booked}
+use Rattle.pf_script.proofs.CloseLine.{close_result, none_to_close}
+use Rattle.pf_script.proofs.FilesLeft.{files_flushed}
 use Rattle.pf_script.proofs.FlushLine.{flush_act}
 use Rattle.pf_script.proofs.FlushUnder.{seen_in, flush_counts}
 use Rattle.pf_script.proofs.Flushed.{FlushEnds, not_begun, not_ended, was_ended, flush_ends, host_blamed, fault_of}
-use Rattle.pf_script.proofs.Refusing.{not_empty, none_taken}
+use Rattle.pf_script.proofs.OverGiven.{over_idle}
+use Rattle.pf_script.proofs.Refusing.{none_taken}
 use Rattle.pf_script.proofs.SeatCalls.{seen_by, false_true}
 use Rattle.pf_script.proofs.Seats.{seats_after}
 use Rattle.pf_script.proofs.Under.{LooksLike, looks_like, KnownUnder, on_disk, none_concerned, one_concerned, flush_did}
-
--- where nothing was asked, the files are the same
-same_files : (before after : HostState) (a b : Honest) → before.honest ≡ Some a → after.honest ≡ Some b → after ≡ before → FilesAfter [] (reading a.now) (reading b.now)
-same_files before after a b is is2 stays name = ap (λ (d : Disk). reading d name) (same_disk before after a b is is2 stays).ends
 
 -- a turn of a closing that failed in its flush
 failed_turn : (standing : Standing) (key : List ℕ) (k : ℕ) (own : OwnSeat) (next : Sheet) (these : List Answer) (words : List (List ℕ)) (blame : Blame) → own.changed ≡ true → own.broken ≡ false → SealsOwn own words next → BlamesFlush own.name these blame
     → SeatTurn standing key false (Own own) (lines.Close k) (seen_by these words (host_blamed blame) false) (flush_reply (fault_of blame)) (record { deed = Flush (seat_of own.key own.name next); done = false } ∷ []) Empty
 failed_turn standing key k own next these words ByHost was_changed whole seals blames = host_failed (record { host = refl; random = refl }) (not_sealed own (lines.Close k) next ByHost Empty seals blames (of_close k was_changed whole)) refl
 failed_turn standing key k own next these words (ByDamage damage) was_changed whole seals blames =
-    was_damaged damage (record { host = refl; random = refl }) (not_sealed own (lines.Close k) next (ByDamage damage) Empty seals blames (of_close k was_changed whole)) refl
+    was_damaged damage (none_to_close key k own) (record { host = refl; random = refl }) (not_sealed own (lines.Close k) next (ByDamage damage) Empty seals blames (of_close k was_changed whole)) refl
 
 module _ (key : List ℕ) (k : ℕ) (old : SessionState) (seated : IsSeated key old) (before after : HostState) (random random' : WordsState)
     (keeps : OnDisk before after (KeepsUnder (Covers old) CoversNone (λ name. name ≡ old.name))) (aside : Aside old.name before after) (reads : ReadsAsImage after) where
@@ -124,10 +119,10 @@ module _ (key : List ℕ) (k : ℕ) (old : SessionState) (seated : IsSeated key 
                 shows = no_file refl refl;
                 spares = one_spares seats (Flush (seat_of old.key old.name next.0)) true;
                 concerned = one_concerned false (lines.Close k) old true next.0;
-                turn = λ _. accepted ((λ other refuses. not_empty (Own own) own refl refuses.1), tt) (record { host = refl; random = refl }) (flushes_last k own next.0 was_changed whole next.1);
+                turn = λ _. accepted (none_to_close key k own) (record { host = refl; random = refl }) (flushes_last k own next.0 was_changed whole next.1);
                 over = λ _ calm. record {
-                  turn = accepted ((λ other refuses. not_empty (Own own) own refl refuses.1), tt) (record { host = refl; random = refl }) (flushes_last k own next.0 was_changed whole next.1);
-                  files = files_after book seats left (flushes own (next.0 ∷ [])) a b agrees on.image did (flushes_booked own (next.0 ∷ []) book (subst (λ (o : Option Entry). IsSome o) (sym on.was) refl));
+                  turn = accepted (none_to_close key k own) (record { host = refl; random = refl }) (flushes_last k own next.0 was_changed whole next.1);
+                  files = files_flushed own (next.0 ∷ []) book seats left a b agrees on.image did on.entry on.was;
                 };
               });
         })
@@ -138,7 +133,7 @@ module _ (key : List ℕ) (k : ℕ) (old : SessionState) (seated : IsSeated key 
   idle_turn standing seat looks own is same because =
       subst (λ (b : Bool). SeatTurn standing key false seat (lines.Close k) (seen_by [] [] false false) (replies.Closed b) [] Empty) same
       (subst (λ (x : Seat). SeatTurn standing key false x (lines.Close k) (seen_by [] [] false false) (replies.Closed own.broken) [] Empty) (sym is)
-      (accepted ((λ other refuses. not_empty (Own own) own refl refuses.1), tt) (record { host = refl; random = refl }) (lets_go k own because refl)))
+      (accepted (none_to_close key k own) (record { host = refl; random = refl }) (lets_go k own because refl)))
 
   let_under : (b : Bool) → old.broken ≡ b → (old.changed ≡ false) ⊎ (old.broken ≡ true) → after ≡ before → OnDisk before after (SeatUnder key false (lines.Close k) (seen_by [] [] false false) (replies.Closed old.broken) (Some old) None)
   let_under true is why stays =
@@ -153,10 +148,9 @@ module _ (key : List ℕ) (k : ℕ) (old : SessionState) (seated : IsSeated key 
         spares = λ s has apart. has;
         concerned = none_concerned false (lines.Close k) (Some old);
         turn = λ _. idle_turn (stands_on key (reading a.now)) seat looks looks.shown looks.seat_is looks.broken_is (inr (looks.broken_is ∙ is));
-        over = λ _ calm. record {
-          turn = idle_turn (stands_on key (reading a.now)) seat looks looks.shown looks.seat_is looks.broken_is (inr (looks.broken_is ∙ is));
-          files = same_files before after a b is_a is_b stays;
-        };
+        over = λ _ calm.
+            over_idle key false seat (lines.Close k) [] (replies.Closed old.broken) Empty a b (same_disk before after a b is_a is_b stays)
+            (idle_turn (stands_on key (reading a.now)) seat looks looks.shown looks.seat_is looks.broken_is (inr (looks.broken_is ∙ is)));
       })
   let_under false is (inl clean) stays =
       on_disk key false (lines.Close k) (seen_by [] [] false false) (replies.Closed old.broken) old is None before after keeps aside
@@ -169,10 +163,9 @@ module _ (key : List ℕ) (k : ℕ) (old : SessionState) (seated : IsSeated key 
         spares = λ s has apart. has;
         concerned = none_concerned false (lines.Close k) (Some old);
         turn = λ _. idle_turn (stands_on key (reading a.now)) (Own (seat_on base old)) (record { shown = seat_on base old; key_is = refl; name_is = refl; broken_is = refl; seat_is = refl }) (seat_on base old) refl refl (inl clean);
-        over = λ _ calm. record {
-          turn = idle_turn (stands_on key (reading a.now)) (Own (seat_on base old)) (record { shown = seat_on base old; key_is = refl; name_is = refl; broken_is = refl; seat_is = refl }) (seat_on base old) refl refl (inl clean);
-          files = same_files before after a b is_a is_b stays;
-        };
+        over = λ _ calm.
+            over_idle key false (Own (seat_on base old)) (lines.Close k) [] (replies.Closed old.broken) Empty a b (same_disk before after a b is_a is_b stays)
+            (idle_turn (stands_on key (reading a.now)) (Own (seat_on base old)) (record { shown = seat_on base old; key_is = refl; name_is = refl; broken_is = refl; seat_is = refl }) (seat_on base old) refl refl (inl clean));
       })
   let_under false is (inr broken) stays = absurd (false_true old.broken broken is)
 

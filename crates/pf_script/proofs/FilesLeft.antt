@@ -106,3 +106,9 @@ flushes_booked own (sheet ∷ sheets) book some =
 pub moved_booked : (own : OwnSeat) (sheets : List Sheet) (seal : Seal) (book : Book) → IsSome (book own.name) → AllBooked (flushes own sheets ++ record { deed = Move own.name seal; done = true } ∷ []) book
 moved_booked own sheets seal book some =
     all_booked_on (flushes own sheets) (record { deed = Move own.name seal; done = true } ∷ []) book (flushes_booked own sheets book some) (refl, flushes_some own sheets book some, tt)
+
+-- what flushes of a seat on a name of the book leave of files
+pub files_flushed : (own : OwnSeat) (sheets : List Sheet) (book : Book) (seats left : List Seal) (a b : Honest) → Agrees book seats a.now → IsImage a.now (reading a.now) → DidAll book seats (flushes own sheets) left a b → (entry : Entry) → book own.name ≡ Some entry
+    → FilesAfter (flushes own sheets) (reading a.now) (reading b.now)
+files_flushed own sheets book seats left a b agrees image did entry was =
+    files_after book seats left (flushes own sheets) a b agrees image did (flushes_booked own sheets book (subst (λ (o : Option Entry). IsSome o) (sym was) refl))

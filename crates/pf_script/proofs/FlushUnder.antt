@@ -1,6 +1,6 @@
 -- The line `flush` under a book, from the contract of a flush.
 use Rattle.std.proofs.Common.{◌≡◌, inl, Bool, true, false, List, [], ◌∷◌, ℕ, refl, sym, ◌∙◌, ap, subst, Option, Some, Result, Err}
-use Rattle.std.specs.Prelude.{IfSome, IsSome, option_map}
+use Rattle.std.specs.Prelude.{IfSome, option_map}
 use Rattle.node_tree.specs.Sheet.{Sheet, Stands}
 use Rattle.pf_io.specs.Disk.{reading}
 use Rattle.pf_io.specs.Host.{Answer, HostState, OnDisk, ReadsAsImage, contents}
@@ -13,7 +13,6 @@ use Rattle.pf_session.specs.Reopening.{AsEither, Stood}
 use Rattle.pf_session.specs.Sealing.{StoodIf}
 use Rattle.pf_session.specs.State.{SessionState, file_of}
 use Rattle.pf_session.specs.declared.fault.FlushFault.{FlushFault}
-use Rattle.pf_script.specs.Book.{Entry}
 use Rattle.pf_script.specs.BookActs.{Flush}
 use Rattle.pf_script.specs.BookDebts.{DidAll, seat_of}
 use Rattle.pf_script.specs.BookSeats.{IsOfScript, Covers, KeepsUnder}
@@ -23,13 +22,13 @@ use Rattle.pf_script.specs.Desk.{IsSeated, seat_on}
 use Rattle.pf_script.specs.Script.{OwnSeat, Own}
 use Rattle.pf_script.specs.SeatReplies.{flush_reply}
 use Rattle.pf_script.specs.SeatSteps.{Seals as SealsOwn, resealed, broken_seat}
-use Rattle.pf_script.specs.Turns.{Seen, Standing, SeatTurn, Blame, ByHost, ByDamage, accepted, host_failed, was_damaged, words_failed, not_sealed, of_flush, no_flush, flushed as flushed_line, flushes, BlamesFlush}
+use Rattle.pf_script.specs.Turns.{Seen, Standing, SeatTurn, Blame, ByHost, ByDamage, accepted, host_failed, was_damaged, words_failed, not_sealed, of_flush, no_flush, flushed as flushed_line, BlamesFlush}
 use Rattle.pf_script.specs.declared.line.ScriptLine.TheVariants as lines
 use Rattle.pf_script.specs.declared.reply.Reply.{Reply}
 use Rattle.pf_script.specs.declared.reply.Reply.TheVariants as replies
 use Rattle.pf_script.proofs.ActKeeping.{one_spares}
 use Rattle.pf_script.proofs.CallKeeping.{at_both, read_image, same_disk, stands_there, flush_keeps}
-use Rattle.pf_script.proofs.FilesLeft.{files_after, flushes_booked}
+use Rattle.pf_script.proofs.FilesLeft.{files_flushed}
 use Rattle.pf_script.proofs.FlushLine.{flush_result, flush_act, resealed_own}
 use Rattle.pf_script.proofs.Flushed.{SeenOf, FlushEnds, not_begun, not_ended, was_ended, flush_ends, host_blamed, fault_of}
 use Rattle.pf_script.proofs.Refusing.{none_then}
@@ -52,10 +51,11 @@ flush_counts old mine (ByDamage damage) before a is undamaged base backed stood 
     undamaged base backed (stands_there old mine a base stood))
 
 -- a turn of a flush that failed after its words
-failed_turn : (standing : Standing) (key : List ℕ) (k : ℕ) (own : OwnSeat) (next : Sheet) (these : List Answer) (words : List (List ℕ)) (blame : Blame) → SealsOwn own words next → BlamesFlush own.name these blame
+failed_turn : (standing : Standing) (key : List ℕ) (k : ℕ) (own : OwnSeat) (next : Sheet) (these : List Answer) (words : List (List ℕ)) (blame : Blame) → own.broken ≡ false → SealsOwn own words next → BlamesFlush own.name these blame
     → SeatTurn standing key false (Own own) (lines.Flush k) (seen_by these words (host_blamed blame) false) (flush_reply (fault_of blame)) (record { deed = Flush (seat_of own.key own.name next); done = false } ∷ []) (Own (broken_seat own))
-failed_turn standing key k own next these words ByHost seals blames = host_failed (record { host = refl; random = refl }) (not_sealed own (lines.Flush k) next ByHost (Own (broken_seat own)) seals blames (of_flush k)) refl
-failed_turn standing key k own next these words (ByDamage damage) seals blames = was_damaged damage (record { host = refl; random = refl }) (not_sealed own (lines.Flush k) next (ByDamage damage) (Own (broken_seat own)) seals blames (of_flush k)) refl
+failed_turn standing key k own next these words ByHost whole seals blames = host_failed (record { host = refl; random = refl }) (not_sealed own (lines.Flush k) next ByHost (Own (broken_seat own)) seals blames (of_flush k)) refl
+failed_turn standing key k own next these words (ByDamage damage) whole seals blames =
+    was_damaged damage (none_then [] (Own own) own refl whole tt) (record { host = refl; random = refl }) (not_sealed own (lines.Flush k) next (ByDamage damage) (Own (broken_seat own)) seals blames (of_flush k)) refl
 
 module _ (key : List ℕ) (k : ℕ) (old : SessionState) (seated : IsSeated key old) (whole : old.broken ≡ false) (new : SessionState) (before after : HostState) (random random' : WordsState)
     (keeps : OnDisk before after (KeepsUnder (Covers old) (Covers new) (λ name. name ≡ old.name))) (aside : Aside old.name before after) (reads : ReadsAsImage after) where
@@ -98,7 +98,7 @@ module _ (key : List ℕ) (k : ℕ) (old : SessionState) (seated : IsSeated key 
               shows = other_file (broken_seat (seat_on base old)) new (inl broken) (sym key_is) (sym name_is) (sym broken) refl refl;
               spares = one_spares seats (Flush (seat_of old.key old.name next.0)) false;
               concerned = one_concerned false (lines.Flush k) old false next.0;
-              turn = λ _. failed_turn (stands_on key (reading a.now)) key k (seat_on base old) next.0 these words blame next.1 blames;
+              turn = λ _. failed_turn (stands_on key (reading a.now)) key k (seat_on base old) next.0 these words blame whole next.1 blames;
               over = λ _ calm.
                   absurd
                   (false_true (host_blamed blame)
@@ -132,7 +132,7 @@ module _ (key : List ℕ) (k : ℕ) (old : SessionState) (seated : IsSeated key 
               turn = λ _. accepted (none_then [] (Own own) own refl whole tt) (record { host = refl; random = refl }) (flushed_line k own next.0 next.1);
               over = λ _ calm. record {
                 turn = accepted (none_then [] (Own own) own refl whole tt) (record { host = refl; random = refl }) (flushed_line k own next.0 next.1);
-                files = files_after book seats left (flushes own (next.0 ∷ [])) a b agrees on.image did (flushes_booked own (next.0 ∷ []) book (subst (λ (o : Option Entry). IsSome o) (sym on.was) refl));
+                files = files_flushed own (next.0 ∷ []) book seats left a b agrees on.image did on.entry on.was;
               };
             });
       })

@@ -1,7 +1,7 @@
 -- A line that is one change, under a book.
 use Rattle.std.proofs.Common.{◌≡◌, inl, Bool, true, false, List, [], ◌∷◌, ℕ, refl, sym, ◌∙◌, ap, subst, Option, Some, length}
 use Rattle.std.proofs.lemmas.List.Elements.{Contains-push}
-use Rattle.std.specs.Prelude.{Contains, IsSome}
+use Rattle.std.specs.Prelude.{Contains}
 use Rattle.node_tree.specs.Applying.{Step}
 use Rattle.node_tree.specs.Backing.{now}
 use Rattle.node_tree.specs.Sheet.{Sheet}
@@ -15,7 +15,7 @@ use Rattle.pf_script.specs.Book.{Book, Entry, Seal, Agrees}
 use Rattle.pf_script.specs.BookDebts.{DidAll, seat_of}
 use Rattle.pf_script.specs.BookSeats.{Covers, KeepsUnder}
 use Rattle.pf_script.specs.BookTurns.{of_book, LineUnder, SeatBooked}
-use Rattle.pf_script.specs.FileTurns.{stands_on, answers_of, FilesAfter, SeatOver}
+use Rattle.pf_script.specs.FileTurns.{stands_on, answers_of, SeatOver}
 use Rattle.pf_script.specs.Desk.{IsSeated, seat_on}
 use Rattle.pf_script.specs.Rules.{NoneRefuses, rules}
 use Rattle.pf_script.specs.Script.{OwnSeat, Own}
@@ -31,7 +31,7 @@ use Rattle.pf_script.proofs.ChangeLeft.{ChangeIn}
 use Rattle.pf_script.proofs.ChangeLine.{outcome_reply, none_made}
 use Rattle.pf_script.proofs.ChangeTold.{Outcome, Went, Broke, Lacked, Wanted, Grew}
 use Rattle.pf_script.proofs.ChangeUnder.{Progress, Fell, change_known}
-use Rattle.pf_script.proofs.FilesLeft.{files_after, flushes_booked}
+use Rattle.pf_script.proofs.FilesLeft.{files_flushed}
 use Rattle.pf_script.proofs.Flushed.{host_blamed, fault_of}
 use Rattle.pf_script.proofs.SeatCalls.{seen_by}
 use Rattle.pf_script.proofs.Under.{OnBase, on_disk}
@@ -51,12 +51,6 @@ begins key line seen reply old whole new a b book seats agrees base on mine stan
   seated = on.seated;
   stood = on.stood;
 }
-
--- what flushes of a seat on a name of the book leave of files
-files_flushed : (own : OwnSeat) (sheets : List Sheet) (book : Book) (seats left : List Seal) (a b : Honest) → Agrees book seats a.now → IsImage a.now (reading a.now) → DidAll book seats (flushes own sheets) left a b → (entry : Entry) → book own.name ≡ Some entry
-    → FilesAfter (flushes own sheets) (reading a.now) (reading b.now)
-files_flushed own sheets book seats left a b agrees image did entry was =
-    files_after book seats left (flushes own sheets) a b agrees image did (flushes_booked own sheets book (subst (λ (o : Option Entry). IsSome o) (sym was) refl))
 
 -- a line that was accepted and made these steps, over the files alone
 pub changed_over : (key : List ℕ) (line : ScriptLine) (reply : Reply) (own after : OwnSeat) (steps : List Step) (words : List (List ℕ)) (sheets : List Sheet) (book : Book) (seats left : List Seal) (a b : Honest)

@@ -1,6 +1,6 @@
 -- A line in which nothing failed has the same turn by the answers of the files.
-use Rattle.std.proofs.Common.{◌≡◌, inl, inr, Bool, true, false, List, [], ◌∷◌, ◌++◌, ℕ, refl, sym, ◌∙◌, ap, None, Some, arith}
-use Rattle.std.specs.Prelude.{Contains}
+use Rattle.std.proofs.Common.{◌≡◌, inl, inr, Bool, true, false, List, [], ◌∷◌, ◌++◌, ℕ, refl, sym, ◌∙◌, ap, subst, Option, None, Some, arith}
+use Rattle.std.specs.Prelude.{Contains, IfSome, option_map}
 use Rattle.node_layout.specs.declared.damage.Damage.{Damage}
 use Rattle.pf_io.specs.Disk.{Name, Disk, Files, reading}
 use Rattle.pf_io.specs.Host.{Answer, LengthWas, Gave}
@@ -47,6 +47,13 @@ none_last name block last = by_front last.before last.split
 none_is : (name : Name) (size : ℕ) (others : List Answer) → [] ≡ LengthWas name (Some size) ∷ others → ⊥
 none_is name size others same = absurd (cc)
 
+-- no count rose, where one did
+pub no_host_fault : {given : List Answer} {words : List (List ℕ)} {of_words : Bool} → Failed (record { given = given; words = words; host_failed = true; words_failed = of_words }) false false → ⊥
+no_host_fault calm = not_both calm.host
+
+pub no_words_fault : {given : List Answer} {words : List (List ℕ)} {of_host : Bool} → Failed (record { given = given; words = words; host_failed = of_host; words_failed = true }) false false → ⊥
+no_words_fault calm = not_both calm.random
+
 module _ (key : List ℕ) (files : Files) (taken : Bool) (seat : Seat) (line : ScriptLine) (seen : Seen) where
   abbrev over : Seen
   over = seen_over files line seen.words
@@ -60,7 +67,7 @@ module _ (key : List ℕ) (files : Files) (taken : Bool) (seat : Seat) (line : S
   calm_over reply acts after (refused why first calm none said nothing stays) none_failed same_first same_none undamaged = refused why (same_first why first) (record { host = refl; random = refl }) none said nothing stays
   calm_over reply acts after (accepted none calm accepts) none_failed same_first same_none undamaged = accepted (same_none none) (record { host = refl; random = refl }) (accepts_over key files seen (answers_of files line) seat line reply acts after accepts)
   calm_over reply acts after (host_failed failed fails said) none_failed same_first same_none undamaged = absurd (not_both (sym failed.host ∙ none_failed.host))
-  calm_over reply acts after (was_damaged damage calm fails said) none_failed same_first same_none undamaged = absurd (undamaged damage said)
+  calm_over reply acts after (was_damaged damage free calm fails said) none_failed same_first same_none undamaged = absurd (undamaged damage said)
   calm_over reply acts after (words_failed failed loses said) none_failed same_first same_none undamaged = absurd (not_both (sym failed.random ∙ none_failed.random))
 
 -- lines whose rules look at no answer
@@ -146,6 +153,17 @@ first_unasked key taken seat (lines.Move k name) these why (inr (seated, inr (wh
 first_unasked key taken seat (lines.Move k name) these why (inr (seated, inr (whole, inr (apart, inr (good, inr (absent, none)))))) = absurd none
 first_unasked key taken seat (lines.Draw k) these why first = first
 first_unasked key taken seat (lines.Close k) these why first = first
+
+-- What holds of the files of an honest host holds of what its disk reads.
+pub on_reading : (P : Files → Type 0) (o : Option Honest) (a : Honest) → o ≡ Some a → IfSome (option_map (λ host. reading host.now) o) P → P (reading a.now)
+on_reading P o a is holds = subst (λ (q : Option Honest). IfSome (option_map (λ host. reading host.now) q) P) is holds
+
+-- the same where the answers are those of the files
+pub same_over : (key : List ℕ) (files : Files) (taken : Bool) (seat : Seat) (line : ScriptLine) (these : List Answer) (words : List (List ℕ)) (reply : Reply) (acts : List Act) (after : Seat) → these ≡ answers_of files line
+    → SeatTurn (stands_on key files) key taken seat line (record { given = these; words = words; host_failed = false; words_failed = false }) reply acts after
+    → SeatTurn (stands_on key files) key taken seat line (seen_over files line words) reply acts after
+same_over key files taken seat line these words reply acts after same turn =
+    subst (λ (l : List Answer). SeatTurn (stands_on key files) key taken seat line (record { given = l; words = words; host_failed = false; words_failed = false }) reply acts after) same turn
 
 -- Without acts the files are as before.
 pub same_files : (a b : Honest) → Unchanged a b → FilesAfter [] (reading a.now) (reading b.now)

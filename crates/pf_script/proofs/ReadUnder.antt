@@ -9,7 +9,7 @@ use Rattle.node_tree.specs.State.{TreeState, readable}
 use Rattle.node_tree.specs.declared.fault.TreeFault.{TreeFault}
 use Rattle.node_tree.specs.declared.fault.TreeFault.TheVariants as trees
 use Rattle.pf_io.specs.Counts.{HasCause}
-use Rattle.pf_io.specs.Disk.{Name, Disk, reading}
+use Rattle.pf_io.specs.Disk.{Name, reading}
 use Rattle.pf_io.specs.Host.{Answer, HostState, OnDisk}
 use Rattle.pf_io.specs.Unchanged.{KeepsDisk}
 use Rattle.pf_io.specs.Words.{WordsState}
@@ -31,6 +31,7 @@ use Rattle.pf_script.specs.declared.line.ScriptLine.TheVariants as lines
 use Rattle.pf_script.specs.declared.reply.Reply.{Reply}
 use Rattle.pf_script.specs.declared.reply.Reply.TheVariants as replies
 use Rattle.pf_script.specs.declared.reply.Why.TheVariants as whys
+use Rattle.pf_script.proofs.OverGiven.{over_idle}
 use Rattle.pf_script.proofs.ReadKeeping.{read_keeps, stood_read}
 use Rattle.pf_script.proofs.ReadLine.{slice_is, same_seat, whole_new, kept_new, ends_count}
 use Rattle.pf_script.proofs.Refusing.{none_then, none_taken}
@@ -64,10 +65,9 @@ module _ (key : List ℕ) (k at count : ℕ) (old : SessionState) (seated : IsSe
           spares = λ s has apart. has;
           concerned = none_concerned false line (Some old);
           turn = λ _. turn (stands_on key (reading a.now)) base reads.these stands;
-          over = λ _ calm. record {
-            turn = subst (λ (h : Bool). SeatTurn (stands_on key (reading a.now)) key false (Own (seat_on base old)) line (seen_by [] [] h false) reply [] (Own (seat_on base old))) calm.host (turn (stands_on key (reading a.now)) base [] stands);
-            files = λ name. ap (λ (d : Disk). reading d name) only.ends;
-          };
+          over = λ _ calm.
+              over_idle key false (Own (seat_on base old)) line [] reply (Own (seat_on base old)) a b only
+              (subst (λ (h : Bool). SeatTurn (stands_on key (reading a.now)) key false (Own (seat_on base old)) line (seen_by [] [] h false) reply [] (Own (seat_on base old))) calm.host (turn (stands_on key (reading a.now)) base [] stands));
         });
   }
 
