@@ -74,3 +74,4 @@ pub mod BookRunning
 pub mod Unpaired
 pub mod KnownSeats
 pub mod RunningOver
+pub mod RunsOver
