@@ -1,27 +1,27 @@
 -- A seat on a name of which the book speaks, after a line by which nothing fails.
-use Rattle.std.proofs.Common.{◌≡◌, ◌≢◌, ◌⊎◌, inl, inr, ⊎_elim, Bool, true, false, List, [], ◌∷◌, ◌++◌, ℕ, refl, sym, ◌∙◌, ap, subst, Option, Some, None}
-use Rattle.std.specs.Prelude.{⊤, is_some, IsSome, IsSomeAnd}
+use Rattle.std.proofs.Common.{◌≡◌, ◌⊎◌, inl, inr, Bool, true, false, List, [], ◌∷◌, ◌++◌, ℕ, refl, sym, ◌∙◌, ap, subst, Some}
+use Rattle.std.specs.Prelude.{IsSome}
+use Rattle.std.proofs.lemmas.Bool.{false_from_ne_true}
 use Rattle.node_tree.specs.Applying.{Step}
 use Rattle.node_tree.specs.Sheet.{Sheet}
 use Rattle.node_layout.specs.declared.damage.Damage.{Damage}
 use Rattle.pf_io.specs.Disk.{Name, Files}
 use Rattle.pf_io.specs.Host.{Answer}
-use Rattle.pf_script.specs.Book.{Book, Entry, Seal}
-use Rattle.pf_script.specs.BookActs.{Opening, Creation, Flush, Move, Act, booked, booked_all, speaks}
+use Rattle.pf_script.specs.Book.{Book}
+use Rattle.pf_script.specs.BookActs.{Flush, Move, Act, booked, booked_all}
 use Rattle.pf_script.specs.BookDebts.{seat_of}
 use Rattle.pf_script.specs.BookTurns.{SpeaksOfOpened}
 use Rattle.pf_script.specs.FileTurns.{FilesAfter, stands_on, answers_of, seen_over}
 use Rattle.pf_script.specs.Rules.{NoneRefuses, rules}
 use Rattle.pf_script.specs.Script.{OwnSeat, Seat, Empty, Own, HasThisName, name_of_line}
 use Rattle.pf_script.specs.SeatSteps.{resealed, renamed, broken_seat, IsStepped, Makes, at_once, once_flushed, MakesAll, none_left, one_more}
-use Rattle.pf_script.specs.Turns.{Seen, Standing, Failed, new_seat, flushes, FlushedToMove, as_it_was, was_changed, Accepts, created, opened, read, changed, flushed, moved, drawn_again, drawn_now, let_go, flushed_last, Blame, ByHost, ByDamage, Fails, not_asked, not_created, not_opened, not_read, not_fetched, not_fetched_after, not_flushed_before, not_sealed, not_looked_up, not_flushed_to_move, not_moved, SeatTurn, refused, accepted, host_failed, was_damaged, words_failed}
+use Rattle.pf_script.specs.Turns.{Seen, Standing, new_seat, flushes, FlushedToMove, as_it_was, was_changed, Accepts, created, opened, read, changed, flushed, moved, drawn_again, drawn_now, let_go, flushed_last, ByDamage, Fails, not_opened, not_read, not_fetched, not_fetched_after, not_flushed_before, not_sealed, not_flushed_to_move, not_moved, SeatTurn, refused, accepted, host_failed, was_damaged, words_failed}
 use Rattle.pf_script.specs.declared.line.ScriptLine.{ScriptLine}
 use Rattle.pf_script.specs.declared.line.ScriptLine.TheVariants as lines
 use Rattle.pf_script.specs.declared.reply.Reply.{Reply}
-use Rattle.pf_script.specs.declared.reply.Reply.TheVariants as replies
 use Rattle.pf_script.specs.declared.reply.Why.TheVariants as whys
 use Rattle.pf_script.proofs.Composing.{booked_on}
-use Rattle.pf_script.proofs.Unpaired.{AreUnpaired, IsSpared, SparesWith, IsSealed, all_flushed, created_spares, opened_spares, moved_spares}
+use Rattle.pf_script.proofs.Unpaired.{AreUnpaired, SparesWith, IsSealed, all_flushed, created_spares, opened_spares, moved_spares}
 
 -- a seat that is not broken is on a name of the book
 abbrev pub IsKnownSeat : Book → Seat → Type 0
@@ -38,10 +38,6 @@ pub record SeatLeft (concerned : Name → Type 0) (book later : Book) (after : S
   pub others : (name : Name) → ¬ (concerned name) → later name ≡ book name
   pub here : IsKnownSeat later after
   pub named : (name : Name) → HasThisName name after → concerned name
-
-is_false : (b : Bool) → (b ≡ true → ⊥) → b ≡ false
-is_false true h = absurd (h refl)
-is_false false h = refl
 
 -- a step leaves the seat's name, and whether it is broken
 pub record KeepsName (old new : OwnSeat) : Type 0 where
@@ -115,7 +111,7 @@ moved_left k taken name own after sheet sheets book unpaired free named known =
     let mid : Book = booked_all (flushes own sheets) book in
     let one : IsSealed own.name book mid = all_flushed own sheets book unpaired in
     let two : SparesWith (Concerned taken (lines.Move k name) (Own own)) name mid (booked (Move own.name (seat_of own.key name sheet)) true mid) =
-        moved_spares (Concerned taken (lines.Move k name) (Own own)) own.name (seat_of own.key name sheet) mid (inr (refl, free)) (inl refl) one.unpaired (one.still known) in
+    moved_spares (Concerned taken (lines.Move k name) (Own own)) own.name (seat_of own.key name sheet) mid (inr (refl, free)) (inl refl) one.unpaired (one.still known) in
     subst (λ (b : Book). SeatLeft (Concerned taken (lines.Move k name) (Own own)) book b (Own after)) (sym (booked_on (flushes own sheets) (record { deed = Move own.name (seat_of own.key name sheet); done = true } ∷ []) book))
     (record {
       unpaired = two.0.unpaired;
@@ -129,10 +125,10 @@ accepts_leaves : (standing : Standing) (key : List ℕ) (seen : Seen) (taken : B
     → AreUnpaired book → NoneRefuses (rules key taken seat line given) → SpeaksOfOpened book key line reply → IsKnownSeat book seat → Accepts standing key seen seat line reply acts after
     → SeatLeft (Concerned taken line seat) book (booked_all acts book) after
 accepts_leaves standing key seen taken _ _ _ _ _ book given unpaired none spoken known (created k name sheet seals) =
-    let free = is_false taken (λ is. none.1.0 whys.NameBusy (refl, is)) in
+    let free = false_from_ne_true taken (λ is. none.1.0 whys.NameBusy (refl, is)) in
     new_left taken (lines.Create k name) book unpaired Empty (new_seat key name sheet) _ refl free (created_spares (Concerned taken (lines.Create k name) Empty) (seat_of key name sheet) book (inr (refl, free)) unpaired)
 accepts_leaves standing key seen taken _ _ _ _ _ book given unpaired none spoken known (opened k name sheet stands path_is no_words) =
-    let free = is_false taken (λ is. none.1.0 whys.NameBusy (refl, is)) in
+    let free = false_from_ne_true taken (λ is. none.1.0 whys.NameBusy (refl, is)) in
     new_left taken (lines.Open k name) book unpaired Empty (new_seat key name sheet) _ refl free (opened_spares (Concerned taken (lines.Open k name) Empty) (seat_of key name sheet) book (inr (refl, free)) unpaired spoken)
 accepts_leaves standing key seen taken _ _ _ _ _ book given unpaired none spoken known (read k at count own no_words) = same_left taken (lines.Read k at count) book unpaired (Own own) (Own own) known (λ name has. has)
 accepts_leaves standing key seen taken _ _ _ _ _ book given unpaired none spoken known (changed own after line reply steps sheets asks makes replied) =
@@ -140,8 +136,8 @@ accepts_leaves standing key seen taken _ _ _ _ _ book given unpaired none spoken
 accepts_leaves standing key seen taken _ _ _ _ _ book given unpaired none spoken known (flushed k own sheet seals) =
     kept_left taken (lines.Flush k) book unpaired own (resealed own sheet) _ (all_flushed own (sheet ∷ []) book unpaired) known (record { name_is = refl; broken_is = refl })
 accepts_leaves standing key seen taken _ _ _ _ _ book given unpaired none spoken known (moved k name own mid words more sheets sheet flushed_first seals words_are) =
-    let free : taken ≡ false = is_false taken (λ is. none.1.1.0 whys.NameBusy (refl, is)) in
-    let whole : own.broken ≡ false = is_false own.broken (λ is. none.1.0 whys.Broken (refl, is)) in
+    let free : taken ≡ false = false_from_ne_true taken (λ is. none.1.1.0 whys.NameBusy (refl, is)) in
+    let whole : own.broken ≡ false = false_from_ne_true own.broken (λ is. none.1.0 whys.Broken (refl, is)) in
     moved_left k taken name own (renamed mid name sheet) sheet sheets book unpaired free refl (known whole)
 accepts_leaves standing key seen taken _ _ _ _ _ book given unpaired none spoken known (drawn_again k own nonce drawn no_words) = same_left taken (lines.Draw k) book unpaired (Own own) (Own own) known (λ name has. has)
 accepts_leaves standing key seen taken _ _ _ _ _ book given unpaired none spoken known (drawn_now k own first second drawn words_are) = same_left taken (lines.Draw k) book unpaired (Own own) _ known (λ name has. has)

@@ -1,24 +1,22 @@
 -- A run under a book in which nothing fails, as one over the files of the disk.
-use Rattle.std.proofs.Common.{◌≡◌, ◌≢◌, ◌⊎◌, inl, inr, ⊎_elim, Bool, true, false, List, [], ◌∷◌, ◌++◌, ℕ, ◌<◌, ◌≤◌, refl, sym, ◌∙◌, ap, subst, arith, Option, Some, None, get_or, set, length}
-use Rattle.std.specs.Prelude.{⊤, is_some, IsSome, IsSomeAnd, IfSome, IsTrue, ◌↔◌}
+use Rattle.std.proofs.Common.{◌≡◌, ◌≢◌, ◌⊎◌, inl, inr, ⊎_elim, Bool, true, false, List, [], ◌∷◌, ◌++◌, ℕ, ◌<◌, ◌≤◌, refl, sym, ◌∙◌, ap, subst, Option, Some, None, get_or, length}
+use Rattle.std.specs.Prelude.{is_some, IsSome, IfSome, IsTrue, ◌↔◌}
 use Rattle.std.proofs.lemmas.Bool.{cases_lt}
 use Rattle.std.proofs.lemmas.List.{get_or-set_same, get_or-set_other, get_or_past, set_past}
 use Rattle.pf_io.specs.Disk.{Name, Disk, Files, reading}
 use Rattle.pf_io.specs.Moments.{Honest}
-use Rattle.pf_script.specs.Book.{Book, Entry, Seal}
+use Rattle.pf_script.specs.Book.{Book, Entry}
 use Rattle.pf_script.specs.BookActs.{Act, booked_all}
 use Rattle.pf_script.specs.BookLaws.{StartsWith}
 use Rattle.pf_script.specs.BookRuns.{FollowsUnder}
 use Rattle.pf_script.specs.BookTurns.{SpeaksOfOpened, Knows, KnowsLine}
 use Rattle.pf_script.specs.FileRuns.{FollowsOver}
-use Rattle.pf_script.specs.FileTurns.{TurnOver, stands_on, seen_over, answers_of}
-use Rattle.pf_script.specs.Script.{OwnSeat, Seat, Empty, Own, ScriptState, seat_at, HasThisName, IsTaken, state_with, seat_of_line, name_of_line}
+use Rattle.pf_script.specs.FileTurns.{TurnOver, stands_on, seen_over}
+use Rattle.pf_script.specs.Script.{Seat, Empty, Own, ScriptState, seat_at, HasThisName, IsTaken, state_with, seat_of_line, name_of_line}
 use Rattle.pf_script.specs.ScriptRuns.{Exchange}
-use Rattle.pf_script.specs.Turns.{Seen, Failed, Turn, silent, on_seat, SaysTaken}
+use Rattle.pf_script.specs.Turns.{Failed, Turn, silent, on_seat, SaysTaken}
 use Rattle.pf_script.specs.declared.line.ScriptLine.{ScriptLine}
-use Rattle.pf_script.specs.declared.line.ScriptLine.TheVariants as lines
 use Rattle.pf_script.specs.declared.reply.Reply.{Reply}
-use Rattle.pf_script.specs.declared.reply.Reply.TheVariants as replies
 use Rattle.pf_script.proofs.Desking.{same_or_not}
 use Rattle.pf_script.proofs.KnownSeats.{IsKnownSeat, Concerned, SeatLeft, turn_leaves}
 use Rattle.pf_script.proofs.Unpaired.{IsUnpaired, AreUnpaired, none_unpaired, alone_unpaired}
@@ -53,9 +51,6 @@ known_at_start book disk state starts empty = record {
     by_entry name None was = none_unpaired
     by_entry name (Some entry) was = let is = starts name entry was in subst (λ (e : Entry). IsUnpaired (Some e)) (sym is.entry_is) (alone_unpaired is.key (Some is.content) None true)
 
-no_true : ¬ (IsTrue false)
-no_true is = absurd (cc)
-
 module _ (book : Book) (state : ScriptState) (is : IsKnown book state) where
   -- the book tells what a line comes to, where it speaks of a name that is opened
   knows : (line : ScriptLine) (reply : Reply) → SpeaksOfOpened book state.key line reply → KnowsLine book state line reply
@@ -73,7 +68,7 @@ module _ (book : Book) (state : ScriptState) (is : IsKnown book state) where
       by_line None = tt
       by_line (Some k) = by_seat (seat_at state k) (is.known k)
 
-  module _ (k : ℕ) (taken : Bool) (line : ScriptLine) (names : seat_of_line line ≡ Some k) (says : SaysTaken state k (name_of_line line) taken) (after : Seat) (acts : List Act) (later : Book)
+  module _ (k : ℕ) (taken : Bool) (line : ScriptLine) (says : SaysTaken state k (name_of_line line) taken) (after : Seat) (acts : List Act) (later : Book)
       (leaves : SeatLeft (Concerned taken line (seat_at state k)) book later after) where
     abbrev left : ScriptState
     left = state_with state k after acts
@@ -83,8 +78,8 @@ module _ (book : Book) (state : ScriptState) (is : IsKnown book state) where
     not_concerned j name apart has (inl here) = apart (is.apart j k name has here)
     not_concerned j name apart has (inr gives) =
         let tells : IsTrue taken ↔ IsTaken state k name = subst (λ (o : Option Name). IfSome o (λ name. IsTrue taken ↔ IsTaken state k name)) gives.0 says in
-        let was : IsTrue taken = tells.1 (j, apart, has) in
-        absurd (no_true (subst IsTrue gives.1 was))
+        let never : IsTrue false = subst IsTrue gives.1 (tells.1 (j, apart, has)) in
+        absurd (cc)
 
     -- a seat afterwards is another one as before, the line's, or none
     pub data IsAfter (j : ℕ) : Type 0 where
@@ -134,7 +129,7 @@ module _ (book : Book) (state : ScriptState) (is : IsKnown book state) where
           subst (λ (these : List Act). IsKnown (booked_all these book) after) (sym no_acts) (subst (λ (s : ScriptState). IsKnown book s) (sym same) is)
       by_turn (on_seat k taken seat names says turn same) =
           subst (λ (s : ScriptState). IsKnown (booked_all acts book) s) (sym same)
-          (known_after k taken line names says seat acts (booked_all acts book)
+          (known_after k taken line says seat acts (booked_all acts book)
           (turn_leaves state.key taken (seat_at state k) line words reply acts seat old new book is.unpaired spoken (is.known k) turn over.files))
 
 pub over_under : (E : Book → ScriptState → Files → Type 0) (F : Book → ScriptState → Honest → Type 0) (book : Book) (state : ScriptState) (exchanges : List Exchange) (disk : Honest)

@@ -1,5 +1,5 @@
 -- Runs over files: one after the other, and without the book.
-use Rattle.std.proofs.Common.{◌≡◌, List, [], ◌∷◌, ◌++◌, refl, sym, subst}
+use Rattle.std.proofs.Common.{List, [], ◌∷◌, ◌++◌, refl, subst}
 use Rattle.std.specs.Prelude.{⊤}
 use Rattle.pf_io.specs.Disk.{Files}
 use Rattle.pf_script.specs.Book.{Book}

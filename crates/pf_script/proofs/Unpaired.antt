@@ -1,15 +1,14 @@
 -- Books in which no name has a partner, and what deeds that are done leave of them.
-use Rattle.std.proofs.Common.{◌≡◌, ◌≢◌, ◌⊎◌, inl, inr, ⊎_elim, Bool, true, false, cond, List, [], ◌∷◌, ◌++◌, ℕ, refl, sym, ◌∙◌, ap, subst, Option, Some, None}
+use Rattle.std.proofs.Common.{◌≡◌, ◌≢◌, ◌⊎◌, ⊎_elim, Bool, true, false, cond, List, [], ◌∷◌, ℕ, refl, sym, ◌∙◌, ap, subst, Option, Some, None}
 use Rattle.std.specs.Prelude.{is_some, IsSome, IsSomeAnd}
 use Rattle.pf_io.specs.Disk.{Name}
 use Rattle.pf_io.specs.Replay.{set_at}
 use Rattle.node_tree.specs.Sheet.{Sheet}
 use Rattle.pf_script.specs.Book.{Book, Entry, Alone, Partner, Seal}
-use Rattle.pf_script.specs.BookActs.{Creation, Flush, Move, Opening, Act, freed, dropped, without_partner, sealed_entry, speaks, opened, flushed, moved, booked, booked_all}
+use Rattle.pf_script.specs.BookActs.{Creation, Move, Opening, freed, dropped, without_partner, sealed_entry, speaks, opened, flushed, moved, booked, booked_all}
 use Rattle.pf_script.specs.BookDebts.{seat_of}
 use Rattle.pf_script.specs.Script.{OwnSeat}
 use Rattle.pf_script.specs.Turns.{flushes}
-use Rattle.pf_script.proofs.Composing.{booked_on}
 use Rattle.pf_script.proofs.NameMaps.{name_or, set_at-same, set_at-other}
 
 -- an entry without a partner
@@ -34,6 +33,12 @@ dropped_same : (name : Name) (entry : Option Entry) → IsUnpaired entry → dro
 dropped_same name None is = refl
 dropped_same name (Some (Alone key kept tried ready)) is = refl
 dropped_same name (Some (Partner key content other)) is = absurd (is key content other refl)
+
+freed_unpaired : (gone : Name) (book : Book) → AreUnpaired book → AreUnpaired (without_partner freed gone book)
+freed_unpaired gone book unpaired n = subst IsUnpaired (sym (freed_same gone (book n) (unpaired n))) (unpaired n)
+
+dropped_unpaired : (gone : Name) (book : Book) → AreUnpaired book → AreUnpaired (without_partner dropped gone book)
+dropped_unpaired gone book unpaired n = subst IsUnpaired (sym (dropped_same gone (book n) (unpaired n))) (unpaired n)
 
 set_unpaired : (name : Name) (value : Option Entry) (book : Book) → IsUnpaired value → AreUnpaired book → AreUnpaired (set_at name value book)
 set_unpaired name value book here others n =
@@ -84,57 +89,40 @@ all_flushed own (sheet ∷ sheets) book unpaired =
     let one : IsSealed own.name book (flushed seal true (book own.name) book) = flushed_by seal true book (book own.name) refl unpaired in
     sealed_then own.name book (flushed seal true (book own.name) book) (booked_all (flushes own sheets) (flushed seal true (book own.name) book)) one (all_flushed own sheets (flushed seal true (book own.name) book) one.unpaired)
 
+-- a name that is set to the content of a sheet, over a book in which the names that are not concerned are as before
+set_spares : (concerned : Name → Type 0) (seal : Seal) (book base : Book) → concerned seal.name → AreUnpaired base → ((name : Name) → ¬ (concerned name) → base name ≡ book name)
+    → SparesWith concerned seal.name book (set_at seal.name (Some (Alone seal.key (Some seal.sheet.content) None true)) base)
+set_spares concerned seal book base is unpaired others = (
+  record {
+    unpaired = set_unpaired seal.name (Some (Alone seal.key (Some seal.sheet.content) None true)) base (alone_unpaired seal.key (Some seal.sheet.content) None true) unpaired;
+    others = λ name apart. set_at-other seal.name name (Some (Alone seal.key (Some seal.sheet.content) None true)) base (λ e. apart (subst concerned (sym e) is)) ∙ others name apart;
+  },
+  some_set seal.name (Alone seal.key (Some seal.sheet.content) None true) base,
+)
+
 -- a creation
 pub created_spares : (concerned : Name → Type 0) (seal : Seal) (book : Book) → concerned seal.name → AreUnpaired book → SparesWith concerned seal.name book (booked (Creation seal) true book)
-created_spares concerned seal book is unpaired = (
-  record {
-    unpaired = set_unpaired seal.name (Some (Alone seal.key (Some seal.sheet.content) None true)) (without_partner freed seal.name book) (alone_unpaired seal.key (Some seal.sheet.content) None true) (freed_unpaired seal.name);
-    others = λ name apart. set_at-other seal.name name (Some (Alone seal.key (Some seal.sheet.content) None true)) (without_partner freed seal.name book) (λ e. apart (subst concerned (sym e) is)) ∙ freed_same seal.name (book name) (unpaired name);
-  },
-  some_set seal.name (Alone seal.key (Some seal.sheet.content) None true) (without_partner freed seal.name book),
-)
-  where
-    freed_unpaired : (gone : Name) → AreUnpaired (without_partner freed gone book)
-    freed_unpaired gone n = subst IsUnpaired (sym (freed_same gone (book n) (unpaired n))) (unpaired n)
+created_spares concerned seal book is unpaired =
+    set_spares concerned seal book (without_partner freed seal.name book) is (freed_unpaired seal.name book unpaired) (λ name apart. freed_same seal.name (book name) (unpaired name))
 
 -- an opening of which the book speaks
 pub opened_spares : (concerned : Name → Type 0) (seal : Seal) (book : Book) → concerned seal.name → AreUnpaired book → IsSomeAnd (book seal.name) (λ entry. speaks seal.key entry ≡ true)
     → SparesWith concerned seal.name book (booked (Opening seal) true book)
 opened_spares concerned seal book is unpaired spoken = by_entry (book seal.name) spoken
   where
-    dropped_unpaired : (gone : Name) → AreUnpaired (without_partner dropped gone book)
-    dropped_unpaired gone n = subst IsUnpaired (sym (dropped_same gone (book n) (unpaired n))) (unpaired n)
-
-    kept : SparesWith concerned seal.name book (set_at seal.name (Some (Alone seal.key (Some seal.sheet.content) None true)) (without_partner dropped seal.name book))
-    kept = (
-      record {
-        unpaired = set_unpaired seal.name (Some (Alone seal.key (Some seal.sheet.content) None true)) (without_partner dropped seal.name book) (alone_unpaired seal.key (Some seal.sheet.content) None true) (dropped_unpaired seal.name);
-        others = λ name apart. set_at-other seal.name name (Some (Alone seal.key (Some seal.sheet.content) None true)) (without_partner dropped seal.name book) (λ e. apart (subst concerned (sym e) is)) ∙ dropped_same seal.name (book name) (unpaired name);
-      },
-      some_set seal.name (Alone seal.key (Some seal.sheet.content) None true) (without_partner dropped seal.name book),
-    )
-
     by_entry : (entry : Option Entry) → IsSomeAnd entry (λ entry. speaks seal.key entry ≡ true) → SparesWith concerned seal.name book (opened seal entry book)
     by_entry None none = absurd none
     by_entry (Some entry) says =
-        subst (λ (b : Bool). SparesWith concerned seal.name book (set_at seal.name (cond b (Some (Alone seal.key (Some seal.sheet.content) None true)) None) (without_partner dropped seal.name book))) (sym says) kept
+        subst (λ (b : Bool). SparesWith concerned seal.name book (set_at seal.name (cond b (Some (Alone seal.key (Some seal.sheet.content) None true)) None) (without_partner dropped seal.name book))) (sym says)
+        (set_spares concerned seal book (without_partner dropped seal.name book) is (dropped_unpaired seal.name book unpaired) (λ name apart. dropped_same seal.name (book name) (unpaired name)))
 
 -- a move of a name of which the book speaks
 pub moved_spares : (concerned : Name → Type 0) (from : Name) (seal : Seal) (book : Book) → concerned seal.name → concerned from → AreUnpaired book → IsSome (book from)
     → SparesWith concerned seal.name book (booked (Move from seal) true book)
 moved_spares concerned from seal book is is_from unpaired known = by_entry (book from) known
   where
-    freed_unpaired : (gone : Name) → AreUnpaired (without_partner freed gone book)
-    freed_unpaired gone n = subst IsUnpaired (sym (freed_same gone (book n) (unpaired n))) (unpaired n)
-
     by_entry : (entry : Option Entry) → IsSome entry → SparesWith concerned seal.name book (moved from seal true entry book)
     by_entry None none = absurd (cc)
-    by_entry (Some entry) some = (
-      record {
-        unpaired = set_unpaired seal.name (Some (Alone seal.key (Some seal.sheet.content) None true)) (set_at from None (without_partner freed seal.name book)) (alone_unpaired seal.key (Some seal.sheet.content) None true) (set_unpaired from None (without_partner freed seal.name book) none_unpaired (freed_unpaired seal.name));
-        others = λ name apart.
-            set_at-other seal.name name (Some (Alone seal.key (Some seal.sheet.content) None true)) (set_at from None (without_partner freed seal.name book)) (λ e. apart (subst concerned (sym e) is))
-            ∙ set_at-other from name None (without_partner freed seal.name book) (λ e. apart (subst concerned (sym e) is_from)) ∙ freed_same seal.name (book name) (unpaired name);
-      },
-      some_set seal.name (Alone seal.key (Some seal.sheet.content) None true) (set_at from None (without_partner freed seal.name book)),
-    )
+    by_entry (Some entry) some =
+        set_spares concerned seal book (set_at from None (without_partner freed seal.name book)) is (set_unpaired from None (without_partner freed seal.name book) none_unpaired (freed_unpaired seal.name book unpaired))
+        (λ name apart. set_at-other from name None (without_partner freed seal.name book) (λ e. apart (subst concerned (sym e) is_from)) ∙ freed_same seal.name (book name) (unpaired name))
