@@ -74,3 +74,7 @@ pub mod DeskLine
 pub mod BlankLine
 pub mod MoveLine
 pub mod BookRunning
+pub mod Unpaired
+pub mod KnownSeats
+pub mod RunningOver
+pub mod RunsOver
