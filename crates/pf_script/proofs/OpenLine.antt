@@ -140,19 +140,19 @@ module _ (key : List ℕ) (k : ℕ) (name : Name) (utf8 : IsUtf8 name) (before a
   block_case size block fault target told calm of_files (not_protected few other said) =
       subst (λ (f : OpenFault). Halves (open_reply name f) None) (sym said) (refuses_by (node_answers name size block) whys.NotProtected told calm (not_protected_first key name target size block other) of_files)
   block_case size block fault target told calm of_files (node_short is short said) =
-      subst (λ (f : OpenFault). Halves (open_reply name f) None) (sym said) 
+      subst (λ (f : OpenFault). Halves (open_reply name f) None) (sym said)
       (is_damaged (node_answers name size block) (record { node = 0; kind = kinds.Short }) told calm (none_short key name target size block is short) (short_zero block (last_there name size block) short refl) of_files)
   block_case size block fault target told calm of_files (update_pending is whole flag said) =
       subst (λ (f : OpenFault). Halves (open_reply name f) None) (sym said) (refuses_by (node_answers name size block) whys.Unbuilt told calm (unbuilt_first key name target size block is whole flag) of_files)
   block_case size block fault target told calm of_files (other_version major minor whole flag other said) =
-      subst (λ (f : OpenFault). Halves (open_reply name f) None) (sym said) 
+      subst (λ (f : OpenFault). Halves (open_reply name f) None) (sym said)
       (refuses_by (node_answers name size block) (whys.BadVersion major minor) told calm (version_first key name target size block major minor whole flag other) of_files)
 
   secret_case : (size : ℕ) (block : List ℕ) (fault : OpenFault) → IsTarget name → BothAre before.given after.given (IsMore (node_answers name size block)) → after.faults ≡ before.faults → AreOfFiles (node_answers name size block) → IsOpenable block
       → SecretRefused key (Some name) block fault
       → Halves (open_reply name fault) None
   secret_case size block fault target told calm of_files openable (not_opened kind why said) =
-      subst (λ (f : OpenFault). Halves (open_reply name f) None) (sym said) 
+      subst (λ (f : OpenFault). Halves (open_reply name f) None) (sym said)
       (is_damaged (node_answers name size block) (record { node = 0; kind = kind }) told calm (none_closed key name target size block openable kind why) (closed_zero block kind (last_there name size block) why refl) of_files)
   secret_case size block fault target told calm of_files openable (other_path secret given opens is_given other said) =
       subst (λ (f : OpenFault). Halves (open_reply name f) None) (sym said)
@@ -262,7 +262,8 @@ module _ (key : List ℕ) (k : ℕ) (name : Name) (utf8 : IsUtf8 name) (before a
 
     is_accepted : Opens key name (Some name) before after (Ok session) → OpensOnFirst session before after → OnDisk before after (OpensEither session) → Halves (Ok (replies.Opened session.tree.size)) (Some session)
     is_accepted goes first either = record {
-      goes = record { spares = ?;
+      goes = record {
+        spares = ?;
         asks = told_these (λ came. (sheets : List Sheet) → Unforged key sheets came → OnFirst sheets session came) (λ given. SeatAsks key false line (replies.Opened session.tree.size) None (Some session) given before after words words) came before after told first
             (λ on. record { seen = seen; was_seen = record { answers = refl; words = none_taken words; of_host = calm; of_words = refl }; turns = turns on });
         books = both_weaker (KeepsUnder CoversNone (CoversMade {E = OpenFault} (Ok session)) (λ n. n ≡ name)) (KeepsUnder CoversNone (CoversSome (Some session)) (Concerns false line None)) before.honest after.honest
