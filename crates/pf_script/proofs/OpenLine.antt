@@ -153,7 +153,7 @@ module _ (key : List ℕ) (k : ℕ) (name : Name) (utf8 : IsUtf8 name) (before a
       → Halves (open_reply name fault) None
   secret_case size block fault target told calm of_files openable (not_opened kind why said) =
       subst (λ (f : OpenFault). Halves (open_reply name f) None) (sym said)
-      (is_damaged (node_answers name size block) (record { node = 0; kind = kind }) told calm (none_closed key name target size block openable kind why) (closed_zero block kind (last_there name size block) why refl) of_files)
+      (is_damaged (node_answers name size block) (record { node = 0; kind = kind }) told calm (none_closed key name target size block openable kind why) (closed_zero block kind (last_there name size block) openable.whole why refl) of_files)
   secret_case size block fault target told calm of_files openable (other_path secret given opens is_given other said) =
       subst (λ (f : OpenFault). Halves (open_reply name f) None) (sym said)
       (refuses_by (node_answers name size block) (whys.WrongPath secret.path) told calm (path_first key name target size block openable secret opens (λ same. other (sym (same_name name given is_given) ∙ same))) of_files)

@@ -24,7 +24,7 @@ use Rattle.pf_script.specs.declared.reply.Why.TheVariants as whys
 use Rattle.pf_script.proofs.OnEmpty.{not_of}
 
 -- the last block of node 0 among the answers of an opening is the one that it has
-last_one : (name : Name) (size : ℕ) (block other : List ℕ) → IsLast name (node_answers name size block) other → other ≡ block
+pub last_one : (name : Name) (size : ℕ) (block other : List ℕ) → IsLast name (node_answers name size block) other → other ≡ block
 last_one name size block other last = by_front last.before last.split
   where
     by_front : (before : List Answer) → node_answers name size block ≡ before ++ Gave name 0 4096 other ∷ last.after → other ≡ block
