@@ -172,5 +172,5 @@ turn_leaves key taken seat line words reply acts after old new book unpaired spo
 turn_leaves key taken seat line words reply acts after old new book unpaired spoken known (accepted none calm accepts) files =
     accepts_leaves (stands_on key old) key (seen_over old line words) taken seat line reply acts after book (answers_of old line) unpaired none spoken known accepts
 turn_leaves key taken seat line words reply acts after old new book unpaired spoken known (host_failed failed fails replied) files = absurd (let e : false ≡ true = failed.host in cc)
-turn_leaves key taken seat line words reply acts after old new book unpaired spoken known (was_damaged damage calm fails replied) files = damage_leaves key (seen_over old line words) damage taken seat line acts after book old new unpaired known fails files
+turn_leaves key taken seat line words reply acts after old new book unpaired spoken known (was_damaged damage passes calm fails replied) files = damage_leaves key (seen_over old line words) damage taken seat line acts after book old new unpaired known fails files
 turn_leaves key taken seat line words reply acts after old new book unpaired spoken known (words_failed failed loses replied) files = absurd (let e : false ≡ true = failed.random in cc)
