@@ -64,7 +64,7 @@ module _ (key : List ℕ) (k : ℕ) (old : SessionState) where
     failed_turn sealed base next these words ByHost seals blames =
         host_failed (record { host = refl; random = refl }) (not_sealed (seat_on base old) (lines.Close k) next ByHost Empty seals blames (of_close k was_changed whole)) refl
     failed_turn sealed base next these words (ByDamage damage) seals blames =
-        was_damaged damage (record { host = refl; random = refl }) (not_sealed (seat_on base old) (lines.Close k) next (ByDamage damage) Empty seals blames (of_close k was_changed whole)) refl
+        was_damaged damage ? (record { host = refl; random = refl }) (not_sealed (seat_on base old) (lines.Close k) next (ByDamage damage) Empty seals blames (of_close k was_changed whole)) refl
 
     failed_turns : (these : List Answer) (words : List (List ℕ)) (blame : Blame) → SealsOwn old words (λ next. Unit {0}) → BlamesFlush old.name these blame
         → SheetTurns key false (lines.Close k) (seen_by these words (host_blamed blame) false) (flush_reply (fault_of blame)) old None these

@@ -42,7 +42,7 @@ failed_turn : (standing : Standing) (key : List ℕ) (k : ℕ) (own : OwnSeat) (
     → SeatTurn standing key false (Own own) (lines.Close k) (seen_by these words (host_blamed blame) false) (flush_reply (fault_of blame)) (record { deed = Flush (seat_of own.key own.name next); done = false } ∷ []) Empty
 failed_turn standing key k own next these words ByHost was_changed whole seals blames = host_failed (record { host = refl; random = refl }) (not_sealed own (lines.Close k) next ByHost Empty seals blames (of_close k was_changed whole)) refl
 failed_turn standing key k own next these words (ByDamage damage) was_changed whole seals blames =
-    was_damaged damage (record { host = refl; random = refl }) (not_sealed own (lines.Close k) next (ByDamage damage) Empty seals blames (of_close k was_changed whole)) refl
+    was_damaged damage ? (record { host = refl; random = refl }) (not_sealed own (lines.Close k) next (ByDamage damage) Empty seals blames (of_close k was_changed whole)) refl
 
 module _ (key : List ℕ) (k : ℕ) (old : SessionState) (seated : IsSeated key old) (before after : HostState) (random random' : WordsState)
     (keeps : OnDisk before after (KeepsUnder (Covers old) CoversNone (λ name. name ≡ old.name))) (aside : Aside old.name before after) (reads : ReadsAsImage after) where

@@ -69,7 +69,7 @@ module _ (key : List ℕ) (k : ℕ) (old : SessionState) (seated : IsSeated key 
   failed_turn sealed base next these words ByHost seals blames =
       host_failed (record { host = refl; random = refl }) (not_sealed (seat_on base old) (lines.Flush k) next ByHost (Own (broken_seat (seat_on base old))) seals blames (of_flush k)) refl
   failed_turn sealed base next these words (ByDamage damage) seals blames =
-      was_damaged damage (record { host = refl; random = refl }) (not_sealed (seat_on base old) (lines.Flush k) next (ByDamage damage) (Own (broken_seat (seat_on base old))) seals blames (of_flush k)) refl
+      was_damaged damage ? (record { host = refl; random = refl }) (not_sealed (seat_on base old) (lines.Flush k) next (ByDamage damage) (Own (broken_seat (seat_on base old))) seals blames (of_flush k)) refl
 
   failed_turns : (these : List Answer) (words : List (List ℕ)) (blame : Blame) → SealsOwn old words (λ next. Unit {0}) → BlamesFlush old.name these blame → new.key ≡ old.key → new.name ≡ old.name → new.broken ≡ true
       → SheetTurns key false (lines.Flush k) (seen_by these words (host_blamed blame) false) (flush_reply (fault_of blame)) old (Some new) these

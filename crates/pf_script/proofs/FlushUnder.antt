@@ -41,7 +41,7 @@ seen_in these words of_host of_words before after random random' seen = record {
 failed_turn : (standing : Standing) (key : List ℕ) (k : ℕ) (own : OwnSeat) (next : Sheet) (these : List Answer) (words : List (List ℕ)) (blame : Blame) → SealsOwn own words next → BlamesFlush own.name these blame
     → SeatTurn standing key false (Own own) (lines.Flush k) (seen_by these words (host_blamed blame) false) (flush_reply (fault_of blame)) (record { deed = Flush (seat_of own.key own.name next); done = false } ∷ []) (Own (broken_seat own))
 failed_turn standing key k own next these words ByHost seals blames = host_failed (record { host = refl; random = refl }) (not_sealed own (lines.Flush k) next ByHost (Own (broken_seat own)) seals blames (of_flush k)) refl
-failed_turn standing key k own next these words (ByDamage damage) seals blames = was_damaged damage (record { host = refl; random = refl }) (not_sealed own (lines.Flush k) next (ByDamage damage) (Own (broken_seat own)) seals blames (of_flush k)) refl
+failed_turn standing key k own next these words (ByDamage damage) seals blames = was_damaged damage ? (record { host = refl; random = refl }) (not_sealed own (lines.Flush k) next (ByDamage damage) (Own (broken_seat own)) seals blames (of_flush k)) refl
 
 module _ (key : List ℕ) (k : ℕ) (old : SessionState) (seated : IsSeated key old) (whole : old.broken ≡ false) (new : SessionState) (before after : HostState) (random random' : WordsState)
     (keeps : OnDisk before after (KeepsUnder (Covers old) (Covers new) (λ name. name ≡ old.name))) (aside : Aside old.name before after) (reads : ReadsAsImage after) where

@@ -71,3 +71,6 @@ pub mod DeskLine
 pub mod BlankLine
 pub mod MoveLine
 pub mod BookRunning
+pub mod OneRules
+pub mod OneLike
+pub mod OneWords

@@ -259,7 +259,7 @@ module _ (key : List ℕ) (k : ℕ) (to : Name) (old : SessionState) (seated : I
         fault_turn : (sealed : List Sheet) (seat : Seat) (blame : Blame) (acts : List Act) (left : Seat) → Fails key (seen_by these words (host_blamed blame) false) blame seat line acts left
             → SeatTurn (on_carried key sealed) key false seat line (seen_by these words (host_blamed blame) false) (flush_reply (fault_of blame)) acts left
         fault_turn sealed seat ByHost acts left fails = host_failed (record { host = refl; random = refl }) fails refl
-        fault_turn sealed seat (ByDamage damage) acts left fails = was_damaged damage (record { host = refl; random = refl }) fails refl
+        fault_turn sealed seat (ByDamage damage) acts left fails = was_damaged damage ? (record { host = refl; random = refl }) fails refl
 
     -- it was not flushed
     unflushed : (start : HostState) (fault : FlushFault) → IsFree to before start → (fails : FlushFails fault old new start after random random') → FlushEnds (Err fault) old new start after random fails.between

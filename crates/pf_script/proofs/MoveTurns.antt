@@ -119,7 +119,7 @@ module _ (key : List ℕ) (k : ℕ) (to : Name) (old : SessionState) (seated : I
   fault_turn : (standing : Standing) (own : OwnSeat) (these : List Answer) (words : List (List ℕ)) (blame : Blame) (acts : List Act) (left : Seat) → Fails key (seen_by these words (host_blamed blame) false) blame (Own own) line acts left
       → SeatTurn standing key false (Own own) line (seen_by these words (host_blamed blame) false) (flush_reply (fault_of blame)) acts left
   fault_turn standing own these words ByHost acts left fails = host_failed (record { host = refl; random = refl }) fails refl
-  fault_turn standing own these words (ByDamage damage) acts left fails = was_damaged damage (record { host = refl; random = refl }) fails refl
+  fault_turn standing own these words (ByDamage damage) acts left fails = was_damaged damage ? (record { host = refl; random = refl }) fails refl
 
   module _ (aside : AsideBoth old.name to before after) (reads : ReadsAsImage after) where
     -- reads before the acts

@@ -177,7 +177,7 @@ module _ (key : List ℕ) (k : ℕ) (name : Name) (utf8 : IsUtf8 name) (before a
   is_damaged : (these : List Answer) (damage : Damage) → BothAre before.given after.given (IsMore these) → after.faults ≡ before.faults → BlamesOpening key name these (ByDamage damage) → Halves (Ok (replies.DamagedNode damage)) None
   is_damaged these damage told calm blames =
       empty_idle key line name refl before after words words (replies.DamagedNode damage) these [] false false only (seen_of these false told calm) refl refl
-      (λ standing. was_damaged damage (record { host = refl; random = refl }) (fails_to_open k name (ByDamage damage) refl blames) refl)
+      (λ standing. was_damaged damage ? (record { host = refl; random = refl }) (fails_to_open k name (ByDamage damage) refl blames) refl)
 
   wants_memory : after.faults ≡ before.faults → WhereTold before after (λ given. Unit {0}) → Halves (Err (record {})) None
   wants_memory calm told = record {

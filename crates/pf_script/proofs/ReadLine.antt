@@ -155,7 +155,7 @@ module _ (key : List ℕ) (k at count : ℕ) (old : SessionState) (seated : IsSe
         at_last [] (λ unforged.
         let out = on_sheet (Err (trees.Damaged d)) facts sealed base among kept.backed unforged in (
           Own own,
-          was_damaged d (record { host = refl; random = refl }) (not_read k at count own (ByDamage d) refl out.1) refl,
+          was_damaged d ? (record { host = refl; random = refl }) (not_read k at count own (ByDamage d) refl out.1) refl,
           shows_new sealed base among linked kept out.0.backed out.0.same,
         ))
 

@@ -47,12 +47,12 @@ HasContent (Own own) size = size ≡ length own.content
 abbrev pub passes_end : Seat → ℕ → Rule
 passes_end seat at why = (size : ℕ) × HasContent seat size × (size < at) × (why ≡ whys.PastEnd size)
 
--- the last block of node 0 that was given says another version than 1.0; and it opens, and has another path than the name
+-- the last block of node 0 that was given is whole and says another version than 1.0; and it opens, and has another path than the name
 abbrev pub other_version : Name → List Answer → Rule
 other_version name given why = (block : List ℕ) × (major : ℕ) × (minor : ℕ) × IsLast name given block × (length block ≡ 4096) × (flag_at block ≡ 0) × IsPlainFault block (OtherVersion major minor) × (why ≡ whys.BadVersion major minor)
 
 abbrev pub other_path : List ℕ → Name → List Answer → Rule
-other_path key name given why = (block : List ℕ) × (secret : MetaSecret) × IsLast name given block × OpensTo key block secret × (name ≢ secret.path) × (why ≡ whys.WrongPath secret.path)
+other_path key name given why = (block : List ℕ) × (secret : MetaSecret) × IsLast name given block × (length block ≡ 4096) × OpensTo key block secret × (name ≢ secret.path) × (why ≡ whys.WrongPath secret.path)
 
 -- the rules of an opening
 abbrev pub opening_rules : List ℕ → Name → List Answer → List Rule

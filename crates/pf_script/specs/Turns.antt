@@ -171,7 +171,7 @@ pub data SeatTurn (standing : Standing) (key : List ℕ) (taken : Bool) (seat : 
       → SeatTurn standing key taken seat line seen reply acts after
   accepted : NoneRefuses (rules key taken seat line seen.given) → Failed seen false false → Accepts standing key seen seat line reply acts after → SeatTurn standing key taken seat line seen reply acts after
   host_failed : Failed seen true false → Fails key seen ByHost seat line acts after → reply ≡ replies.HostFault → SeatTurn standing key taken seat line seen reply acts after
-  was_damaged : (damage : Damage) → Failed seen false false → Fails key seen (ByDamage damage) seat line acts after → reply ≡ replies.DamagedNode damage → SeatTurn standing key taken seat line seen reply acts after
+  was_damaged : (damage : Damage) → NoneRefuses (rules key taken seat line seen.given) → Failed seen false false → Fails key seen (ByDamage damage) seat line acts after → reply ≡ replies.DamagedNode damage → SeatTurn standing key taken seat line seen reply acts after
   words_failed : Failed seen false true → Loses key seen seat line acts after → reply ≡ replies.WordsFault → SeatTurn standing key taken seat line seen reply acts after
 
 -- whether another seat has the name that a line gives

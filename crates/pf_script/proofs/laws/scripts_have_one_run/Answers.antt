@@ -1,0 +1,6 @@
+use Rattle.pf_script.proofs.OneRules.{first_one}
+use Rattle.pf_script.proofs.OneWords.{front_one}
+use Rattle.pf_script.proofs.laws.scripts_have_one_run.Goals as goal
+
+pub returns : goal.returns
+returns c = ?
