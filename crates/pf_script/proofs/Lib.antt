@@ -74,3 +74,4 @@ pub mod BookRunning
 pub mod OneRules
 pub mod OneLike
 pub mod OneWords
+pub mod OneSteps

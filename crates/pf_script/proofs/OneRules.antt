@@ -40,7 +40,7 @@ refuses_first (rule ∷ rules) (other ∷ others) say one none (inr there) = ref
 
 -- one refusal, where either of two facts holds
 pub one_refusal : (this : Why) (P Q : Type 0) → (P → Q) → (Q → P) → OneRule (refuses this P) (refuses this Q)
-one_refusal this P Q to from = record { one = λ why say here there. here.0 ∙ sym there.0; forth = λ why here. (this, refl, to here.1); back = λ say there. (this, refl, from there.1) }
+one_refusal this P Q to from = record { one = λ why say here there. here.0 ∙ sym there.0; forth = λ why here. (this, (refl, to here.1)); back = λ say there. (this, (refl, from there.1)) }
 
 -- rules that never refuse
 pub none_refused : (rule other : Rule) → ((why : Why) → ¬ (rule why)) → ((why : Why) → ¬ (other why)) → OneRule rule other
