@@ -75,3 +75,4 @@ pub mod OneRules
 pub mod OneLike
 pub mod OneWords
 pub mod OneSteps
+pub mod OneAccepts
