@@ -40,6 +40,7 @@ pub mod Under
 pub mod FlushUnder
 pub mod CloseUnder
 pub mod DrawUnder
+pub mod LastBlock
 pub mod OnEmpty
 pub mod CreateLine
 pub mod OpenLine
@@ -76,3 +77,4 @@ pub mod OneLike
 pub mod OneWords
 pub mod OneSteps
 pub mod OneAccepts
+pub mod OneOpening

@@ -57,6 +57,7 @@ use Rattle.pf_script.proofs.CallKeeping.{at_both, both_with}
 use Rattle.pf_script.proofs.CreateLine.{named_target}
 use Rattle.pf_script.proofs.Flushed.{SeenOf, length_now}
 use Rattle.pf_script.proofs.FlushUnder.{seen_in}
+use Rattle.pf_script.proofs.LastBlock.{last_one}
 use Rattle.pf_script.proofs.OnEmpty.{not_of, made_seat, BothHalves, concerns, empty_wants, empty_under, empty_idle, seat_first, seat_none}
 use Rattle.pf_script.proofs.OpenKeeping.{WasOpened, was_opened, known_opening, open_keeps}
 use Rattle.pf_script.proofs.Refusing.{none_taken}
@@ -77,15 +78,6 @@ told_these P Q these old new more told go = by_given old.given new.given more to
         (told.0, subst Q same (go (subst P (sym same) told.1)))
     by_given None (Some now) more told = absurd more
     by_given (Some before) None more told = absurd more
-
--- the last block of node 0 among the answers of an opening is the one that it has
-last_one : (name : Name) (size : ℕ) (block other : List ℕ) → IsLast name (node_answers name size block) other → other ≡ block
-last_one name size block other last = by_front last.before last.split
-  where
-    by_front : (before : List Answer) → node_answers name size block ≡ before ++ Gave name 0 4096 other ∷ last.after → other ≡ block
-    by_front [] same = absurd (cc)
-    by_front (first ∷ []) same = cc
-    by_front (first ∷ second ∷ before) same = absurd (omega (arith, ap (λ (l : List Answer). length l) same, length-append before (Gave name 0 4096 other ∷ last.after)))
 
 module _ (key : List ℕ) (name : Name) (target : IsTarget name) (size : ℕ) (block : List ℕ) where
   abbrev given : List Answer
@@ -122,7 +114,7 @@ module _ (key : List ℕ) (name : Name) (target : IsTarget name) (size : ℕ) (b
 
   path_first : IsOpenable block → (secret : MetaSecret) → OpensTo key block secret → name ≢ secret.path → IsFirstRule (opening_rules key name given) (whys.WrongPath secret.path)
   path_first openable secret opens other =
-      inr ((λ why refuses. refuses.1 target), inr (was_there, inr (magic_is openable.plain.magic_is, inr (no_flag openable.flag, inr (no_version openable, inl (block, secret, last, opens, other, refl))))))
+      inr ((λ why refuses. refuses.1 target), inr (was_there, inr (magic_is openable.plain.magic_is, inr (no_flag openable.flag, inr (no_version openable, inl (block, secret, last, openable.whole, opens, other, refl))))))
 
   none_refuses : IsOpenable block → (secret : MetaSecret) → OpensTo key block secret → name ≡ secret.path → NoneRefuses (opening_rules key name given)
   none_refuses openable secret opens same = (
@@ -137,7 +129,7 @@ module _ (key : List ℕ) (name : Name) (target : IsTarget name) (size : ℕ) (b
             no_version openable,
             (
               λ why refuses.
-                  refuses.4 (same ∙ ap (λ (m : MetaSecret). m.path) (opens_to_one key block secret refuses.1 opens (subst (λ (b : List ℕ). OpensTo key b refuses.1) (last_one name size block refuses.0 refuses.2) refuses.3))),
+                  refuses.5 (same ∙ ap (λ (m : MetaSecret). m.path) (opens_to_one key block secret refuses.1 opens (subst (λ (b : List ℕ). OpensTo key b refuses.1) (last_one name size block refuses.0 refuses.2) refuses.4))),
               tt,
             ),
           ),
@@ -199,7 +191,7 @@ module _ (key : List ℕ) (k : ℕ) (name : Name) (utf8 : IsUtf8 name) (before a
   secret_case : (size : ℕ) (block : List ℕ) (fault : OpenFault) → IsTarget name → BothAre before.given after.given (IsMore (node_answers name size block)) → after.faults ≡ before.faults → IsOpenable block → SecretRefused key (Some name) block fault
       → Halves (open_reply name fault) None
   secret_case size block fault target told calm openable (not_opened kind why said) =
-      subst (λ (f : OpenFault). Halves (open_reply name f) None) (sym said) (is_damaged (node_answers name size block) (record { node = 0; kind = kind }) told calm (closed_zero block kind (last_there name size block) why refl))
+      subst (λ (f : OpenFault). Halves (open_reply name f) None) (sym said) (is_damaged (node_answers name size block) (record { node = 0; kind = kind }) told calm (closed_zero block kind (last_there name size block) openable.whole why refl))
   secret_case size block fault target told calm openable (other_path secret given opens is_given other said) =
       subst (λ (f : OpenFault). Halves (open_reply name f) None) (sym said)
       (refuses_to_open (node_answers name size block) (whys.WrongPath secret.path) told calm (path_first key name target size block openable secret opens (λ same. other (sym (same_name name given is_given) ∙ same))))
