@@ -78,3 +78,4 @@ pub mod OneWords
 pub mod OneSteps
 pub mod OneAccepts
 pub mod OneOpening
+pub mod OneFiles

@@ -60,7 +60,7 @@ kind_one key block kinds.Text kinds.Tag one two = absurd (none-some one.0 (sym t
 kind_one key block kinds.Text kinds.Text one two = refl
 
 -- the damage is one
-damage_same : (key : List ℕ) (name : Name) (here : Option (List ℕ)) (damage other : Damage) → IsOpeningDamage key name (opening_answers name here) damage → IsOpeningDamage key name (opening_answers name here) other → damage ≡ other
+pub damage_same : (key : List ℕ) (name : Name) (here : Option (List ℕ)) (damage other : Damage) → IsOpeningDamage key name (opening_answers name here) damage → IsOpeningDamage key name (opening_answers name here) other → damage ≡ other
 damage_same key name here damage other (short_zero block last short is) (short_zero block' last' short' is') = is ∙ sym is'
 damage_same key name here damage other (short_zero block last short is) (closed_zero block' kind last' whole fault is') =
     let e = ap (λ (b : List ℕ). length b) (last_same name here block block' last last') in absurd (omega arith)
@@ -71,7 +71,7 @@ damage_same key name here damage other (closed_zero block kind last whole fault 
     is ∙ ap (λ (k : Kind). let d : Damage = record { node = 0; kind = k } in d) (kind_one key block kind kind' fault (subst (λ (b : List ℕ). IsOpenFault key b kind') (sym e) fault')) ∙ sym is'
 
 -- the rules behind that of the name
-abbrev told_rules : List ℕ → Name → List Answer → List Rule
+abbrev pub told_rules : List ℕ → Name → List Answer → List Rule
 told_rules key name given =
     refuses (whys.NotFound name) (Contains given (LengthWas name None))
     ∷ refuses whys.NotProtected ((block : List ℕ) × IsLast name given block × (take 8 block ≢ magic))
@@ -105,7 +105,7 @@ module _ (key : List ℕ) (name : Name) (here : Option (List ℕ)) where
     back = λ say b. (say, b);
   }
 
-  told_same : AreOne (told_rules key name given) (told_rules key name given)
+  pub told_same : AreOne (told_rules key name given) (told_rules key name given)
   told_same = (
     one_refusal (whys.NotFound name) _ _ (λ p. p) (λ p. p),
     λ no_first. (
