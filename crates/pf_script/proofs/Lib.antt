@@ -79,3 +79,4 @@ pub mod OneSteps
 pub mod OneAccepts
 pub mod OneOpening
 pub mod OneFiles
+pub mod OneLines
