@@ -80,3 +80,4 @@ pub mod OneAccepts
 pub mod OneOpening
 pub mod OneFiles
 pub mod OneLines
+pub mod OneEnds
