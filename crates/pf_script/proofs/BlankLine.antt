@@ -12,7 +12,9 @@ use Rattle.pf_script.specs.declared.reply.Reply.TheVariants as replies
 use Rattle.pf_script.proofs.Refusing.{idle_seen, none_taken, same_keeps, at_last}
 
 pub blank_goes : (desk : DeskState) (host : HostState) (words : WordsState) → DeskGoes lines.Blank (Ok replies.None) desk desk host host words words
-blank_goes desk host words = record { named = ?; spares = ?;
+blank_goes desk host words = record {
+  named = ?;
+  spares = ?;
   key_is = refl;
   asks = told_by (λ given. Asks lines.Blank replies.None desk desk given host host words words) [] host host (told_none host host refl)
       (record {

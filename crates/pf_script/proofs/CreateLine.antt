@@ -112,7 +112,8 @@ module _ (key : List ℕ) (k : ℕ) (name : Name) (utf8 : IsUtf8 name) (before a
     under done seen reply new after_seat aside reads creates target shows turn =
         both_with (Ran (LeavesApart name) (KeepsApart name)) (SeatUnder key false line seen reply None new) before.honest after.honest aside
         (λ a b is is2 ran. empty_under key line name refl seen reply new a b
-        (λ book seats agrees was_image. record { over = ?;
+        (λ book seats agrees was_image. record {
+          over = ?;
           acts = act done ∷ [];
           left = seats_after (Creation (seat_of key name sheet)) done seats;
           after = after_seat;

@@ -201,7 +201,9 @@ module _ (old : DeskState) (desk : IsDesk old) (k : ℕ) (below : k < SEATS) (ta
     all_wants (Err fault) wants = wants_on wants
 
     pub desk_goes : DeskGoes line result old new before after random random'
-    desk_goes = record { named = ?; spares = ?;
+    desk_goes = record {
+      named = ?;
+      spares = ?;
       key_is = refl;
       asks = all_asks result goes.asks;
       books = both_weaker (KeepsUnder (CoversSome (session_at old k)) (CoversSome left) (Concerns taken line (session_at old k))) (KeepsUnder (CoversDesk old) (CoversDesk new) AnyName) before.honest after.honest goes.books books_on;

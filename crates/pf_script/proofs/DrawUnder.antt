@@ -33,7 +33,8 @@ module _ (key : List ℕ) (k : ℕ) (old : SessionState) (seated : IsSeated key 
       both_same (SeatUnder key false (lines.Draw k) seen reply (Some old) (Some new)) host.honest host.honest refl
       (λ a. own_under key false (lines.Draw k) seen reply old whole (Some new) a a
       (keeps_more (Covers old) (Covers new) (λ name. name ≡ old.name) (Concerns false (lines.Draw k) (Some old)) a a (λ name is. inl is) (draw_keeps old seated.of_script new result random random' a goes))
-      (λ book seats agrees base on. record { over = ?;
+      (λ book seats agrees base on. record {
+        over = ?;
         acts = [];
         left = seats;
         after = Own (record (seat_on base old) { drawn = drawn });

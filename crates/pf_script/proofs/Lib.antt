@@ -81,3 +81,5 @@ pub mod OneOpening
 pub mod OneFiles
 pub mod OneLines
 pub mod OneEnds
+pub mod OneTurns
+pub mod OneScript

@@ -217,7 +217,8 @@ module _ (key : List ℕ) (k : ℕ) (to : Name) (old : SessionState) (seated : I
     move_on : (reply : Reply) (these : List Answer) (words : List (List ℕ)) (of_host of_words : Bool) → SeenOf these words of_host of_words before after random random' → is_host_fault reply ≡ of_host → is_words_fault reply ≡ of_words
         → SheetTurns key false line (seen_by these words of_host of_words) reply old (Some new) these → new.key ≡ old.key → ((name : Name) → name ≡ new.name → Concerns false line (Some old) name)
         → (new.broken ≡ false → new.changed ≡ false → new.tree.dirty ≡ []) → SeatGoes key false line (Ok reply) (Some old) (Some new) before after random random'
-    move_on reply these words of_host of_words seen host_is words_is turns key_is names clean = record { spares = ?;
+    move_on reply these words of_host of_words seen host_is words_is turns key_is names clean = record {
+      spares = ?;
       asks = told_by (λ given. SeatAsks key false line reply (Some old) (Some new) given before after random random') these before after seen.told
           (record {
             seen = seen_by these words of_host of_words;

@@ -79,7 +79,8 @@ module _ (key : List ℕ) (k : ℕ) (to : Name) (old : SessionState) (seated : I
     seen = seen_by these words of_host of_words;
     was_seen = record { answers = told; words = taken; of_host = on_host; of_words = on_words };
     under = on_move Unchanged (seen_by these words of_host of_words) reply only
-        (λ a b is is2 only_ab book seats agrees base on. record { over = ?;
+        (λ a b is is2 only_ab book seats agrees base on. record {
+          over = ?;
           acts = [];
           left = seats;
           after = Own (seat_on base old);
@@ -153,7 +154,8 @@ module _ (key : List ℕ) (k : ℕ) (to : Name) (old : SessionState) (seated : I
               let next = seals base on.stood.as_sheet.stands.linked on.kept.backed in
               let own = seat_on base old in
               let stood_m = subst (λ (d : Disk). Stood old.key old.name base d) (sym m.2.ends) on.stood in
-              let acts : List Act = flush_act old next.0 false ∷ [] in record { over = ?;
+              let acts : List Act = flush_act old next.0 false ∷ [] in record {
+                over = ?;
                 acts = acts;
                 left = seats_after (Flush (seat_of old.key old.name next.0)) false seats;
                 after = Own (broken_seat own);
@@ -244,7 +246,8 @@ module _ (key : List ℕ) (k : ℕ) (to : Name) (old : SessionState) (seated : I
                 let well = read_image after.honest b is_b reads in
                 let next = moves.carries.each t.2.base_now t.2.stood_now.as_sheet.stands.linked t.2.rests in
                 let acts : List Act = flushes own t.2.sheets ++ record { deed = Move old.name (seat_of old.key to next.next); done = false } ∷ [] in
-                let left = seats_after (Move old.name (seat_of old.key to next.next)) false t.2.left in record { over = ?;
+                let left = seats_after (Move old.name (seat_of old.key to next.next)) false t.2.left in record {
+                  over = ?;
                   acts = acts;
                   left = left;
                   after = Own (broken_seat (seat_on t.2.base_now mid));
@@ -282,7 +285,8 @@ module _ (key : List ℕ) (k : ℕ) (to : Name) (old : SessionState) (seated : I
             let next = moves.carries.each t.2.base_now t.2.stood_now.as_sheet.stands.linked t.2.rests in
             let deed = Move old.name (seat_of old.key to next.next) in
             let acts : List Act = flushes own t.2.sheets ++ record { deed = deed; done = true } ∷ [] in
-            let left = seats_after deed true t.2.left in record { over = ?;
+            let left = seats_after deed true t.2.left in record {
+              over = ?;
               acts = acts;
               left = left;
               after = Own (renamed_own (seat_on t.2.base_now mid) to next.next);

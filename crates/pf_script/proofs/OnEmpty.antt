@@ -111,7 +111,7 @@ module _ (key : List ℕ) (line : ScriptLine) (name : Name) (names : name_of_lin
     }
 
     -- want of memory
-    pub empty_wants : ¬ (TakesNone line) → new ≡ None → KeepsDisk before after → after.faults ≡ before.faults → random' ≡ random → WhereTold before after (λ given. Unit {0}) → SeatGoes key false line (Err (record { spares = ?;})) None new before after random random'
+    pub empty_wants : ¬ (TakesNone line) → new ≡ None → KeepsDisk before after → after.faults ≡ before.faults → random' ≡ random → WhereTold before after (λ given. Unit {0}) → SeatGoes key false line (Err (record { spares = ? })) None new before after random random'
     empty_wants takes none disk calm same told = record {
       asks = tt;
       books = books;

@@ -175,7 +175,7 @@ module _ (S T : Standing) (key : List ℕ) (seen saw : Seen) (left rest : List (
       → Accepts S key seen seat (lines.Move k name) reply acts after → Accepts T key saw other (lines.Move k name) say others ends → LikeEnds key reply say seen.words saw.words acts others after ends
   move_one k name seat other reply say acts others after ends (both_own o t like) (moved j n own mid words more sheets sheet flushed_to carries all) (moved i m mine till takes rest' bases base flushed_to' carries' all') =
       let whole : words ++ (more ++ left) ≡ takes ++ (rest' ++ rest) =
-          sym (append_assoc words more left) ∙ ap (λ (w : List (List ℕ)). w ++ left) (sym all) ∙ stream ∙ ap (λ (w : List (List ℕ)). w ++ rest) all' ∙ append_assoc takes rest' rest in
+      sym (append_assoc words more left) ∙ ap (λ (w : List (List ℕ)). w ++ left) (sym all) ∙ stream ∙ ap (λ (w : List (List ℕ)). w ++ rest) all' ∙ append_assoc takes rest' rest in
       let first = to_move_one own mine mid till words takes (more ++ left) (rest' ++ rest) sheets bases like whole flushed_to flushed_to' in
       let behind = rest_one words takes (more ++ left) (rest' ++ rest) first.words_are whole in
       let second = moved_words key mid till first.seat_is name name more rest' left rest sheet base carries carries' behind in

@@ -101,7 +101,7 @@ module _ (key : List ℕ) (key_length : length key ≡ 16) (files others : Files
         one_refusal whys.BadName _ _ (λ p. p) (λ p. p),
         λ none. (
           let may : MayBeTarget name = λ no. none whys.BadName (refl, no) in
-          one_refusal (whys.Exists name) _ _ (exists_too key name (files name) (others name) (like name may)) (exists_too key name (others name) (files name) (like_sym key (files name) (others name) (like name may))),
+              one_refusal (whys.Exists name) _ _ (exists_too key name (files name) (others name) (like name may)) (exists_too key name (others name) (files name) (like_sym key (files name) (others name) (like name may))),
           λ no_second. tt,
         ),
       )
@@ -123,7 +123,7 @@ module _ (key : List ℕ) (key_length : length key ≡ 16) (files others : Files
           one_refusal whys.BadName _ _ (λ p. p) (λ p. p),
           λ none. (
             let may : MayBeTarget name = λ no. none whys.BadName (refl, no) in
-            one_refusal whys.TargetExists _ _ (target_too key name (files name) (others name) (like name may)) (target_too key name (others name) (files name) (like_sym key (files name) (others name) (like name may))),
+                one_refusal whys.TargetExists _ _ (target_too key name (files name) (others name) (like name may)) (target_too key name (others name) (files name) (like_sym key (files name) (others name) (like name may))),
             λ no_fifth. tt,
           ),
         ),

@@ -51,7 +51,8 @@ module _ (key : List ℕ) (k at count : ℕ) (old : SessionState) (seated : IsSe
     was_seen = record { answers = reads.answered.told; words = none_taken words; of_host = counts; of_words = refl };
     under = on_disk_by Unchanged key false line (seen_by reads.these [] of_host false) reply old whole (Some new) before after keeps disk
         (λ a b is_a is_b only book seats agrees base on.
-        let stands = stood_read old seated.of_script new r at buffer before a is_a standing base on.stood on.kept.backed in record { over = ?;
+        let stands = stood_read old seated.of_script new r at buffer before a is_a standing base on.stood on.kept.backed in record {
+          over = ?;
           acts = [];
           left = seats;
           after = Own (seat_on base old);

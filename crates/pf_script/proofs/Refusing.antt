@@ -56,7 +56,8 @@ module _ (key : List ℕ) (taken : Bool) (line : ScriptLine) (why : Why) (old : 
   }
 
   pub refused_goes : IsSeatOf key old → SeatGoes key taken line (Ok (replies.Refused why)) old old host host words words
-  refused_goes seated = record { spares = ?;
+  refused_goes seated = record {
+    spares = ?;
     asks = told_by (λ given. SeatAsks key taken line (replies.Refused why) old old given host host words words) [] host host (told_none host host refl) refused_asks;
     books = both_same (KeepsUnder (CoversSome old) (CoversSome old) (Concerns taken line old)) host.honest host.honest refl (same_keeps (CoversSome old) (Concerns taken line old));
     counts = (refl, refl);
@@ -73,7 +74,8 @@ keeps_same (Some own) = refl
 -- memory was wanting before anything was done
 pub nothing_wanting : (key : List ℕ) (taken : Bool) (line : ScriptLine) (fault : Memory) (old : Option SessionState) (host : HostState) (words : WordsState) → ¬ (TakesNone line) → IsSeatOf key old
     → SeatGoes key taken line (Err fault) old old host host words words
-nothing_wanting key taken line fault old host words takes seated = record { spares = ?;
+nothing_wanting key taken line fault old host words takes seated = record {
+  spares = ?;
   asks = tt;
   books = both_same (KeepsUnder (CoversSome old) (CoversSome old) (Concerns taken line old)) host.honest host.honest refl (same_keeps (CoversSome old) (Concerns taken line old));
   counts = (refl, refl);

@@ -177,7 +177,8 @@ refused_agrees key taken line why old host words first = record {
   seen = idle_seen;
   was_seen = record { answers = told_none host host refl; words = none_taken words; of_host = refl; of_words = refl };
   under = both_same (SeatUnder key taken line idle_seen (replies.Refused why) old old) host.honest host.honest refl
-      (λ a book seats seat agrees reads shows. record { over = ?;
+      (λ a book seats seat agrees reads shows. record {
+        over = ?;
         acts = [];
         left = seats;
         after = seat;

@@ -45,7 +45,8 @@ idle_booked key line reply old whole host words turn = record {
   was_seen = record { answers = told_none host host refl; words = none_taken words; of_host = refl; of_words = refl };
   under = both_same (SeatUnder key false line idle_seen reply (Some old) (Some old)) host.honest host.honest refl
       (λ a. own_under key false line idle_seen reply old whole (Some old) a a (same_keeps (Covers old) (Concerns false line (Some old)) a)
-      (λ book seats agrees base on. record { over = ?;
+      (λ book seats agrees base on. record {
+        over = ?;
         acts = [];
         left = seats;
         after = Own (seat_on base old);

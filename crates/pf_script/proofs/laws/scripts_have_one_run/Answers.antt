@@ -1,6 +1,5 @@
-use Rattle.pf_script.proofs.OneRules.{first_one}
-use Rattle.pf_script.proofs.OneEnds.{line_ends}
+use Rattle.pf_script.proofs.OneScript.{one_run}
 use Rattle.pf_script.proofs.laws.scripts_have_one_run.Goals as goal
 
 pub returns : goal.returns
-returns c = ?
+returns c = one_run
