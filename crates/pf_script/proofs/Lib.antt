@@ -44,6 +44,7 @@ pub mod CloseUnder
 pub mod DrawUnder
 pub mod OnEmpty
 pub mod CreateLine
+pub mod OpenRules
 pub mod OpenLine
 pub mod ReadUnder
 pub mod ChangeLeft

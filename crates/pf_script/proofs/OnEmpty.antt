@@ -106,7 +106,8 @@ module _ (key : List ℕ) (line : ScriptLine) (name : Name) (names : name_of_lin
 
     pub empty_goes : (reply : Reply) (these : List Answer) (words : List (List ℕ)) (of_host of_words : Bool) → SeenOf these words of_host of_words before after random random' → is_host_fault reply ≡ of_host → is_words_fault reply ≡ of_words
         → SeatTurns key false line (seen_by these words of_host of_words) reply None new these → SeatGoes key false line (Ok reply) None new before after random random'
-    empty_goes reply these words of_host of_words seen host_is words_is turns = record { spares = ?;
+    empty_goes reply these words of_host of_words seen host_is words_is turns = record {
+      spares = ?;
       asks = told_by (λ given. SeatAsks key false line reply None new given before after random random') these before after seen.told
           (record { seen = seen_by these words of_host of_words; was_seen = record { answers = refl; words = seen.taken; of_host = seen.on_host; of_words = seen.on_words }; turns = turns });
       books = books;
@@ -118,7 +119,8 @@ module _ (key : List ℕ) (line : ScriptLine) (name : Name) (names : name_of_lin
 
     -- want of memory
     pub empty_wants : ¬ (TakesNone line) → new ≡ None → KeepsDisk before after → after.faults ≡ before.faults → random' ≡ random → WhereTold before after (λ given. Unit {0}) → SeatGoes key false line (Err (record {})) None new before after random random'
-    empty_wants takes none disk calm same told = record { spares = ?;
+    empty_wants takes none disk calm same told = record {
+      spares = ?;
       asks = tt;
       books = books;
       counts = (calm, ap (λ (w : WordsState). w.faults) same);

@@ -1,26 +1,21 @@
 -- The line `open`, from the contract of an opening.
-use Rattle.std.proofs.Common.{◌≡◌, ◌≢◌, inl, inr, Bool, true, false, List, [], ◌∷◌, ◌++◌, ℕ, refl, sym, ◌∙◌, ap, subst, Option, Some, None, Result, Ok, Err, arith, length, length-append, take, drop}
+use Rattle.std.proofs.Common.{◌≡◌, inl, inr, Bool, true, false, List, [], ◌∷◌, ◌++◌, ℕ, refl, sym, ◌∙◌, ap, subst, Option, Some, None, Result, Ok, Err, length}
 use Rattle.std.proofs.lemmas.List.{append-nil, append_cancel_left}
 use Rattle.std.proofs.lemmas.List.Elements.{Contains-push, Contains-append_left, Contains-append_right}
 use Rattle.std.specs.List.{AllByRecursion}
-use Rattle.std.specs.Prelude.{Contains, IfOk, IsSomeAnd, ◌<◌}
+use Rattle.std.specs.Prelude.{Contains, IfOk, IsSomeAnd}
 use Rattle.std.specs.Str.{IsUtf8}
-use Rattle.node_layout.specs.Faults.{IsPlainFault, IsSomeMetaText}
-use Rattle.node_layout.specs.Metadata.{flag_at, magic}
-use Rattle.node_layout.specs.Opening.{OpensTo, IsOpenFault}
 use Rattle.node_layout.specs.declared.damage.Damage.{Damage}
-use Rattle.node_layout.specs.declared.damage.Kind.{Kind}
 use Rattle.node_layout.specs.declared.damage.Kind.TheVariants as kinds
 use Rattle.node_layout.specs.declared.metadata.MetaSecret.{MetaSecret}
 use Rattle.node_layout.specs.declared.metadata.PlainFault.TheVariants.{BadVersion}
-use Rattle.node_layout.proofs.Secrets.{opens_to_one}
 use Rattle.node_tree.specs.Backing.{now}
 use Rattle.node_tree.specs.Sheet.{Sheet}
 use Rattle.node_tree.specs.Unforged.{Unforged}
 use Rattle.pf_io.specs.Answered.{IsAnswerOf}
 use Rattle.pf_io.specs.Counts.{counted}
 use Rattle.pf_io.specs.Disk.{Name, Disk, IsImage, reading}
-use Rattle.pf_io.specs.Host.{Answer, LengthWas, Gave, HostState, Both as BothAre, IsMore, since, WhereTold, OnDisk, OnHonest, length_of, contents}
+use Rattle.pf_io.specs.Host.{Answer, LengthWas, HostState, Both as BothAre, IsMore, since, WhereTold, OnDisk, OnHonest}
 use Rattle.pf_io.specs.Moments.{Honest}
 use Rattle.pf_io.specs.Names.{IsTarget, recovery_of}
 use Rattle.pf_io.specs.Unchanged.{KeepsDisk}
@@ -28,15 +23,13 @@ use Rattle.pf_io.specs.Words.{WordsState}
 use Rattle.pf_io.specs.declared.faults.Memory.{Memory}
 use Rattle.pf_io.proofs.Telling.{told_by, told_none, both_weaker}
 use Rattle.pf_session.specs.Backing.{StandsOn}
-use Rattle.pf_session.specs.Carries.{IsLast, OnFirst, OpensOnFirst}
+use Rattle.pf_session.specs.Carries.{OnFirst, OpensOnFirst}
 use Rattle.pf_session.specs.Keeping.{OpensEither}
 use Rattle.pf_session.specs.Opening.{AreGood, Opens, by_answers, length_failed, read_failed, no_names, no_tree, misnamed, absent, block_refused, secret_refused, accepted, IsOpenable, IsAccepted, BlockRefused, not_protected, node_short, update_pending, other_version, SecretRefused, not_opened, other_path, node_answers, opened_session}
 use Rattle.pf_session.specs.Reopening.{ReopensAs, Stood}
 use Rattle.pf_session.specs.State.{SessionState}
 use Rattle.pf_session.specs.declared.open_fault.OpenFault.{OpenFault}
-use Rattle.pf_session.specs.declared.open_fault.OpenFault.TheVariants as faults
 use Rattle.pf_session.proofs.Backed.{last_there}
-use Rattle.pf_session.proofs.OpenStanding.{not_block}
 use Rattle.pf_script.specs.Book.{Book, Entry, Seal, Agrees}
 use Rattle.pf_script.specs.BookActs.{Act, Opening, Among, speaks}
 use Rattle.pf_script.specs.BookDebts.{Unchanged, seat_of}
@@ -45,7 +38,7 @@ use Rattle.pf_script.specs.BookTurns.{of_book, Knows, LineUnder, SeatUnder}
 use Rattle.pf_script.specs.FileTurns.{stands_on, opening_answers}
 use Rattle.pf_script.specs.Desk.{IsSeated, Shows, whole_file, seat_on}
 use Rattle.pf_script.specs.DeskSteps.{CountsFault, Unfolds, then_more, in_the_end, SeatTurns, SeatAsks, Concerns, CoversSome}
-use Rattle.pf_script.specs.Rules.{IsFirst as IsFirstRule, NoneRefuses, opening_rules, other_version as other_version_rule, other_path as other_path_rule}
+use Rattle.pf_script.specs.Rules.{IsFirst as IsFirstRule, NoneRefuses, opening_rules}
 use Rattle.pf_script.specs.Script.{Seat, Empty, Own, sheets_of}
 use Rattle.pf_script.specs.SeatReplies.{open_reply}
 use Rattle.pf_script.specs.Turns.{Seen, Standing, SeatTurn, refused, accepted as accepts, host_failed, was_damaged, opened, not_opened as fails_to_open, ByHost, ByDamage, BlamesOpening, short_zero, closed_zero, new_seat, on_carried}
@@ -60,9 +53,10 @@ use Rattle.pf_script.proofs.CallKeeping.{at_both, both_with}
 use Rattle.pf_script.proofs.CreateLine.{named_target}
 use Rattle.pf_script.proofs.Flushed.{SeenOf, length_now}
 use Rattle.pf_script.proofs.FlushUnder.{seen_in}
-use Rattle.pf_script.proofs.OnEmpty.{not_of, made_seat, BothHalves, concerns, empty_wants, empty_under, empty_idle, seat_first, seat_none}
+use Rattle.pf_script.proofs.OnEmpty.{made_seat, BothHalves, concerns, empty_wants, empty_under, empty_idle, seat_first, seat_none}
 use Rattle.pf_script.proofs.OpenKeeping.{WasOpened, was_opened, known_opening, open_keeps}
 use Rattle.pf_script.proofs.OverGiven.{no_host_fault, on_reading, same_over}
+use Rattle.pf_script.proofs.OpenRules.{none_given, node_given, not_protected_first, unbuilt_first, version_first, path_first, none_refuses, none_closed, none_short}
 use Rattle.pf_script.proofs.Refusing.{none_taken}
 use Rattle.pf_script.proofs.SeatCalls.{seen_by, own_same, shows_same}
 use Rattle.pf_script.proofs.Seats.{seats_after, seat_is_left}
@@ -81,102 +75,6 @@ told_these P Q these old new more told go = by_given old.given new.given more to
         (told.0, subst Q same (go (subst P (sym same) told.1)))
     by_given None (Some now) more told = absurd more
     by_given (Some before) None more told = absurd more
-
--- the last block of node 0 among the answers of an opening is the one that it has
-last_one : (name : Name) (size : ℕ) (block other : List ℕ) → IsLast name (node_answers name size block) other → other ≡ block
-last_one name size block other last = by_front last.before last.split
-  where
-    by_front : (before : List Answer) → node_answers name size block ≡ before ++ Gave name 0 4096 other ∷ last.after → other ≡ block
-    by_front [] same = absurd (cc)
-    by_front (first ∷ []) same = cc
-    by_front (first ∷ second ∷ before) same = absurd (omega (arith, ap (λ (l : List Answer). length l) same, length-append before (Gave name 0 4096 other ∷ last.after)))
-
--- the answers of an opening are those of the files
-none_given : (name : Name) (file : Option (List ℕ)) → None ≡ length_of file → LengthWas name None ∷ [] ≡ opening_answers name file
-none_given name None is = refl
-none_given name (Some file) is = absurd (cc)
-
-node_given : (name : Name) (size : ℕ) (block : List ℕ) (file : Option (List ℕ)) → Some size ≡ length_of file → block ≡ take 4096 (drop 0 (contents file)) → node_answers name size block ≡ opening_answers name file
-node_given name size block None is gave = absurd (cc)
-node_given name size block (Some file) is gave = let same : size ≡ length file = cc in rw same (rw gave refl)
-
--- what does not open does not open to fields
-never_opens : (key block : List ℕ) (kind : Kind) (secret : MetaSecret) → IsOpenFault key block kind → OpensTo key block secret → ⊥
-never_opens key block kinds.Short secret why opens = why
-never_opens key block kinds.Tag secret why opens = let e : None ≡ Some opens.0 = sym why ∙ opens.1 in absurd (cc)
-never_opens key block kinds.Text secret why opens =
-    let e : Some opens.0 ≡ Some why.0 = sym opens.1 ∙ why.1 in
-    let same : opens.0 ≡ why.0 = cc in
-    why.2 (subst (λ (t : List ℕ). IsSomeMetaText t) same (secret.path, (secret.size, (secret.root_key, (secret.root_tag, (secret.first, opens.2))))))
-never_opens key block kinds.Log secret why opens = why
-
-module _ (key : List ℕ) (name : Name) (target : IsTarget name) (size : ℕ) (block : List ℕ) where
-  abbrev given : List Answer
-  given = node_answers name size block
-
-  last : IsLast name given block
-  last = last_there name size block
-
-  was_there : (why : Why) → (why ≡ whys.NotFound name) × Contains given (LengthWas name None) → ⊥
-  was_there why refuses =
-      not_of (LengthWas name (Some size)) (LengthWas name None) (Gave name 0 4096 block ∷ []) (λ same. absurd (cc))
-      (not_of (Gave name 0 4096 block) (LengthWas name None) [] (λ same. absurd (cc)) (λ none. absurd (omega (arith, none.1)))) refuses.1
-
-  not_protected_first : take 8 block ≢ magic → IsFirstRule (opening_rules key name given) whys.NotProtected
-  not_protected_first other = inr ((λ why refuses. refuses.1 target), inr (was_there, inl (refl, (block, last, other))))
-
-  magic_is : take 8 block ≡ magic → (why : Why) → (why ≡ whys.NotProtected) × ((b : List ℕ) × IsLast name given b × (take 8 b ≢ magic)) → ⊥
-  magic_is is why refuses = refuses.1.2 (subst (λ (b : List ℕ). take 8 b ≡ magic) (sym (last_one name size block refuses.1.0 refuses.1.1)) is)
-
-  unbuilt_first : take 8 block ≡ magic → length block ≡ 4096 → flag_at block ≢ 0 → IsFirstRule (opening_rules key name given) whys.Unbuilt
-  unbuilt_first is whole flag = inr ((λ why refuses. refuses.1 target), inr (was_there, inr (magic_is is, inl (refl, (block, last, whole, flag)))))
-
-  no_flag : flag_at block ≡ 0 → (why : Why) → (why ≡ whys.Unbuilt) × ((b : List ℕ) × IsLast name given b × (length b ≡ 4096) × (flag_at b ≢ 0)) → ⊥
-  no_flag is why refuses = refuses.1.3 (subst (λ (b : List ℕ). flag_at b ≡ 0) (sym (last_one name size block refuses.1.0 refuses.1.1)) is)
-
-  version_first : (major minor : ℕ) → length block ≡ 4096 → flag_at block ≡ 0 → IsPlainFault block (BadVersion major minor) → IsFirstRule (opening_rules key name given) (whys.BadVersion major minor)
-  version_first major minor whole flag other =
-      inr ((λ why refuses. refuses.1 target), inr (was_there, inr (magic_is other.0, inr (no_flag flag, inl (block, major, minor, last, whole, flag, other, refl)))))
-
-  no_version : IsOpenable block → (why : Why) → other_version_rule name given why → ⊥
-  no_version openable why refuses =
-      not_block block openable (faults.BadVersion refuses.1 refuses.2)
-      (other_version refuses.1 refuses.2 openable.whole openable.flag (subst (λ (b : List ℕ). IsPlainFault b (BadVersion refuses.1 refuses.2)) (last_one name size block refuses.0 refuses.3) refuses.6) refl)
-
-  path_first : IsOpenable block → (secret : MetaSecret) → OpensTo key block secret → name ≢ secret.path → IsFirstRule (opening_rules key name given) (whys.WrongPath secret.path)
-  path_first openable secret opens other =
-      inr ((λ why refuses. refuses.1 target), inr (was_there, inr (magic_is openable.plain.magic_is, inr (no_flag openable.flag, inr (no_version openable, inl (block, secret, last, openable.whole, opens, other, refl))))))
-
-  -- a node 0 that is whole and of version 1.0 is refused only by its path
-  none_but : IsOpenable block → ((why : Why) → ¬ (other_path_rule key name given why)) → NoneRefuses (opening_rules key name given)
-  none_but openable no_path = ((λ why refuses. refuses.1 target), (was_there, (magic_is openable.plain.magic_is, (no_flag openable.flag, (no_version openable, (no_path, tt))))))
-
-  none_refuses : IsOpenable block → (secret : MetaSecret) → OpensTo key block secret → name ≡ secret.path → NoneRefuses (opening_rules key name given)
-  none_refuses openable secret opens same =
-      none_but openable
-      (λ why refuses.
-      refuses.5 (same ∙ ap (λ (m : MetaSecret). m.path) (opens_to_one key block secret refuses.1 opens (subst (λ (b : List ℕ). OpensTo key b refuses.1) (last_one name size block refuses.0 refuses.2) refuses.4))))
-
-  -- one that does not open
-  none_closed : IsOpenable block → (kind : Kind) → IsOpenFault key block kind → NoneRefuses (opening_rules key name given)
-  none_closed openable kind why_not =
-      none_but openable (λ why refuses. never_opens key block kind refuses.1 why_not (subst (λ (b : List ℕ). OpensTo key b refuses.1) (last_one name size block refuses.0 refuses.2) refuses.4))
-
-  -- one that is short
-  not_whole : length block < 4096 → (other : List ℕ) → IsLast name given other → length other ≡ 4096 → ⊥
-  not_whole short other is whole = let same = ap (λ (b : List ℕ). length b) (last_one name size block other is) in omega (arith, short, whole, same)
-
-  none_short : take 8 block ≡ magic → length block < 4096 → NoneRefuses (opening_rules key name given)
-  none_short is short = (
-    λ why refuses. refuses.1 target,
-    (
-      was_there,
-      (
-        magic_is is,
-        (λ why refuses. not_whole short refuses.1.0 refuses.1.1 refuses.1.2, (λ why refuses. not_whole short refuses.0 refuses.3 refuses.4, (λ why refuses. not_whole short refuses.0 refuses.2 refuses.3, tt))),
-      ),
-    ),
-  )
 
 -- the reply to an opening
 abbrev pub open_result : Name → Result SessionState OpenFault → Result Reply Memory
@@ -242,20 +140,20 @@ module _ (key : List ℕ) (k : ℕ) (name : Name) (utf8 : IsUtf8 name) (before a
   block_case size block fault target told calm of_files (not_protected few other said) =
       subst (λ (f : OpenFault). Halves (open_reply name f) None) (sym said) (refuses_by (node_answers name size block) whys.NotProtected told calm (not_protected_first key name target size block other) of_files)
   block_case size block fault target told calm of_files (node_short is short said) =
-      subst (λ (f : OpenFault). Halves (open_reply name f) None) (sym said) 
+      subst (λ (f : OpenFault). Halves (open_reply name f) None) (sym said)
       (is_damaged (node_answers name size block) (record { node = 0; kind = kinds.Short }) told calm (none_short key name target size block is short) (short_zero block (last_there name size block) short refl) of_files)
   block_case size block fault target told calm of_files (update_pending is whole flag said) =
       subst (λ (f : OpenFault). Halves (open_reply name f) None) (sym said) (refuses_by (node_answers name size block) whys.Unbuilt told calm (unbuilt_first key name target size block is whole flag) of_files)
   block_case size block fault target told calm of_files (other_version major minor whole flag other said) =
-      subst (λ (f : OpenFault). Halves (open_reply name f) None) (sym said) 
+      subst (λ (f : OpenFault). Halves (open_reply name f) None) (sym said)
       (refuses_by (node_answers name size block) (whys.BadVersion major minor) told calm (version_first key name target size block major minor whole flag other) of_files)
 
   secret_case : (size : ℕ) (block : List ℕ) (fault : OpenFault) → IsTarget name → BothAre before.given after.given (IsMore (node_answers name size block)) → after.faults ≡ before.faults → AreOfFiles (node_answers name size block) → IsOpenable block
       → SecretRefused key (Some name) block fault
       → Halves (open_reply name fault) None
   secret_case size block fault target told calm of_files openable (not_opened kind why said) =
-      subst (λ (f : OpenFault). Halves (open_reply name f) None) (sym said) 
-      (is_damaged (node_answers name size block) (record { node = 0; kind = kind }) told calm (none_closed key name target size block openable kind why) (closed_zero block kind (last_there name size block) why refl) of_files)
+      subst (λ (f : OpenFault). Halves (open_reply name f) None) (sym said)
+      (is_damaged (node_answers name size block) (record { node = 0; kind = kind }) told calm (none_closed key name target size block openable kind why) (closed_zero block kind (last_there name size block) openable.whole why refl) of_files)
   secret_case size block fault target told calm of_files openable (other_path secret given opens is_given other said) =
       subst (λ (f : OpenFault). Halves (open_reply name f) None) (sym said)
       (refuses_by (node_answers name size block) (whys.WrongPath secret.path) told calm (path_first key name target size block openable secret opens (λ same. other (sym (same_name name given is_given) ∙ same))) of_files)
@@ -364,7 +262,8 @@ module _ (key : List ℕ) (k : ℕ) (name : Name) (utf8 : IsUtf8 name) (before a
 
     is_accepted : Opens key name (Some name) before after (Ok session) → OpensOnFirst session before after → OnDisk before after (OpensEither session) → Halves (Ok (replies.Opened session.tree.size)) (Some session)
     is_accepted goes first either = record {
-      goes = record { spares = ?;
+      goes = record {
+        spares = ?;
         asks = told_these (λ came. (sheets : List Sheet) → Unforged key sheets came → OnFirst sheets session came) (λ given. SeatAsks key false line (replies.Opened session.tree.size) None (Some session) given before after words words) came before after told first
             (λ on. record { seen = seen; was_seen = record { answers = refl; words = none_taken words; of_host = calm; of_words = refl }; turns = turns on });
         books = both_weaker (KeepsUnder CoversNone (CoversMade {E = OpenFault} (Ok session)) (λ n. n ≡ name)) (KeepsUnder CoversNone (CoversSome (Some session)) (Concerns false line None)) before.honest after.honest

@@ -103,10 +103,10 @@ pub record IsOther (sheet : Sheet) (name : Name) (given : List Answer) (damage :
   pub foreign : IsForeign sheet (Given name given) damage.node
   pub kind_is : damage.kind ≡ kinds.Tag
 
--- the last block of node 0 that was given is short, or does not open
+-- the last block of node 0 that was given is short, or whole and does not open
 pub data IsOpeningDamage (key : List ℕ) (name : Name) (given : List Answer) (damage : Damage) : Type 0 where
   short_zero : (block : List ℕ) → IsLast name given block → length block < 4096 → damage ≡ record { node = 0; kind = kinds.Short } → IsOpeningDamage key name given damage
-  closed_zero : (block : List ℕ) (kind : Kind) → IsLast name given block → IsOpenFault key block kind → damage ≡ record { node = 0; kind = kind } → IsOpeningDamage key name given damage
+  closed_zero : (block : List ℕ) (kind : Kind) → IsLast name given block → length block ≡ 4096 → IsOpenFault key block kind → damage ≡ record { node = 0; kind = kind } → IsOpeningDamage key name given damage
 
 -- why an opening, a flush, and a fetch of nodes may fail
 abbrev pub BlamesOpening : List ℕ → Name → List Answer → Blame → Type 0
