@@ -79,20 +79,20 @@ module _ (key : List ℕ) (k : ℕ) (old : SessionState) where
         let own = seat_on base old in
         at_last (flush_act old next.0 true ∷ []) (λ unforged. (Empty, accepted (none_to_close key k own) (record { host = refl; random = refl }) (flushes_last k own next.0 was_changed whole next.1), no_file refl refl))
 
-  module _ (before after : HostState) (random random' : WordsState) (books : OnDisk before after (KeepsUnder (Covers old) CoversNone (λ name. name ≡ old.name))) where
+  module _ (before after : HostState) (random random' : WordsState) (aside : Aside old.name before after) (books : OnDisk before after (KeepsUnder (Covers old) CoversNone (λ name. name ≡ old.name))) where
     by_case : (result : Result (Unit {0}) FlushFault) (mid : SessionState) → old.broken ≡ false → old.changed ≡ true → FlushCase result old mid before after random random'
         → SeatGoes key false (lines.Close k) (Ok (close_result false result)) (Some old) None before after random random'
     by_case result mid whole was_changed (lacked words seen same stays said) =
         subst (λ (r : Result (Unit {0}) FlushFault). SeatGoes key false (lines.Close k) (Ok (close_result false r)) (Some old) None before after random random') (sym said)
-        (goes_out key false (lines.Close k) replies.WordsFault old before after random random' [] words false true seen refl refl
+        (goes_out key false (lines.Close k) replies.WordsFault old before after random random' aside [] words false true seen refl refl
         (whole_turns key false (lines.Close k) (seen_by [] words false true) replies.WordsFault old None [] whole (lacked_turns whole was_changed words)) books)
     by_case result mid whole was_changed (failed blame these words seen blames seals key_is name_is broken said) =
         subst (λ (r : Result (Unit {0}) FlushFault). SeatGoes key false (lines.Close k) (Ok (close_result false r)) (Some old) None before after random random') (sym said)
-        (goes_out key false (lines.Close k) (flush_reply (fault_of blame)) old before after random random' these words (host_blamed blame) false seen (host_reply blame) (words_reply blame)
+        (goes_out key false (lines.Close k) (flush_reply (fault_of blame)) old before after random random' aside these words (host_blamed blame) false seen (host_reply blame) (words_reply blame)
         (whole_turns key false (lines.Close k) (seen_by these words (host_blamed blame) false) (flush_reply (fault_of blame)) old None these whole (failed_turns whole was_changed these words blame seals blames)) books)
     by_case result mid whole was_changed (done these words seen seals same dirty said) =
         subst (λ (r : Result (Unit {0}) FlushFault). SeatGoes key false (lines.Close k) (Ok (close_result false r)) (Some old) None before after random random') (sym said)
-        (goes_out key false (lines.Close k) (replies.Closed false) old before after random random' these words false false seen refl refl
+        (goes_out key false (lines.Close k) (replies.Closed false) old before after random random' aside these words false false seen refl refl
         (whole_turns key false (lines.Close k) (seen_by these words false false) (replies.Closed false) old None these whole (done_turns whole was_changed mid these words seals)) books)
 
 pub close_goes : (key : List ℕ) (k : ℕ) (old : SessionState) (result : Result (Unit {0}) FlushFault) (before after : HostState) (random random' : WordsState) → IsSeated key old
@@ -105,7 +105,7 @@ close_goes key k old result before after random random' seated goes aside reads 
     by_end : CloseGoes result old before after random random' → SeatGoes key false (lines.Close k) (Ok (close_result old.broken result)) (Some old) None before after random random'
     by_end (let_go why stays same said) =
         subst (λ (r : Result (Unit {0}) FlushFault). SeatGoes key false (lines.Close k) (Ok (close_result old.broken r)) (Some old) None before after random random') (sym said)
-        (goes_out key false (lines.Close k) (replies.Closed old.broken) old before after random random' [] [] false false
+        (goes_out key false (lines.Close k) (replies.Closed old.broken) old before after random random' aside [] [] false false
         (record {
           told = told_none before after (ap (λ (h : HostState). h.given) stays);
           taken = subst (λ (w : WordsState). Both random.left w.left (AreTaken [])) (sym same) (none_taken random);
@@ -114,4 +114,4 @@ close_goes key k old result before after random random' seated goes aside reads 
         }) refl refl (idle_turns key k old old.broken refl why) books)
     by_end (flushed_last mid was_changed whole flushes) =
         subst (λ (b : Bool). SeatGoes key false (lines.Close k) (Ok (close_result b result)) (Some old) None before after random random') (sym whole)
-        (by_case key k old before after random random' books result mid whole was_changed (flush_case old seated.of_script mid before after random random' result flushes))
+        (by_case key k old before after random random' aside books result mid whole was_changed (flush_case old seated.of_script mid before after random random' result flushes))

@@ -46,7 +46,7 @@ use Rattle.pf_script.proofs.CreateKeeping.{create_keeps}
 use Rattle.pf_script.proofs.Flushed.{SeenOf, counted_kind}
 use Rattle.pf_script.proofs.FlushUnder.{seen_in}
 use Rattle.pf_script.proofs.OfScript.{of_created}
-use Rattle.pf_script.proofs.OnEmpty.{not_of, made_seat, BothHalves, empty_idle, concerns, empty_goes, empty_wants, empty_under, empty_turns, seat_first, seat_none}
+use Rattle.pf_script.proofs.OnEmpty.{not_of, made_seat, BothHalves, empty_idle, concerns, spares_given, empty_goes, empty_wants, empty_under, empty_turns, seat_first, seat_none}
 use Rattle.pf_script.proofs.OverGiven.{no_host_fault, no_words_fault, on_reading, same_over}
 use Rattle.pf_script.proofs.Refusing.{none_taken}
 use Rattle.pf_script.proofs.SeatCalls.{seen_by, own_same}
@@ -158,7 +158,7 @@ module _ (key : List ℕ) (k : ℕ) (name : Name) (utf8 : IsUtf8 name) (before a
       subst (λ (r : Result SessionState CreateFault). Both (create_result name r) (made_seat r)) (sym said)
       (record {
         goes = empty_wants key line name refl None before after random random'
-            (both_weaker Unchanged (KeepsUnder CoversNone CoversNone (λ n. n ≡ name)) before.honest after.honest (stays_so stays) (λ a b only. only_reads CoversNone a b (λ n. n ≡ name) only)) tt (λ n none. absurd none)
+            (both_weaker Unchanged (KeepsUnder CoversNone CoversNone (λ n. n ≡ name)) before.honest after.honest (stays_so stays) (λ a b only. only_reads CoversNone a b (λ n. n ≡ name) only)) (spares_given key line name refl before after aside) tt (λ n none. absurd none)
             (λ takes. takes) refl (stays_so stays) (ap (λ (h : HostState). h.faults) stays) same (told_by (λ given. Unit {0}) [] before after (told_none before after (ap (λ (h : HostState). h.given) stays)) tt);
         booked = tt;
       })
@@ -197,7 +197,7 @@ module _ (key : List ℕ) (k : ℕ) (name : Name) (utf8 : IsUtf8 name) (before a
       host_failed (record { host = refl; random = refl }) (not_created k name (empty_sheet name nonce) (seals_empty nonce these drawn stopped.linked)) refl in
       subst (λ (r : Result SessionState CreateFault). Both (create_result name r) (made_seat r)) (sym said)
       (record {
-        goes = empty_goes key line name refl None before after random random' (subst (λ (r : Result SessionState CreateFault). OnDisk before after (KeepsUnder CoversNone (CoversMade r) (λ n. n ≡ name))) said (keeps good.is_target)) tt (λ n none. absurd none)
+        goes = empty_goes key line name refl None before after random random' (subst (λ (r : Result SessionState CreateFault). OnDisk before after (KeepsUnder CoversNone (CoversMade r) (λ n. n ≡ name))) said (keeps good.is_target)) (spares_given key line name refl before after aside) tt (λ n none. absurd none)
             replies.HostFault these words true false seen refl refl
             (empty_turns key line name refl (seen_by these words true false) replies.HostFault None these (act nonce these drawn false ∷ []) Empty turn (λ sealed. no_seat refl refl));
         booked = record {
@@ -228,7 +228,7 @@ module _ (key : List ℕ) (k : ℕ) (name : Name) (utf8 : IsUtf8 name) (before a
       let same : new_seat key name sheet ≡ seat_on sheet made = own_same sheet key key name name [] (now sheet made.tree) [] [] false false None None false false refl refl (sym is_fresh.stands.now_is) refl refl refl refl in
       subst (λ (r : Result SessionState CreateFault). Both (create_result name r) (made_seat r)) (sym said)
       (record {
-        goes = empty_goes key line name refl (Some made) before after random random' (subst (λ (r : Result SessionState CreateFault). OnDisk before after (KeepsUnder CoversNone (CoversMade r) (λ n. n ≡ name))) said (keeps good.is_target))
+        goes = empty_goes key line name refl (Some made) before after random random' (subst (λ (r : Result SessionState CreateFault). OnDisk before after (KeepsUnder CoversNone (CoversMade r) (λ n. n ≡ name))) said (keeps good.is_target)) (spares_given key line name refl before after aside)
             (record { of_script = of_created key name nonce good; key_is = refl; clean = λ whole calm. refl }) (λ n has. has)
             replies.Created these words false false seen refl refl
             (empty_turns key line name refl (seen_by these words false false) replies.Created (Some made) these (act nonce these drawn true ∷ []) (Own (new_seat key name sheet)) turn

@@ -57,6 +57,7 @@ pub mod MoveUnder
 pub mod MoveOver
 pub mod MoveTurns
 pub mod CloseLine
+pub mod Sparing
 pub mod Desking
 pub mod DeskUnder
 pub mod DrawLine

@@ -28,7 +28,7 @@ use Rattle.pf_script.specs.BookActs.{Move, Flush, Act}
 use Rattle.pf_script.specs.BookDebts.{seat_of}
 use Rattle.pf_script.specs.BookSeats.{IsOfScript, Covers, KeepsUnder}
 use Rattle.pf_script.specs.Desk.{IsSeated, Shows, whole_file, broken_file, seat_on}
-use Rattle.pf_script.specs.DeskSteps.{CountsFault, SeatAsks, SeatGoes, Concerns, is_host_fault, is_words_fault}
+use Rattle.pf_script.specs.DeskSteps.{CountsFault, SeatAsks, SeatGoes, Concerns, Spares, is_host_fault, is_words_fault}
 use Rattle.pf_script.specs.Rules.{Rule, NoneRefuses, rules, refuses}
 use Rattle.pf_script.specs.SeatReplies.{flush_reply, move_reply}
 use Rattle.pf_script.specs.declared.line.ScriptLine.{ScriptLine}
@@ -48,6 +48,7 @@ use Rattle.pf_script.proofs.StepKeeping.{keeps_more}
 use Rattle.pf_script.proofs.Refusing.{none_taken, at_last, refused_goes, nothing_wanting, first_then, none_then}
 use Rattle.pf_script.proofs.SeatCalls.{seen_by, own_with, SheetTurns, whole_turns, host_reply, words_reply, shows_same, false_true}
 use Rattle.pf_script.proofs.Showing.{shows_some}
+use Rattle.pf_script.proofs.Sparing.{spares_both}
 use Rattle.pf_script.proofs.WriteLine.{nothing_goes}
 use Rattle.pf_script.specs.Script.{OwnSeat, Own, Seat, sheet_of, sheets_of}
 use Rattle.pf_script.specs.SeatSteps.{IsNextSheet, SealsMoved, renamed, broken_seat}
@@ -222,11 +223,11 @@ module _ (key : List ℕ) (k : ℕ) (to : Name) (old : SessionState) (seated : I
       not_there : (size : ℕ) (others : List Answer) → looked None ∷ rest ≡ looked (Some size) ∷ others → ⊥
       not_there size others is = absurd (cc)
 
-  module _ (new : SessionState) (before after : HostState) (random random' : WordsState) (books : OnDisk before after (KeepsUnder (Covers old) (Covers new) (Concerns false line (Some old)))) (mine : IsOfScript new) where
+  module _ (new : SessionState) (before after : HostState) (random random' : WordsState) (books : OnDisk before after (KeepsUnder (Covers old) (Covers new) (Concerns false line (Some old)))) (spares : Spares (Concerns false line (Some old)) before after) (mine : IsOfScript new) where
     move_on : (reply : Reply) (these : List Answer) (words : List (List ℕ)) (of_host of_words : Bool) → SeenOf these words of_host of_words before after random random' → is_host_fault reply ≡ of_host → is_words_fault reply ≡ of_words
         → SheetTurns key false line (seen_by these words of_host of_words) reply old (Some new) these → new.key ≡ old.key → ((name : Name) → name ≡ new.name → Concerns false line (Some old) name)
         → (new.broken ≡ false → new.changed ≡ false → new.tree.dirty ≡ []) → SeatGoes key false line (Ok reply) (Some old) (Some new) before after random random'
-    move_on reply these words of_host of_words seen host_is words_is turns key_is names clean = record { spares = ?;
+    move_on reply these words of_host of_words seen host_is words_is turns key_is names clean = record {
       asks = told_by (λ given. SeatAsks key false line reply (Some old) (Some new) given before after random random') these before after seen.told
           (record {
             seen = seen_by these words of_host of_words;
@@ -238,6 +239,7 @@ module _ (key : List ℕ) (k : ℕ) (to : Name) (old : SessionState) (seated : I
       wants = tt;
       seated = record { of_script = mine; key_is = key_is ∙ seated.key_is; clean = clean };
       named = names;
+      spares = spares;
     }
 
     -- the session is as it was
@@ -425,6 +427,7 @@ move_goes key k to old new result before after random random' seated whole goes 
     (both_weaker (KeepsUnder (Covers old) (Covers new) (λ name. (name ≡ to) ⊎ (name ≡ old.name))) (KeepsUnder (Covers old) (Covers new) (Concerns false (lines.Move k to) (Some old))) before.honest after.honest
     (move_keeps old seated.of_script whole to result new before after random random' goes aside reads)
     (λ a b keeps. keeps_more (Covers old) (Covers new) (λ name. (name ≡ to) ⊎ (name ≡ old.name)) (Concerns false (lines.Move k to) (Some old)) a b concerned keeps))
+    (spares_both (Concerns false (lines.Move k to) (Some old)) old.name to (inl refl) (inr (refl, refl)) before after aside)
     (of_moved old new seated.of_script result to before after random random' goes) result goes
   where
     concerned : (name : Name) → (name ≡ to) ⊎ (name ≡ old.name) → Concerns false (lines.Move k to) (Some old) name

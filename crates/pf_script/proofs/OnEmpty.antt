@@ -11,6 +11,7 @@ use Rattle.pf_io.specs.Unchanged.{KeepsDisk}
 use Rattle.pf_io.specs.Words.{WordsState}
 use Rattle.pf_io.specs.declared.faults.Memory.{Memory}
 use Rattle.pf_io.proofs.Telling.{told_by, told_none, both_same, both_weaker}
+use Rattle.pf_session.specs.Aside.{Aside}
 use Rattle.pf_session.specs.State.{SessionState}
 use Rattle.pf_script.specs.Book.{Book, Seal, Agrees}
 use Rattle.pf_script.specs.BookActs.{Act}
@@ -19,7 +20,7 @@ use Rattle.pf_script.specs.BookSeats.{CoversNone, KeepsUnder}
 use Rattle.pf_script.specs.BookTurns.{no_file, LineUnder, SeatUnder, SeatBooked}
 use Rattle.pf_script.specs.FileTurns.{stands_on, seen_over}
 use Rattle.pf_script.specs.Desk.{IsSeatOf, Shows, no_file as no_file_now}
-use Rattle.pf_script.specs.DeskSteps.{Unfolds, SeatTurns, SeatAsks, CountsFault, CoversSome, Concerns, HasItsName, SeatGoes, TakesNone, is_host_fault, is_words_fault}
+use Rattle.pf_script.specs.DeskSteps.{Unfolds, SeatTurns, SeatAsks, CountsFault, CoversSome, Concerns, Spares, HasItsName, SeatGoes, TakesNone, is_host_fault, is_words_fault}
 use Rattle.pf_script.specs.Rules.{Rule, IsFirst, NoneRefuses, seating_rules}
 use Rattle.pf_script.specs.Script.{Seat, Empty, name_of_line, sheets_of}
 use Rattle.pf_script.specs.Turns.{Seen, Failed, Standing, SeatTurn, on_carried}
@@ -35,6 +36,7 @@ use Rattle.pf_script.proofs.OverGiven.{over_idle}
 use Rattle.pf_script.proofs.Refusing.{at_last, not_empty}
 use Rattle.pf_script.proofs.SeatCalls.{seen_by}
 use Rattle.pf_script.proofs.Showing.{shows_none, shows_some}
+use Rattle.pf_script.proofs.Sparing.{spares_none, spares_kept, spares_aside}
 use Rattle.pf_script.proofs.StepKeeping.{keeps_more}
 use Rattle.pf_script.proofs.Under.{LooksLike, looks_like}
 
@@ -99,7 +101,7 @@ module _ (key : List ℕ) (line : ScriptLine) (name : Name) (names : name_of_lin
   pub concerns : (n : Name) → n ≡ name → Concerns false line None n
   concerns n same = inr (names ∙ ap (λ (x : Name). Some x) (sym same), refl)
 
-  module _ (new : Option SessionState) (before after : HostState) (random random' : WordsState) (keeps : OnDisk before after (KeepsUnder CoversNone (CoversSome new) (λ n. n ≡ name))) (seated : IsSeatOf key new) (named : (n : Name) → HasItsName new n → n ≡ name) where
+  module _ (new : Option SessionState) (before after : HostState) (random random' : WordsState) (keeps : OnDisk before after (KeepsUnder CoversNone (CoversSome new) (λ n. n ≡ name))) (spares : Spares (Concerns false line None) before after) (seated : IsSeatOf key new) (named : (n : Name) → HasItsName new n → n ≡ name) where
     books : OnDisk before after (KeepsUnder CoversNone (CoversSome new) (Concerns false line None))
     books = both_weaker (KeepsUnder CoversNone (CoversSome new) (λ n. n ≡ name)) (KeepsUnder CoversNone (CoversSome new) (Concerns false line None)) before.honest after.honest keeps
         (λ a b keeps. keeps_more CoversNone (CoversSome new) (λ n. n ≡ name) (Concerns false line None) a b concerns keeps)
@@ -107,7 +109,6 @@ module _ (key : List ℕ) (line : ScriptLine) (name : Name) (names : name_of_lin
     pub empty_goes : (reply : Reply) (these : List Answer) (words : List (List ℕ)) (of_host of_words : Bool) → SeenOf these words of_host of_words before after random random' → is_host_fault reply ≡ of_host → is_words_fault reply ≡ of_words
         → SeatTurns key false line (seen_by these words of_host of_words) reply None new these → SeatGoes key false line (Ok reply) None new before after random random'
     empty_goes reply these words of_host of_words seen host_is words_is turns = record {
-      spares = ?;
       asks = told_by (λ given. SeatAsks key false line reply None new given before after random random') these before after seen.told
           (record { seen = seen_by these words of_host of_words; was_seen = record { answers = refl; words = seen.taken; of_host = seen.on_host; of_words = seen.on_words }; turns = turns });
       books = books;
@@ -115,25 +116,30 @@ module _ (key : List ℕ) (line : ScriptLine) (name : Name) (names : name_of_lin
       wants = tt;
       seated = seated;
       named = λ n has. concerns n (named n has);
+      spares = spares;
     }
 
     -- want of memory
     pub empty_wants : ¬ (TakesNone line) → new ≡ None → KeepsDisk before after → after.faults ≡ before.faults → random' ≡ random → WhereTold before after (λ given. Unit {0}) → SeatGoes key false line (Err (record {})) None new before after random random'
     empty_wants takes none disk calm same told = record {
-      spares = ?;
       asks = tt;
       books = books;
       counts = (calm, ap (λ (w : WordsState). w.faults) same);
       wants = record { takes = takes; told = told; ends = inl (record { seat = none; disk = disk; words = same }) };
       seated = seated;
       named = λ n has. concerns n (named n has);
+      spares = spares;
     }
+
+  -- all other names are left alone
+  pub spares_given : (before after : HostState) → Aside name before after → Spares (Concerns false line None) before after
+  spares_given = spares_aside (Concerns false line None) name (concerns name refl)
 
   -- want of memory before anything was asked
   pub empty_unasked : (state : HostState) (random : WordsState) → ¬ (TakesNone line) → SeatGoes key false line (Err (record {})) None None state state random random
   empty_unasked state random takes =
       empty_wants None state state random random
-      (both_same (KeepsUnder CoversNone CoversNone (λ n. n ≡ name)) state.honest state.honest refl (λ a. only_reads CoversNone a a (λ n. n ≡ name) (unchanged_now a))) tt (λ n none. absurd none) takes refl
+      (both_same (KeepsUnder CoversNone CoversNone (λ n. n ≡ name)) state.honest state.honest refl (λ a. only_reads CoversNone a a (λ n. n ≡ name) (unchanged_now a))) (spares_none (Concerns false line None) state) tt (λ n none. absurd none) takes refl
       (both_same Unchanged state.honest state.honest refl (λ a. unchanged_now a)) refl refl (told_by (λ given. Unit {0}) [] state state (told_none state state refl) tt)
 
   -- under a book the seat is empty
@@ -179,7 +185,7 @@ module _ (key : List ℕ) (line : ScriptLine) (name : Name) (names : name_of_lin
       → ((a : Honest) → before.honest ≡ Some a → Failed (seen_by these words of_host of_words) false false → TurnsOver (reading a.now) words reply) → BothHalves key line (Ok reply) None before after random random'
   empty_idle before after random random' reply these words of_host of_words only seen host_is words_is turn over = record {
     goes = empty_goes None before after random random'
-        (both_weaker Unchanged (KeepsUnder CoversNone CoversNone (λ n. n ≡ name)) before.honest after.honest only (λ a b only_ab. only_reads CoversNone a b (λ n. n ≡ name) only_ab)) tt (λ n none. absurd none)
+        (both_weaker Unchanged (KeepsUnder CoversNone CoversNone (λ n. n ≡ name)) before.honest after.honest only (λ a b only_ab. only_reads CoversNone a b (λ n. n ≡ name) only_ab)) (spares_kept (Concerns false line None) before after only) tt (λ n none. absurd none)
         reply these words of_host of_words seen host_is words_is (empty_turns (seen_by these words of_host of_words) reply None these [] Empty turn still_shows);
     booked = record {
       seen = seen_by these words of_host of_words;

@@ -61,6 +61,7 @@ use Rattle.pf_script.proofs.Refusing.{none_taken}
 use Rattle.pf_script.proofs.SeatCalls.{seen_by, own_same, shows_same}
 use Rattle.pf_script.proofs.Seats.{seats_after, seat_is_left}
 use Rattle.pf_script.proofs.Showing.{shows_none}
+use Rattle.pf_script.proofs.Sparing.{spares_kept}
 use Rattle.pf_script.proofs.StepKeeping.{keeps_more}
 use Rattle.pf_script.proofs.Under.{unknown_under}
 
@@ -131,7 +132,7 @@ module _ (key : List ℕ) (k : ℕ) (name : Name) (utf8 : IsUtf8 name) (before a
   wants_memory : after.faults ≡ before.faults → WhereTold before after (λ given. Unit {0}) → Halves (Err (record {})) None
   wants_memory calm told = record {
     goes = empty_wants key line name refl None before after words words
-        (both_weaker Unchanged (KeepsUnder CoversNone CoversNone (λ n. n ≡ name)) before.honest after.honest only (λ a b only_ab. only_reads CoversNone a b (λ n. n ≡ name) only_ab)) tt (λ n none. absurd none) (λ takes. takes) refl only calm refl told;
+        (both_weaker Unchanged (KeepsUnder CoversNone CoversNone (λ n. n ≡ name)) before.honest after.honest only (λ a b only_ab. only_reads CoversNone a b (λ n. n ≡ name) only_ab)) (spares_kept (Concerns false line None) before after only) tt (λ n none. absurd none) (λ takes. takes) refl only calm refl told;
     booked = tt;
   }
 
@@ -263,7 +264,6 @@ module _ (key : List ℕ) (k : ℕ) (name : Name) (utf8 : IsUtf8 name) (before a
     is_accepted : Opens key name (Some name) before after (Ok session) → OpensOnFirst session before after → OnDisk before after (OpensEither session) → Halves (Ok (replies.Opened session.tree.size)) (Some session)
     is_accepted goes first either = record {
       goes = record {
-        spares = ?;
         asks = told_these (λ came. (sheets : List Sheet) → Unforged key sheets came → OnFirst sheets session came) (λ given. SeatAsks key false line (replies.Opened session.tree.size) None (Some session) given before after words words) came before after told first
             (λ on. record { seen = seen; was_seen = record { answers = refl; words = none_taken words; of_host = calm; of_words = refl }; turns = turns on });
         books = both_weaker (KeepsUnder CoversNone (CoversMade {E = OpenFault} (Ok session)) (λ n. n ≡ name)) (KeepsUnder CoversNone (CoversSome (Some session)) (Concerns false line None)) before.honest after.honest
@@ -273,6 +273,7 @@ module _ (key : List ℕ) (k : ℕ) (name : Name) (utf8 : IsUtf8 name) (before a
         wants = tt;
         seated = seated;
         named = λ n has. concerns key line name refl n has;
+        spares = spares_kept (Concerns false line None) before after only;
       };
       booked = record { seen = seen; was_seen = seen_in came [] false false before after words words (seen_of came false told calm); under = under goes either };
     }
