@@ -45,10 +45,10 @@ one_under line reply d0 d1 h0 h1 r0 r1 agrees image book state disk is =
       turn.after,
       last.0,
       record {
-        over = ?;
         leaves = all_leaves book is.seats turn.acts turn.left disk last.0 is.agrees is.image turn.did;
         agrees = all_agrees book is.seats turn.acts turn.left disk last.0 is.agrees is.image turn.did;
         turn = turn.turn;
+        over = turn.over;
       },
       record {
         seats = turn.left;

@@ -18,7 +18,8 @@ use Rattle.pf_session.specs.State.{SessionState}
 use Rattle.pf_script.specs.BookActs.{Flush, Act}
 use Rattle.pf_script.specs.BookDebts.{seat_of}
 use Rattle.pf_script.specs.DeskSteps.{Unfolds, in_the_end, then_more}
-use Rattle.pf_script.specs.Script.{OwnSeat, sheets_of}
+use Rattle.pf_script.specs.Rules.{NoneRefuses, rules}
+use Rattle.pf_script.specs.Script.{OwnSeat, Own, sheets_of}
 use Rattle.pf_script.specs.SeatReplies.{flush_reply}
 use Rattle.pf_script.specs.SeatSteps.{AsksFor}
 use Rattle.pf_script.specs.Turns.{Blame, ByHost, ByDamage, flushes, BlamesFlush, BlamesFetch}
@@ -39,6 +40,7 @@ module _ (key : List ℕ) (sealed : List Sheet) (own : OwnSeat) (line : ScriptLi
     pub broke : (blame : Blame) → outcome ≡ Broke blame → (acts : List Act) → LineEnds key sealed own line given (words ++ more) (host_blamed blame) false (flush_reply (fault_of blame)) new acts → P acts
     pub lack : outcome ≡ Lacked → (acts : List Act) → LineEnds key sealed own line given (words ++ more) false true replies.WordsFault new acts → P acts
     pub memory : ¬ (outcome ≡ Wanted)
+    pub passes : NoneRefuses (rules key false (Own own) line given)
 
   split_at : (front middle : List Answer) → these ≡ front ++ middle → given ≡ before_it ++ front ++ middle ++ rest
   split_at front middle is = split ∙ ap (λ (l : List Answer). before_it ++ l ++ rest) is ∙ ap (λ (l : List Answer). l ++ rest) (sym (append_assoc before_it front middle))
@@ -70,7 +72,7 @@ module _ (key : List ℕ) (sealed : List Sheet) (own : OwnSeat) (line : ScriptLi
         in_the_end (flushes own sheets)
         (λ unforged. go.broke blame refl (flushes own sheets)
         (subst (λ (w : List (List ℕ)). LineEnds key sealed own line given w (host_blamed blame) false (flush_reply (fault_of blame)) new (flushes own sheets)) (sym words_are)
-        (fetch_failed key sealed own line given old made words sheets base was step steps asks new key_is name_is blame (fits_at base old step roomy)
+        (fetch_failed key sealed own line given old made words sheets base was step steps asks new key_is name_is go.passes blame (fits_at base old step roomy)
         (fetch_blames base old.name before_it these blame was.name_is split (blames (gives key sealed own line given sheets base old.name before_it these rest was.among split unforged))) broken)))
 
     once : (r : Result (Unit {0}) TreeFault) → Continues (outcome_of false r) → StepFacts r step old new these → StepState r old new → Unfolds key sealed P given (flushes own sheets)
@@ -107,7 +109,7 @@ module _ (key : List ℕ) (sealed : List Sheet) (own : OwnSeat) (line : ScriptLi
     after_failed blame go blames key_is name_is broken =
         in_the_end (flushes own (sheets ++ next ∷ []))
         (λ unforged. go.broke blame refl (flushes own (sheets ++ next ∷ []))
-        (fetch_failed_after key sealed own line given old made words sheets base was step steps asks new (key_is ∙ ap (λ (s : SessionState). s.key) same) (name_is ∙ ap (λ (s : SessionState). s.name) same) blame more next
+        (fetch_failed_after key sealed own line given old made words sheets base was step steps asks new (key_is ∙ ap (λ (s : SessionState). s.key) same) (name_is ∙ ap (λ (s : SessionState). s.name) same) go.passes blame more next
         (flushes_first base old step first) (seals base was.linked was.kept.backed).1
         (fetch_blames next mid.name (before_it ++ front) those blame own_name (split_at front those parts)
         (blames (gives key sealed own line given (sheets ++ next ∷ []) next mid.name (before_it ++ front) those rest next_among (split_at front those parts) unforged))) broken))
@@ -138,7 +140,7 @@ module _ (key : List ℕ) (sealed : List Sheet) (own : OwnSeat) (line : ScriptLi
       then_more (flushes own sheets) acts [] given refl
       (λ unforged. in_the_end (flushes own sheets ++ acts)
       (λ unforged. go.broke blame refl (flushes own sheets ++ acts)
-      (flush_failed key sealed own line given old made words sheets base was step steps asks new key_is name_is blame more next.0 (flushes_first base old step first) next.1
+      (flush_failed key sealed own line given old made words sheets base was step steps asks new key_is name_is go.passes blame more next.0 (flushes_first base old step first) next.1
       (subst (λ (n : Name). BlamesFlush n given blame) was.name_is (subst (λ (l : List Answer). BlamesFlush old.name l blame) (sym split) (flush_more old.name before_it these rest blame blames))) broken)))
 
   pub change_ends : (outcome : Outcome) → Continues outcome → ChangeTold step old new these more outcome → Unfolds key sealed P given (flushes own sheets)

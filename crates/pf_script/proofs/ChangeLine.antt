@@ -11,6 +11,7 @@ use Rattle.pf_io.specs.declared.faults.Memory.{Memory}
 use Rattle.pf_io.proofs.Telling.{told_weaker}
 use Rattle.pf_session.specs.Moving.{IsKeptOn}
 use Rattle.pf_session.specs.Changing.{ChangeGoes, refused, unchanged, changed, not_flushed, flushed_and_changed, StepState}
+use Rattle.pf_session.specs.Aside.{Aside}
 use Rattle.pf_session.specs.State.{SessionState}
 use Rattle.pf_session.specs.declared.fault.FlushFault.{FlushFault}
 use Rattle.pf_session.specs.declared.fault.Written.{Written}
@@ -127,6 +128,7 @@ module _ (key : List ℕ) (line : ScriptLine) (old new : SessionState) (whole : 
           broke = λ blame is acts ends. absurd (cc);
           lack = λ is acts ends. absurd (cc);
           memory = λ is. absurd (cc);
+          passes = passes base given;
         }) told
       where
         same_flag : (f g : Bool) → Went f ≡ Went g → f ≡ g
@@ -143,6 +145,7 @@ module _ (key : List ℕ) (line : ScriptLine) (old new : SessionState) (whole : 
               subst (λ (b : Blame). LineEnds key sealed own line given words (host_blamed b) false (flush_reply (fault_of b)) new acts) (sym (same_blame blame other is)) ends;
           lack = λ is acts ends. absurd (cc);
           memory = λ is. absurd (cc);
+          passes = passes base given;
         }) told
       where
         same_blame : (b other : Blame) → Broke b ≡ Broke other → b ≡ other
@@ -158,13 +161,14 @@ module _ (key : List ℕ) (line : ScriptLine) (old new : SessionState) (whole : 
           broke = λ blame is acts ends. absurd (cc);
           lack = λ is acts ends. ends;
           memory = λ is. absurd (cc);
+          passes = passes base given;
         }) told
 
-  module _ (before after : HostState) (random random' : WordsState) (books : OnDisk before after (KeepsUnder (Covers old) (Covers new) (λ name. name ≡ old.name))) (seated : IsSeated key new) (name_is : new.name ≡ old.name)
+  module _ (before after : HostState) (random random' : WordsState) (aside : Aside old.name before after) (books : OnDisk before after (KeepsUnder (Covers old) (Covers new) (λ name. name ≡ old.name))) (seated : IsSeated key new) (name_is : new.name ≡ old.name)
       (takes : ¬ (TakesNone line)) (changes : IsChange line) (calm : (flushed : Bool) → (is_host_fault (replied flushed) ≡ false) × (is_words_fault (replied flushed) ≡ false)) where
     pub line_goes : (outcome : Outcome) → ChangeSeen step old new outcome before after random random' → (outcome ≡ Wanted → new.broken ≡ true) → SeatGoes key false line (outcome_reply replied outcome) (Some old) (Some new) before after random random'
     line_goes (Went flushed) seen breaks =
-        goes_told key false line old before after random random' (replied flushed)
+        goes_told key false line old before after random random' aside (replied flushed)
         (subst (λ b. CountsFault b before.faults after.faults) (sym (calm flushed).0) seen.on_host, subst (λ b. CountsFault b random.faults random'.faults) (sym (calm flushed).1) seen.on_words) new
         (told_weaker (λ given. ChangeTold step old new given seen.words (Went flushed)) (λ given. SeatAsks key false line (replied flushed) (Some old) (Some new) given before after random random') before after seen.told
         (λ given told. record {
@@ -173,7 +177,7 @@ module _ (key : List ℕ) (line : ScriptLine) (old new : SessionState) (whole : 
           turns = whole_turns key false line (seen_by given seen.words false false) (replied flushed) old (Some new) given whole (went_turns given seen.words flushed told);
         })) books seated name_is
     line_goes (Broke blame) seen breaks =
-        goes_told key false line old before after random random' (flush_reply (fault_of blame))
+        goes_told key false line old before after random random' aside (flush_reply (fault_of blame))
         (subst (λ b. CountsFault b before.faults after.faults) (sym (host_reply blame)) seen.on_host, subst (λ b. CountsFault b random.faults random'.faults) (sym (words_reply blame)) seen.on_words) new
         (told_weaker (λ given. ChangeTold step old new given seen.words (Broke blame)) (λ given. SeatAsks key false line (flush_reply (fault_of blame)) (Some old) (Some new) given before after random random') before after seen.told
         (λ given told. record {
@@ -182,7 +186,7 @@ module _ (key : List ℕ) (line : ScriptLine) (old new : SessionState) (whole : 
           turns = whole_turns key false line (seen_by given seen.words (host_blamed blame) false) (flush_reply (fault_of blame)) old (Some new) given whole (broke_turns given seen.words blame told);
         })) books seated name_is
     line_goes Lacked seen breaks =
-        goes_told key false line old before after random random' replies.WordsFault (seen.on_host, seen.on_words) new
+        goes_told key false line old before after random random' aside replies.WordsFault (seen.on_host, seen.on_words) new
         (told_weaker (λ given. ChangeTold step old new given seen.words Lacked) (λ given. SeatAsks key false line replies.WordsFault (Some old) (Some new) given before after random random') before after seen.told
         (λ given told. record {
           seen = seen_by given seen.words false true;
@@ -190,4 +194,4 @@ module _ (key : List ℕ) (line : ScriptLine) (old new : SessionState) (whole : 
           turns = whole_turns key false line (seen_by given seen.words false true) replies.WordsFault old (Some new) given whole (lacked_turns given seen.words told);
         })) books seated name_is
     line_goes Wanted seen breaks =
-        goes_wanting key false line old before after random random' (record {}) new (record { takes = takes; told = told_weaker (λ given. ChangeTold step old new given seen.words Wanted) (λ given. Unit {0}) before after seen.told (λ given facts. tt); ends = inr (changes, breaks refl) }) books seated name_is seen.on_host seen.on_words
+        goes_wanting key false line old before after random random' aside (record {}) new (record { takes = takes; told = told_weaker (λ given. ChangeTold step old new given seen.words Wanted) (λ given. Unit {0}) before after seen.told (λ given facts. tt); ends = inr (changes, breaks refl) }) books seated name_is seen.on_host seen.on_words

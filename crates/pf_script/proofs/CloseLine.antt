@@ -33,13 +33,17 @@ abbrev pub close_result : Bool → Result (Unit {0}) FlushFault → Reply
 close_result lost (Ok ok) = replies.Closed lost
 close_result lost (Err fault) = flush_reply fault
 
+-- no rule refuses the closing of a seat that has a file
+pub none_to_close : (key : List ℕ) (k : ℕ) (own : OwnSeat) → NoneRefuses (rules key false (Own own) (lines.Close k) [])
+none_to_close key k own = ((λ other refuses. not_empty (Own own) own refl refuses.1), tt)
+
 module _ (key : List ℕ) (k : ℕ) (old : SessionState) where
   closed_on : (sealed : List Sheet) (seat : Seat) (own : OwnSeat) → seat ≡ Own own → own.broken ≡ old.broken → (own.changed ≡ false) ⊎ (own.broken ≡ true)
       → SeatTurn (on_carried key sealed) key false seat (lines.Close k) (seen_by [] [] false false) (replies.Closed old.broken) [] Empty
   closed_on sealed seat own is same because =
       subst (λ (b : Bool). SeatTurn (on_carried key sealed) key false seat (lines.Close k) (seen_by [] [] false false) (replies.Closed b) [] Empty) same
       (subst (λ (x : Seat). SeatTurn (on_carried key sealed) key false x (lines.Close k) (seen_by [] [] false false) (replies.Closed own.broken) [] Empty) (sym is)
-      (accepted ((λ other refuses. not_empty (Own own) own refl refuses.1), tt) (record { host = refl; random = refl }) (lets_go k own because refl)))
+      (accepted (none_to_close key k own) (record { host = refl; random = refl }) (lets_go k own because refl)))
 
   -- a session that is not flushed
   idle_turns : (b : Bool) → old.broken ≡ b → (old.changed ≡ false) ⊎ (old.broken ≡ true) → SeatTurns key false (lines.Close k) (seen_by [] [] false false) (replies.Closed old.broken) (Some old) None []
@@ -52,9 +56,6 @@ module _ (key : List ℕ) (k : ℕ) (old : SessionState) where
   idle_turns false is (inr broken) = absurd (false_true old.broken broken is)
 
   module _ (whole : old.broken ≡ false) (was_changed : old.changed ≡ true) where
-    not_none : (own : OwnSeat) → NoneRefuses (rules key false (Own own) (lines.Close k) [])
-    not_none own = ((λ other refuses. not_empty (Own own) own refl refuses.1), tt)
-
     lacked_turns : (words : List (List ℕ)) → SheetTurns key false (lines.Close k) (seen_by [] words false true) replies.WordsFault old None []
     lacked_turns words sealed base among linked kept =
         at_last [] (λ unforged. (Empty, words_failed (record { host = refl; random = refl }) (no_last_flush k (seat_on base old) was_changed whole) refl, no_file refl refl))
@@ -64,7 +65,7 @@ module _ (key : List ℕ) (k : ℕ) (old : SessionState) where
     failed_turn sealed base next these words ByHost seals blames =
         host_failed (record { host = refl; random = refl }) (not_sealed (seat_on base old) (lines.Close k) next ByHost Empty seals blames (of_close k was_changed whole)) refl
     failed_turn sealed base next these words (ByDamage damage) seals blames =
-        was_damaged damage ? (record { host = refl; random = refl }) (not_sealed (seat_on base old) (lines.Close k) next (ByDamage damage) Empty seals blames (of_close k was_changed whole)) refl
+        was_damaged damage (none_to_close key k (seat_on base old)) (record { host = refl; random = refl }) (not_sealed (seat_on base old) (lines.Close k) next (ByDamage damage) Empty seals blames (of_close k was_changed whole)) refl
 
     failed_turns : (these : List Answer) (words : List (List ℕ)) (blame : Blame) → SealsOwn old words (λ next. Unit {0}) → BlamesFlush old.name these blame
         → SheetTurns key false (lines.Close k) (seen_by these words (host_blamed blame) false) (flush_reply (fault_of blame)) old None these
@@ -76,22 +77,22 @@ module _ (key : List ℕ) (k : ℕ) (old : SessionState) where
     done_turns new these words seals sealed base among linked kept =
         let next = seals base linked kept.backed in
         let own = seat_on base old in
-        at_last (flush_act old next.0 true ∷ []) (λ unforged. (Empty, accepted (not_none own) (record { host = refl; random = refl }) (flushes_last k own next.0 was_changed whole next.1), no_file refl refl))
+        at_last (flush_act old next.0 true ∷ []) (λ unforged. (Empty, accepted (none_to_close key k own) (record { host = refl; random = refl }) (flushes_last k own next.0 was_changed whole next.1), no_file refl refl))
 
-  module _ (before after : HostState) (random random' : WordsState) (books : OnDisk before after (KeepsUnder (Covers old) CoversNone (λ name. name ≡ old.name))) where
+  module _ (before after : HostState) (random random' : WordsState) (aside : Aside old.name before after) (books : OnDisk before after (KeepsUnder (Covers old) CoversNone (λ name. name ≡ old.name))) where
     by_case : (result : Result (Unit {0}) FlushFault) (mid : SessionState) → old.broken ≡ false → old.changed ≡ true → FlushCase result old mid before after random random'
         → SeatGoes key false (lines.Close k) (Ok (close_result false result)) (Some old) None before after random random'
     by_case result mid whole was_changed (lacked words seen same stays said) =
         subst (λ (r : Result (Unit {0}) FlushFault). SeatGoes key false (lines.Close k) (Ok (close_result false r)) (Some old) None before after random random') (sym said)
-        (goes_out key false (lines.Close k) replies.WordsFault old before after random random' [] words false true seen refl refl
+        (goes_out key false (lines.Close k) replies.WordsFault old before after random random' aside [] words false true seen refl refl
         (whole_turns key false (lines.Close k) (seen_by [] words false true) replies.WordsFault old None [] whole (lacked_turns whole was_changed words)) books)
     by_case result mid whole was_changed (failed blame these words seen blames seals key_is name_is broken said) =
         subst (λ (r : Result (Unit {0}) FlushFault). SeatGoes key false (lines.Close k) (Ok (close_result false r)) (Some old) None before after random random') (sym said)
-        (goes_out key false (lines.Close k) (flush_reply (fault_of blame)) old before after random random' these words (host_blamed blame) false seen (host_reply blame) (words_reply blame)
+        (goes_out key false (lines.Close k) (flush_reply (fault_of blame)) old before after random random' aside these words (host_blamed blame) false seen (host_reply blame) (words_reply blame)
         (whole_turns key false (lines.Close k) (seen_by these words (host_blamed blame) false) (flush_reply (fault_of blame)) old None these whole (failed_turns whole was_changed these words blame seals blames)) books)
     by_case result mid whole was_changed (done these words seen seals same dirty said) =
         subst (λ (r : Result (Unit {0}) FlushFault). SeatGoes key false (lines.Close k) (Ok (close_result false r)) (Some old) None before after random random') (sym said)
-        (goes_out key false (lines.Close k) (replies.Closed false) old before after random random' these words false false seen refl refl
+        (goes_out key false (lines.Close k) (replies.Closed false) old before after random random' aside these words false false seen refl refl
         (whole_turns key false (lines.Close k) (seen_by these words false false) (replies.Closed false) old None these whole (done_turns whole was_changed mid these words seals)) books)
 
 pub close_goes : (key : List ℕ) (k : ℕ) (old : SessionState) (result : Result (Unit {0}) FlushFault) (before after : HostState) (random random' : WordsState) → IsSeated key old
@@ -104,7 +105,7 @@ close_goes key k old result before after random random' seated goes aside reads 
     by_end : CloseGoes result old before after random random' → SeatGoes key false (lines.Close k) (Ok (close_result old.broken result)) (Some old) None before after random random'
     by_end (let_go why stays same said) =
         subst (λ (r : Result (Unit {0}) FlushFault). SeatGoes key false (lines.Close k) (Ok (close_result old.broken r)) (Some old) None before after random random') (sym said)
-        (goes_out key false (lines.Close k) (replies.Closed old.broken) old before after random random' [] [] false false
+        (goes_out key false (lines.Close k) (replies.Closed old.broken) old before after random random' aside [] [] false false
         (record {
           told = told_none before after (ap (λ (h : HostState). h.given) stays);
           taken = subst (λ (w : WordsState). Both random.left w.left (AreTaken [])) (sym same) (none_taken random);
@@ -113,4 +114,4 @@ close_goes key k old result before after random random' seated goes aside reads 
         }) refl refl (idle_turns key k old old.broken refl why) books)
     by_end (flushed_last mid was_changed whole flushes) =
         subst (λ (b : Bool). SeatGoes key false (lines.Close k) (Ok (close_result b result)) (Some old) None before after random random') (sym whole)
-        (by_case key k old before after random random' books result mid whole was_changed (flush_case old seated.of_script mid before after random random' result flushes))
+        (by_case key k old before after random random' aside books result mid whole was_changed (flush_case old seated.of_script mid before after random random' result flushes))

@@ -9,12 +9,13 @@ use Rattle.pf_io.proofs.Telling.{told_none}
 use Rattle.pf_session.specs.Asking.{IsTaken as AreTaken}
 use Rattle.pf_session.specs.Aside.{Aside, LeavesApart, KeepsApart}
 use Rattle.pf_session.specs.Ending.{CloseGoes, let_go, flushed_last}
+use Rattle.pf_session.specs.Flushing.{UndamagedFlush}
 use Rattle.pf_session.specs.Reopening.{AsEither, Stood}
 use Rattle.pf_session.specs.Sealing.{StoodIf}
 use Rattle.pf_session.specs.State.{SessionState}
 use Rattle.pf_session.specs.declared.fault.FlushFault.{FlushFault}
 use Rattle.pf_script.specs.BookActs.{Flush}
-use Rattle.pf_script.specs.BookDebts.{seat_of}
+use Rattle.pf_script.specs.BookDebts.{DidAll, seat_of}
 use Rattle.pf_script.specs.BookSeats.{Covers, CoversNone, KeepsUnder}
 use Rattle.pf_script.specs.BookTurns.{no_file, SeatUnder, SeatAgrees}
 use Rattle.pf_script.specs.FileTurns.{stands_on}
@@ -28,11 +29,13 @@ use Rattle.pf_script.specs.declared.reply.Reply.{Reply}
 use Rattle.pf_script.specs.declared.reply.Reply.TheVariants as replies
 use Rattle.pf_script.proofs.ActKeeping.{one_spares}
 use Rattle.pf_script.proofs.CallKeeping.{at_both, both_with, read_image, same_disk, close_keeps}
-use Rattle.pf_script.proofs.CloseLine.{close_result}
+use Rattle.pf_script.proofs.CloseLine.{close_result, none_to_close}
+use Rattle.pf_script.proofs.FilesLeft.{files_flushed}
 use Rattle.pf_script.proofs.FlushLine.{flush_act}
-use Rattle.pf_script.proofs.FlushUnder.{seen_in}
+use Rattle.pf_script.proofs.FlushUnder.{seen_in, flush_counts}
 use Rattle.pf_script.proofs.Flushed.{FlushEnds, not_begun, not_ended, was_ended, flush_ends, host_blamed, fault_of}
-use Rattle.pf_script.proofs.Refusing.{not_empty, none_taken}
+use Rattle.pf_script.proofs.OverGiven.{over_idle}
+use Rattle.pf_script.proofs.Refusing.{none_taken}
 use Rattle.pf_script.proofs.SeatCalls.{seen_by, false_true}
 use Rattle.pf_script.proofs.Seats.{seats_after}
 use Rattle.pf_script.proofs.Under.{LooksLike, looks_like, KnownUnder, on_disk, none_concerned, one_concerned, flush_did}
@@ -42,7 +45,7 @@ failed_turn : (standing : Standing) (key : List ℕ) (k : ℕ) (own : OwnSeat) (
     → SeatTurn standing key false (Own own) (lines.Close k) (seen_by these words (host_blamed blame) false) (flush_reply (fault_of blame)) (record { deed = Flush (seat_of own.key own.name next); done = false } ∷ []) Empty
 failed_turn standing key k own next these words ByHost was_changed whole seals blames = host_failed (record { host = refl; random = refl }) (not_sealed own (lines.Close k) next ByHost Empty seals blames (of_close k was_changed whole)) refl
 failed_turn standing key k own next these words (ByDamage damage) was_changed whole seals blames =
-    was_damaged damage ? (record { host = refl; random = refl }) (not_sealed own (lines.Close k) next (ByDamage damage) Empty seals blames (of_close k was_changed whole)) refl
+    was_damaged damage (none_to_close key k own) (record { host = refl; random = refl }) (not_sealed own (lines.Close k) next (ByDamage damage) Empty seals blames (of_close k was_changed whole)) refl
 
 module _ (key : List ℕ) (k : ℕ) (old : SessionState) (seated : IsSeated key old) (before after : HostState) (random random' : WordsState)
     (keeps : OnDisk before after (KeepsUnder (Covers old) CoversNone (λ name. name ≡ old.name))) (aside : Aside old.name before after) (reads : ReadsAsImage after) where
@@ -52,8 +55,8 @@ module _ (key : List ℕ) (k : ℕ) (old : SessionState) (seated : IsSeated key 
         → OnDisk before after (SeatUnder key false (lines.Close k) seen reply (Some old) None)
     line_under seen reply known = on_disk key false (lines.Close k) seen reply old whole None before after keeps aside known
 
-    by_end : (result : Result (Unit {0}) FlushFault) → FlushEnds result old mid before after random random' → SeatAgrees key false (lines.Close k) (close_result false result) (Some old) None before after random random'
-    by_end result (not_begun words seen same stays said) =
+    by_end : (result : Result (Unit {0}) FlushFault) → UndamagedFlush result old before → FlushEnds result old mid before after random random' → SeatAgrees key false (lines.Close k) (close_result false result) (Some old) None before after random random'
+    by_end result undamaged (not_begun words seen same stays said) =
         subst (λ (r : Result (Unit {0}) FlushFault). SeatAgrees key false (lines.Close k) (close_result false r) (Some old) None before after random random') (sym said)
         (record {
           seen = seen_by [] words false true;
@@ -68,9 +71,10 @@ module _ (key : List ℕ) (k : ℕ) (old : SessionState) (seated : IsSeated key 
                 spares = λ s has apart. has;
                 concerned = none_concerned false (lines.Close k) (Some old);
                 turn = λ _. words_failed (record { host = refl; random = refl }) (no_last_flush k (seat_on base old) was_changed whole) refl;
+                over = λ _ calm. absurd (false_true true refl calm.random);
               });
         })
-    by_end result (not_ended blame these words seen blames seals key_is name_is broken said) =
+    by_end result undamaged (not_ended blame these words seen blames seals key_is name_is broken said) =
         subst (λ (r : Result (Unit {0}) FlushFault). SeatAgrees key false (lines.Close k) (close_result false r) (Some old) None before after random random') (sym said)
         (record {
           seen = seen_by these words (host_blamed blame) false;
@@ -87,9 +91,14 @@ module _ (key : List ℕ) (k : ℕ) (old : SessionState) (seated : IsSeated key 
                 spares = one_spares seats (Flush (seat_of old.key old.name next.0)) false;
                 concerned = one_concerned false (lines.Close k) old false next.0;
                 turn = λ _. failed_turn (stands_on key (reading a.now)) key k (seat_on base old) next.0 these words blame was_changed whole next.1 blames;
+                over = λ _ calm.
+                    absurd
+                    (false_true (host_blamed blame)
+                    (flush_counts old seated.of_script blame before a is (subst (λ (r : Result (Unit {0}) FlushFault). UndamagedFlush r old before) said undamaged) base on.kept.backed on.stood)
+                    calm.host);
               });
         })
-    by_end result (was_ended these words seen seals same dirty said) =
+    by_end result undamaged (was_ended these words seen seals same dirty said) =
         subst (λ (r : Result (Unit {0}) FlushFault). SeatAgrees key false (lines.Close k) (close_result false r) (Some old) None before after random random') (sym said)
         (record {
           seen = seen_by these words false false;
@@ -97,16 +106,24 @@ module _ (key : List ℕ) (k : ℕ) (old : SessionState) (seated : IsSeated key 
           under = line_under (seen_by these words false false) (replies.Closed false)
               (λ a b is is2 ran book seats agrees base on.
               let next = seals base on.stood.as_sheet.stands.linked on.kept.backed in
-              let own = seat_on base old in record {
+              let own = seat_on base old in
+              let left = seats_after (Flush (seat_of old.key old.name next.0)) true seats in
+              let did : DidAll book seats (flush_act old next.0 true ∷ []) left a b =
+              flush_did book seats true old.key old.name base next.0 a b on.entry seated.of_script.is_target ran (read_image after.honest b is2 reads) on.was on.seated
+              (record { path_is = next.1.next.path_is; sealed = at_both (Where (Stood old.key old.name base) (Ran (AsEither old.key old.name base next.0) (StoodIf true old.key old.name next.0))) before.honest after.honest a b is is2 next.2.1 }) in
+              record {
                 acts = flush_act old next.0 true ∷ [];
-                left = seats_after (Flush (seat_of old.key old.name next.0)) true seats;
+                left = left;
                 after = Empty;
-                did = flush_did book seats true old.key old.name base next.0 a b on.entry seated.of_script.is_target ran (read_image after.honest b is2 reads) on.was on.seated
-                    (record { path_is = next.1.next.path_is; sealed = at_both (Where (Stood old.key old.name base) (Ran (AsEither old.key old.name base next.0) (StoodIf true old.key old.name next.0))) before.honest after.honest a b is is2 next.2.1 });
+                did = did;
                 shows = no_file refl refl;
                 spares = one_spares seats (Flush (seat_of old.key old.name next.0)) true;
                 concerned = one_concerned false (lines.Close k) old true next.0;
-                turn = λ _. accepted ((λ other refuses. not_empty (Own own) own refl refuses.1), tt) (record { host = refl; random = refl }) (flushes_last k own next.0 was_changed whole next.1);
+                turn = λ _. accepted (none_to_close key k own) (record { host = refl; random = refl }) (flushes_last k own next.0 was_changed whole next.1);
+                over = λ _ calm. record {
+                  turn = accepted (none_to_close key k own) (record { host = refl; random = refl }) (flushes_last k own next.0 was_changed whole next.1);
+                  files = files_flushed own (next.0 ∷ []) book seats left a b agrees on.image did on.entry on.was;
+                };
               });
         })
 
@@ -116,7 +133,7 @@ module _ (key : List ℕ) (k : ℕ) (old : SessionState) (seated : IsSeated key 
   idle_turn standing seat looks own is same because =
       subst (λ (b : Bool). SeatTurn standing key false seat (lines.Close k) (seen_by [] [] false false) (replies.Closed b) [] Empty) same
       (subst (λ (x : Seat). SeatTurn standing key false x (lines.Close k) (seen_by [] [] false false) (replies.Closed own.broken) [] Empty) (sym is)
-      (accepted ((λ other refuses. not_empty (Own own) own refl refuses.1), tt) (record { host = refl; random = refl }) (lets_go k own because refl)))
+      (accepted (none_to_close key k own) (record { host = refl; random = refl }) (lets_go k own because refl)))
 
   let_under : (b : Bool) → old.broken ≡ b → (old.changed ≡ false) ⊎ (old.broken ≡ true) → after ≡ before → OnDisk before after (SeatUnder key false (lines.Close k) (seen_by [] [] false false) (replies.Closed old.broken) (Some old) None)
   let_under true is why stays =
@@ -131,6 +148,9 @@ module _ (key : List ℕ) (k : ℕ) (old : SessionState) (seated : IsSeated key 
         spares = λ s has apart. has;
         concerned = none_concerned false (lines.Close k) (Some old);
         turn = λ _. idle_turn (stands_on key (reading a.now)) seat looks looks.shown looks.seat_is looks.broken_is (inr (looks.broken_is ∙ is));
+        over = λ _ calm.
+            over_idle key false seat (lines.Close k) [] (replies.Closed old.broken) Empty a b (same_disk before after a b is_a is_b stays)
+            (idle_turn (stands_on key (reading a.now)) seat looks looks.shown looks.seat_is looks.broken_is (inr (looks.broken_is ∙ is)));
       })
   let_under false is (inl clean) stays =
       on_disk key false (lines.Close k) (seen_by [] [] false false) (replies.Closed old.broken) old is None before after keeps aside
@@ -143,11 +163,14 @@ module _ (key : List ℕ) (k : ℕ) (old : SessionState) (seated : IsSeated key 
         spares = λ s has apart. has;
         concerned = none_concerned false (lines.Close k) (Some old);
         turn = λ _. idle_turn (stands_on key (reading a.now)) (Own (seat_on base old)) (record { shown = seat_on base old; key_is = refl; name_is = refl; broken_is = refl; seat_is = refl }) (seat_on base old) refl refl (inl clean);
+        over = λ _ calm.
+            over_idle key false (Own (seat_on base old)) (lines.Close k) [] (replies.Closed old.broken) Empty a b (same_disk before after a b is_a is_b stays)
+            (idle_turn (stands_on key (reading a.now)) (Own (seat_on base old)) (record { shown = seat_on base old; key_is = refl; name_is = refl; broken_is = refl; seat_is = refl }) (seat_on base old) refl refl (inl clean));
       })
   let_under false is (inr broken) stays = absurd (false_true old.broken broken is)
 
-  by_close : (result : Result (Unit {0}) FlushFault) → CloseGoes result old before after random random' → SeatAgrees key false (lines.Close k) (close_result old.broken result) (Some old) None before after random random'
-  by_close result (let_go why stays same said) =
+  by_close : (result : Result (Unit {0}) FlushFault) → UndamagedFlush result old before → CloseGoes result old before after random random' → SeatAgrees key false (lines.Close k) (close_result old.broken result) (Some old) None before after random random'
+  by_close result undamaged (let_go why stays same said) =
       subst (λ (r : Result (Unit {0}) FlushFault). SeatAgrees key false (lines.Close k) (close_result old.broken r) (Some old) None before after random random') (sym said)
       (record {
         seen = seen_by [] [] false false;
@@ -159,11 +182,11 @@ module _ (key : List ℕ) (k : ℕ) (old : SessionState) (seated : IsSeated key 
         };
         under = let_under old.broken refl why stays;
       })
-  by_close result (flushed_last mid was_changed whole flushes) =
+  by_close result undamaged (flushed_last mid was_changed whole flushes) =
       subst (λ (b : Bool). SeatAgrees key false (lines.Close k) (close_result b result) (Some old) None before after random random') (sym whole)
-      (by_end whole was_changed mid result (flush_ends old seated.of_script mid before after random random' result flushes))
+      (by_end whole was_changed mid result undamaged (flush_ends old seated.of_script mid before after random random' result flushes))
 
 pub close_under : (key : List ℕ) (k : ℕ) (old : SessionState) (result : Result (Unit {0}) FlushFault) (before after : HostState) (random random' : WordsState) → IsSeated key old
-    → CloseGoes result old before after random random' → Aside old.name before after → ReadsAsImage after → SeatAgrees key false (lines.Close k) (close_result old.broken result) (Some old) None before after random random'
-close_under key k old result before after random random' seated goes aside reads =
-    by_close key k old seated before after random random' (close_keeps old seated.of_script result before after random random' goes aside reads) aside reads result goes
+    → CloseGoes result old before after random random' → UndamagedFlush result old before → Aside old.name before after → ReadsAsImage after → SeatAgrees key false (lines.Close k) (close_result old.broken result) (Some old) None before after random random'
+close_under key k old result before after random random' seated goes undamaged aside reads =
+    by_close key k old seated before after random random' (close_keeps old seated.of_script result before after random random' goes aside reads) aside reads result undamaged goes

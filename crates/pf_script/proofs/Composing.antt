@@ -104,12 +104,12 @@ owes_more before fewer (Flush seal) done (Some entry) old new in_more owes = (ow
 owes_more before fewer (Move from seal) done None old new in_more owes = owes
 owes_more before fewer (Move from seal) done (Some entry) old new in_more owes = (owes.0, (owes.1.0, in_more _ owes.1.1, owes.1.2))
 
-same_agrees : (book : Book) (seats after : List Seal) (old new : Honest) → Unchanged old new → ((seat : Seal) → Contains after seat → Contains seats seat) → Agrees book seats old.now → Agrees book after new.now
+pub same_agrees : (book : Book) (seats after : List Seal) (old new : Honest) → Unchanged old new → ((seat : Seal) → Contains after seat → Contains seats seat) → Agrees book seats old.now → Agrees book after new.now
 same_agrees book seats after old new only fewer agrees =
     subst (λ (d : Disk). Agrees book after d) (sym only.ends)
     (record { targets = agrees.targets; partners = agrees.partners; images = agrees.images; calm = agrees.calm; stand = λ seat entry has was. agrees.stand seat entry (fewer seat has) was })
 
-same_reads : (old new : Honest) → Unchanged old new → IsImage old.now (reading old.now) → IsImage new.now (reading new.now)
+pub same_reads : (old new : Honest) → Unchanged old new → IsImage old.now (reading old.now) → IsImage new.now (reading new.now)
 same_reads old new only reads = subst (λ (d : Disk). IsImage d (reading d)) (sym only.ends) reads
 
 -- after a step the book agrees with the disk

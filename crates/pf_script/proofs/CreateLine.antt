@@ -1,14 +1,16 @@
 -- The line `create`, from the contract of a creation.
 use Rattle.std.proofs.Common.{◌≡◌, inl, inr, Bool, true, false, List, [], ◌∷◌, ℕ, refl, sym, ◌∙◌, ap, subst, Option, Some, None, Result, Ok, Err, arith}
 use Rattle.std.proofs.lemmas.List.Elements.{Contains-push}
+use Rattle.std.specs.List.{AllByRecursion}
 use Rattle.std.specs.Prelude.{Contains}
 use Rattle.std.specs.Str.{IsUtf8}
 use Rattle.node_tree.specs.Backing.{now}
 use Rattle.node_tree.specs.Sheet.{Sheet, IsLinked}
 use Rattle.pf_io.specs.Counts.{counted}
-use Rattle.pf_io.specs.Disk.{Name}
-use Rattle.pf_io.specs.Host.{Answer, LengthWas, Wrote, Synced, Made, Swapped, HostState, Both as BothAre, OnDisk, ReadsAsImage}
-use Rattle.pf_io.specs.Moments.{Ran}
+use Rattle.pf_io.specs.Answered.{IsAnswerOf}
+use Rattle.pf_io.specs.Disk.{Name, Files, read_of, reading}
+use Rattle.pf_io.specs.Host.{Answer, LengthWas, Wrote, Synced, Made, Swapped, HostState, Both as BothAre, OnDisk, ReadsAsImage, length_of}
+use Rattle.pf_io.specs.Moments.{Honest, Ran}
 use Rattle.pf_io.specs.Names.{IsTarget, recovery_of, side_of}
 use Rattle.pf_io.specs.Words.{WordsState}
 use Rattle.pf_io.specs.declared.faults.Memory.{Memory}
@@ -27,11 +29,12 @@ use Rattle.pf_script.specs.BookSeats.{CoversNone, CoversMade, KeepsUnder}
 use Rattle.pf_script.specs.BookTurns.{ShowsUnder, no_file, of_book, SeatUnder}
 use Rattle.pf_script.specs.Desk.{no_file as no_seat, whole_file, seat_on}
 use Rattle.pf_script.specs.DeskSteps.{Concerns}
+use Rattle.pf_script.specs.FileTurns.{stands_on, answers_of, seen_over, FilesAfter, SeatOver}
 use Rattle.pf_script.specs.Rules.{Rule, refuses}
 use Rattle.pf_script.specs.Script.{Seat, Empty, Own}
 use Rattle.pf_script.specs.SeatReplies.{create_reply}
 use Rattle.pf_script.specs.SeatSteps.{SealsEmpty}
-use Rattle.pf_script.specs.Turns.{Seen, Standing, SeatTurn, refused, accepted, host_failed, words_failed, created as creates_file, not_asked, not_created, no_creation, new_seat}
+use Rattle.pf_script.specs.Turns.{Seen, Failed, Standing, SeatTurn, refused, accepted, host_failed, words_failed, created as creates_file, not_asked, not_created, no_creation, new_seat}
 use Rattle.pf_script.specs.declared.line.ScriptLine.{ScriptLine}
 use Rattle.pf_script.specs.declared.line.ScriptLine.TheVariants as lines
 use Rattle.pf_script.specs.declared.reply.Reply.{Reply}
@@ -43,7 +46,8 @@ use Rattle.pf_script.proofs.CreateKeeping.{create_keeps}
 use Rattle.pf_script.proofs.Flushed.{SeenOf, counted_kind}
 use Rattle.pf_script.proofs.FlushUnder.{seen_in}
 use Rattle.pf_script.proofs.OfScript.{of_created}
-use Rattle.pf_script.proofs.OnEmpty.{not_of, made_seat, BothHalves, empty_idle, concerns, empty_goes, empty_wants, empty_under, empty_turns, seat_first, seat_none}
+use Rattle.pf_script.proofs.OnEmpty.{not_of, made_seat, BothHalves, empty_idle, concerns, spares_given, empty_goes, empty_wants, empty_under, empty_turns, seat_first, seat_none}
+use Rattle.pf_script.proofs.OverGiven.{no_host_fault, no_words_fault, on_reading, same_over}
 use Rattle.pf_script.proofs.Refusing.{none_taken}
 use Rattle.pf_script.proofs.SeatCalls.{seen_by, own_same}
 use Rattle.pf_script.proofs.Seats.{seats_after, seat_is_left}
@@ -66,6 +70,10 @@ was_absent name node size =
     (not_of (Wrote (side_of name) 0 node) other (Synced (side_of name) ∷ Swapped (side_of name) name ∷ []) (λ same. absurd (cc))
     (not_of (Synced (side_of name)) other (Swapped (side_of name) name ∷ []) (λ same. absurd (cc))
     (not_of (Swapped (side_of name) name) other [] (λ same. absurd (cc)) (λ none. absurd (omega (arith, none.1))))))))
+
+no_length : (name : Name) (file : Option (List ℕ)) → file ≡ None → (size : ℕ) → Contains (LengthWas name (length_of file) ∷ []) (LengthWas name (Some size)) → ⊥
+no_length name None none size = not_of (LengthWas name None) (LengthWas name (Some size)) [] (λ same. absurd (cc)) (λ none. absurd (omega (arith, none.1)))
+no_length name (Some file) none size = absurd (cc)
 
 -- a target that is a text may be a path too
 pub named_target : (name : Name) → IsUtf8 name → IsTarget name → AreNamed name name
@@ -108,12 +116,12 @@ module _ (key : List ℕ) (k : ℕ) (name : Name) (utf8 : IsUtf8 name) (before a
 
     under : (done : Bool) (seen : Seen) (reply : Reply) (new : Option SessionState) (after_seat : Seat) → Aside name before after → ReadsAsImage after → OnDisk before after (CreatesOn done key name sheet) → IsTarget name
         → ((book : Book) (seats : List Seal) → ShowsUnder book (seats_after (Creation (seat_of key name sheet)) done seats) after_seat new) → ((standing : Standing) → SeatTurn standing key false Empty line seen reply (act done ∷ []) after_seat)
+        → ((a b : Honest) → Ran (LeavesApart name) (KeepsApart name) a b → CreatesOn done key name sheet a b → Failed seen false false → SeatOver key false Empty line seen.words reply (act done ∷ []) after_seat (reading a.now) (reading b.now))
         → OnDisk before after (SeatUnder key false line seen reply None new)
-    under done seen reply new after_seat aside reads creates target shows turn =
+    under done seen reply new after_seat aside reads creates target shows turn over =
         both_with (Ran (LeavesApart name) (KeepsApart name)) (SeatUnder key false line seen reply None new) before.honest after.honest aside
         (λ a b is is2 ran. empty_under key line name refl seen reply new a b
         (λ book seats agrees was_image. record {
-          over = ?;
           acts = act done ∷ [];
           left = seats_after (Creation (seat_of key name sheet)) done seats;
           after = after_seat;
@@ -123,20 +131,34 @@ module _ (key : List ℕ) (k : ℕ) (name : Name) (utf8 : IsUtf8 name) (before a
           spares = one_spares seats (Creation (seat_of key name sheet)) done;
           concerned = only_it done;
           turn = λ _. turn _;
+          over = λ knows calm. over a b ran (at_both (CreatesOn done key name sheet) before.honest after.honest a b is is2 creates) calm;
         }))
+
+    -- one that was done leaves the name with its sheet, and the others as they were
+    leaves_file : (a b : Honest) → Ran (LeavesApart name) (KeepsApart name) a b → CreatesOn true key name sheet a b → FilesAfter (act true ∷ []) (reading a.now) (reading b.now)
+    leaves_file a b ran creates = (
+      refl,
+      (
+        reading b.now,
+        record { stands = creates.ran.ends.as_sheet; away = tt; others = λ other apart. ap read_of (ran.ends other apart) },
+        λ n. refl,
+      ),
+    )
 
   by_case : (result : Result SessionState CreateFault) → Aside name before after → ReadsAsImage after → (IsTarget name → OnDisk before after (KeepsUnder CoversNone (CoversMade result) (λ n. n ≡ name))) → CreateGoes key name name before after random random' result
       → Both (create_result name result) (made_seat result)
   by_case result aside reads keeps (misnamed bad stays same said) =
+      let turn : (standing : Standing) (given : List Answer) → SeatTurn standing key false Empty line (seen_by given [] false false) (replies.Refused whys.BadName) [] Empty = λ standing given.
+      refused whys.BadName (seat_first (naming_rules name given) whys.BadName (inl (refl, λ target. bad (named_target name utf8 target)))) (record { host = refl; random = refl }) refl refl refl refl in
       subst (λ (r : Result SessionState CreateFault). Both (create_result name r) (made_seat r)) (sym said)
       (empty_idle key line name refl before after random random' (replies.Refused whys.BadName) [] [] false false (stays_so stays)
-      (record { told = told_none before after (ap (λ (h : HostState). h.given) stays); taken = none_taken_now same; on_host = ap (λ (h : HostState). h.faults) stays; on_words = ap (λ (w : WordsState). w.faults) same }) refl refl
-      (λ standing. refused whys.BadName (seat_first (naming_rules name []) whys.BadName (inl (refl, λ target. bad (named_target name utf8 target)))) (record { host = refl; random = refl }) refl refl refl refl))
+      (record { told = told_none before after (ap (λ (h : HostState). h.given) stays); taken = none_taken_now same; on_host = ap (λ (h : HostState). h.faults) stays; on_words = ap (λ (w : WordsState). w.faults) same }) refl refl (λ standing. turn standing [])
+      (λ a is calm. turn (stands_on key (reading a.now)) (answers_of (reading a.now) line)))
   by_case result aside reads keeps (no_memory good stays same said) =
       subst (λ (r : Result SessionState CreateFault). Both (create_result name r) (made_seat r)) (sym said)
       (record {
         goes = empty_wants key line name refl None before after random random'
-            (both_weaker Unchanged (KeepsUnder CoversNone CoversNone (λ n. n ≡ name)) before.honest after.honest (stays_so stays) (λ a b only. only_reads CoversNone a b (λ n. n ≡ name) only)) tt (λ n none. absurd none)
+            (both_weaker Unchanged (KeepsUnder CoversNone CoversNone (λ n. n ≡ name)) before.honest after.honest (stays_so stays) (λ a b only. only_reads CoversNone a b (λ n. n ≡ name) only)) (spares_given key line name refl before after aside) tt (λ n none. absurd none)
             (λ takes. takes) refl (stays_so stays) (ap (λ (h : HostState). h.faults) stays) same (told_by (λ given. Unit {0}) [] before after (told_none before after (ap (λ (h : HostState). h.given) stays)) tt);
         booked = tt;
       })
@@ -144,19 +166,23 @@ module _ (key : List ℕ) (k : ℕ) (name : Name) (utf8 : IsUtf8 name) (before a
       subst (λ (r : Result SessionState CreateFault). Both (create_result name r) (made_seat r)) (sym said)
       (empty_idle key line name refl before after random random' replies.HostFault [] [] true false fails.disk
       (record { told = fails.asked.asked.told; taken = none_taken_now same; on_host = fails.asked.asked.faults; on_words = ap (λ (w : WordsState). w.faults) same }) refl refl
-      (λ standing. host_failed (record { host = refl; random = refl }) (not_asked k name refl) refl))
+      (λ standing. host_failed (record { host = refl; random = refl }) (not_asked k name refl) refl) (λ a is calm. absurd (no_host_fault calm)))
   by_case result aside reads keeps (was_there size good looks same said) =
       let given = LengthWas name (Some size) ∷ [] in
+      let turn : (standing : Standing) → SeatTurn standing key false Empty line (seen_by given [] false false) (replies.Refused (whys.Exists name)) [] Empty = λ standing.
+      refused (whys.Exists name)
+      (seat_first (naming_rules name given) (whys.Exists name) (inr ((λ other refuses. refuses.1 good.is_target), inl (refl, (size, Contains-push [] (LengthWas name (Some size))))))) (record { host = refl; random = refl }) refl refl refl refl in
       subst (λ (r : Result SessionState CreateFault). Both (create_result name r) (made_seat r)) (sym said)
       (empty_idle key line name refl before after random random' (replies.Refused (whys.Exists name)) given [] false false looks.disk
-      (record { told = looks.asked.asked.told; taken = none_taken_now same; on_host = looks.asked.asked.faults; on_words = ap (λ (w : WordsState). w.faults) same }) refl refl
-      (λ standing. refused (whys.Exists name)
-      (seat_first (naming_rules name given) (whys.Exists name) (inr ((λ other refuses. refuses.1 good.is_target), inl (refl, (size, Contains-push [] (LengthWas name (Some size))))))) (record { host = refl; random = refl }) refl refl refl refl))
+      (record { told = looks.asked.asked.told; taken = none_taken_now same; on_host = looks.asked.asked.faults; on_words = ap (λ (w : WordsState). w.faults) same }) refl refl turn
+      (λ a is calm.
+      same_over key (reading a.now) false Empty line given [] (replies.Refused (whys.Exists name)) [] Empty
+      (ap (λ (o : Option ℕ). LengthWas name o ∷ []) (on_reading (λ files. AllByRecursion (IsAnswerOf files) given) before.honest a is looks.asked.answered.honest).0) (turn (stands_on key (reading a.now)))))
   by_case result aside reads keeps (no_words good looks fewer said) =
       subst (λ (r : Result SessionState CreateFault). Both (create_result name r) (made_seat r)) (sym said)
       (empty_idle key line name refl before after random random' replies.WordsFault (LengthWas name None ∷ []) fewer.words false true looks.disk
       (record { told = looks.asked.asked.told; taken = fewer.told; on_host = looks.asked.asked.faults; on_words = fewer.once }) refl refl
-      (λ standing. words_failed (record { host = refl; random = refl }) (no_creation k name) refl))
+      (λ standing. words_failed (record { host = refl; random = refl }) (no_creation k name) refl) (λ a is calm. absurd (no_words_fault calm)))
   by_case result aside reads keeps (create_stopped nonce between good looks drawn stopped said) =
       let those = stopped.stopped.answered in
       let these = LengthWas name None ∷ those in
@@ -171,13 +197,14 @@ module _ (key : List ℕ) (k : ℕ) (name : Name) (utf8 : IsUtf8 name) (before a
       host_failed (record { host = refl; random = refl }) (not_created k name (empty_sheet name nonce) (seals_empty nonce these drawn stopped.linked)) refl in
       subst (λ (r : Result SessionState CreateFault). Both (create_result name r) (made_seat r)) (sym said)
       (record {
-        goes = empty_goes key line name refl None before after random random' (subst (λ (r : Result SessionState CreateFault). OnDisk before after (KeepsUnder CoversNone (CoversMade r) (λ n. n ≡ name))) said (keeps good.is_target)) tt (λ n none. absurd none)
+        goes = empty_goes key line name refl None before after random random' (subst (λ (r : Result SessionState CreateFault). OnDisk before after (KeepsUnder CoversNone (CoversMade r) (λ n. n ≡ name))) said (keeps good.is_target)) (spares_given key line name refl before after aside) tt (λ n none. absurd none)
             replies.HostFault these words true false seen refl refl
             (empty_turns key line name refl (seen_by these words true false) replies.HostFault None these (act nonce these drawn false ∷ []) Empty turn (λ sealed. no_seat refl refl));
         booked = record {
           seen = seen_by these words true false;
           was_seen = seen_in these words true false before after random random' seen;
-          under = under nonce these drawn false (seen_by these words true false) replies.HostFault None Empty aside reads stopped.creates good.is_target (λ book seats. no_file refl refl) turn;
+          under = under nonce these drawn false (seen_by these words true false) replies.HostFault None Empty aside reads stopped.creates good.is_target (λ book seats. no_file refl refl) turn
+              (λ a b ran creates calm. absurd (no_host_fault calm));
         };
       })
   by_case result aside reads keeps (created nonce between good looks drawn asked creates is_fresh said) =
@@ -195,10 +222,13 @@ module _ (key : List ℕ) (k : ℕ) (name : Name) (utf8 : IsUtf8 name) (before a
       let turn : (standing : Standing) → SeatTurn standing key false Empty line (seen_by these words false false) replies.Created (act nonce these drawn true ∷ []) (Own (new_seat key name sheet)) = λ standing.
       accepted (seat_none (naming_rules name these) ((λ other refuses. refuses.1 good.is_target), ((λ other refuses. was_absent name (empty_node key name nonce) refuses.1.0 refuses.1.1), tt))) (record { host = refl; random = refl })
       (creates_file k name sheet (seals_empty nonce these drawn is_fresh.linked)) in
+      let over : (files : Files) → files name ≡ None → SeatTurn (stands_on key files) key false Empty line (seen_over files line words) replies.Created (act nonce these drawn true ∷ []) (Own (new_seat key name sheet)) = λ files none.
+      accepted (seat_none (naming_rules name (answers_of files line)) ((λ other refuses. refuses.1 good.is_target), ((λ other refuses. no_length name (files name) none refuses.1.0 refuses.1.1), tt))) (record { host = refl; random = refl })
+      (creates_file k name sheet (seals_empty nonce these drawn is_fresh.linked)) in
       let same : new_seat key name sheet ≡ seat_on sheet made = own_same sheet key key name name [] (now sheet made.tree) [] [] false false None None false false refl refl (sym is_fresh.stands.now_is) refl refl refl refl in
       subst (λ (r : Result SessionState CreateFault). Both (create_result name r) (made_seat r)) (sym said)
       (record {
-        goes = empty_goes key line name refl (Some made) before after random random' (subst (λ (r : Result SessionState CreateFault). OnDisk before after (KeepsUnder CoversNone (CoversMade r) (λ n. n ≡ name))) said (keeps good.is_target))
+        goes = empty_goes key line name refl (Some made) before after random random' (subst (λ (r : Result SessionState CreateFault). OnDisk before after (KeepsUnder CoversNone (CoversMade r) (λ n. n ≡ name))) said (keeps good.is_target)) (spares_given key line name refl before after aside)
             (record { of_script = of_created key name nonce good; key_is = refl; clean = λ whole calm. refl }) (λ n has. has)
             replies.Created these words false false seen refl refl
             (empty_turns key line name refl (seen_by these words false false) replies.Created (Some made) these (act nonce these drawn true ∷ []) (Own (new_seat key name sheet)) turn
@@ -207,7 +237,8 @@ module _ (key : List ℕ) (k : ℕ) (name : Name) (utf8 : IsUtf8 name) (before a
           seen = seen_by these words false false;
           was_seen = seen_in these words false false before after random random' seen;
           under = under nonce these drawn true (seen_by these words false false) replies.Created (Some made) (Own (new_seat key name sheet)) aside reads creates good.is_target
-              (λ book seats. of_book sheet made refl (seat_is_left (Creation (seat_of key name sheet)) seats) (record { backed = is_fresh.stands.backed; rests = λ calm. record { stands = is_fresh.stands; clean = refl } }) (ap Own same) refl) turn;
+              (λ book seats. of_book sheet made refl (seat_is_left (Creation (seat_of key name sheet)) seats) (record { backed = is_fresh.stands.backed; rests = λ calm. record { stands = is_fresh.stands; clean = refl } }) (ap Own same) refl) turn
+              (λ a b ran made calm. record { turn = over (reading a.now) (ap read_of made.absent); files = leaves_file nonce these drawn a b ran made });
         };
       })
 

@@ -266,22 +266,25 @@ module _ (book : Book) (before after : List Seal) (old new : Honest) (agrees : A
         openings.same_agrees book before old.now agrees reads seal.name new.now after spares.others.ends spares.targets (λ entry is ready. opens.ready ready) now_fits seated
 
     -- accepted, of a name of the book
-    module _ (entry : Entry) (was : book seal.name ≡ Some entry) (there : old.now seal.name ≢ None) (is_opened : speaks seal.key entry ≡ true → OpensOn seal old new)
-        (seats : SeatsAfter (Opening seal) true before after) where
-      by_speaks : (b : Bool) → speaks seal.key entry ≡ b → Agrees (set_at seal.name (cond b (Some (Alone seal.key (Some seal.sheet.content) None true)) None) (without_partner dropped seal.name book)) after new.now
-      by_speaks true says =
+    module _ (entry : Entry) (was : book seal.name ≡ Some entry) (there : old.now seal.name ≢ None) (is_opened : speaks seal.key entry ≡ true → OpensOn seal old new) where
+      -- where the book goes on to speak of it, its file stands for the sheet
+      pub opened_stood : speaks seal.key entry ≡ true → Stood seal.key seal.name seal.sheet new.now
+      opened_stood says =
+          let own = openings.speaks_key book before old.now agrees reads seal.name seal.key entry says in
+          let either = openings.each_of book before old.now agrees reads seal.name entry there was in
+          (is_opened says).stood (openings.first_of entry) (openings.second_of entry) (subst (λ (k : List ℕ). EachReopens k seal.name (openings.first_of entry) (openings.second_of entry) old.now) own either)
+          (openings.speaks_ready book before old.now agrees reads seal.name seal.key entry was says)
+
+      by_speaks : SeatsAfter (Opening seal) true before after → (b : Bool) → speaks seal.key entry ≡ b → Agrees (set_at seal.name (cond b (Some (Alone seal.key (Some seal.sheet.content) None true)) None) (without_partner dropped seal.name book)) after new.now
+      by_speaks seats true says =
           one_agrees book before old.now agrees reads seal.name (without_partner dropped seal.name book) (λ n. n ≢ seal.name) (dropped_others book old.now seal.name) (Some (Alone seal.key (Some seal.sheet.content) None true))
           new.now after (λ n target apart. same_at old.now new.now seal.name n spares.others.ends target spares.targets apart) spares.targets (λ seat has. ⊎_elim (λ was. inl was) (λ is. inr (ap (λ (s : Seal). s.name) is)) (seats seat has))
           (λ e is. subst (λ (e : Entry). Own after new.now seal.name e) (some_is _ e is)
-          (let own = openings.speaks_key book before old.now agrees reads seal.name seal.key entry says in
-          let either = openings.each_of book before old.now agrees reads seal.name entry there was in
-          let stood = (is_opened says).stood (openings.first_of entry) (openings.second_of entry) (subst (λ (k : List ℕ). EachReopens k seal.name (openings.first_of entry) (openings.second_of entry) old.now) own either)
-          (openings.speaks_ready book before old.now agrees reads seal.name seal.key entry was says) in
-          own_done after new.now seal (is_opened says).path_is stood (λ seat has same. seated_by (Opening seal) true before after seats seal.name refl seat has same)))
-      by_speaks false says =
+          (own_done after new.now seal (is_opened says).path_is (opened_stood says) (λ seat has same. seated_by (Opening seal) true before after seats seal.name refl seat has same)))
+      by_speaks seats false says =
           one_agrees book before old.now agrees reads seal.name (without_partner dropped seal.name book) (λ n. n ≢ seal.name) (dropped_others book old.now seal.name) None
           new.now after (λ n target apart. same_at old.now new.now seal.name n spares.others.ends target spares.targets apart) spares.targets (λ seat has. ⊎_elim (λ was. inl was) (λ is. inr (ap (λ (s : Seal). s.name) is)) (seats seat has))
           (λ e is. absurd (cc))
 
-      pub opened_agrees : Agrees (booked (Opening seal) true book) after new.now
-      opened_agrees = subst (λ (b : Book). Agrees b after new.now) (sym (ap (λ (o : Option Entry). opened seal o book) was)) (by_speaks (speaks seal.key entry) refl)
+      pub opened_agrees : SeatsAfter (Opening seal) true before after → Agrees (booked (Opening seal) true book) after new.now
+      opened_agrees seats = subst (λ (b : Book). Agrees b after new.now) (sym (ap (λ (o : Option Entry). opened seal o book) was)) (by_speaks seats (speaks seal.key entry) refl)

@@ -1,5 +1,5 @@
 -- A line on one seat of a desk under a book, as one on the desk.
-use Rattle.std.proofs.Common.{◌≡◌, ◌≢◌, inl, inr, ⊎_elim, Bool, List, [], ℕ, ◌<◌, refl, sym, ◌∙◌, subst, Option, Some, None, Result, Ok, Err, length}
+use Rattle.std.proofs.Common.{◌≡◌, ◌≢◌, inl, inr, ⊎_elim, Bool, false, List, [], ℕ, ◌<◌, refl, sym, ◌∙◌, subst, Option, Some, None, Result, Ok, Err, length}
 use Rattle.std.specs.Prelude.{◌↔◌, IfSome}
 use Rattle.std.proofs.lemmas.List.{get_or-set_same, get_or-set_other, length-set}
 use Rattle.std.proofs.lemmas.Option.{IfSome_then}
@@ -14,12 +14,12 @@ use Rattle.pf_script.specs.Book.{Book, Seal}
 use Rattle.pf_script.specs.BookActs.{Act, Among, booked_all}
 use Rattle.pf_script.specs.BookDebts.{seat_of}
 use Rattle.pf_script.specs.BookSeats.{SparesSeats}
-use Rattle.pf_script.specs.BookTurns.{ShowsUnder, no_file, of_book, other_file, Knows, LineUnder, SeatUnder, SeatAgrees, SeatBooked, IsStateUnder, TurnUnder, DeskUnder, DeskAgrees, DeskBooked}
-use Rattle.pf_script.specs.FileTurns.{stands_on}
+use Rattle.pf_script.specs.BookTurns.{ShowsUnder, no_file, of_book, other_file, Knows, LineUnder, SeatUnder, SeatAgrees, SeatBooked, IsStateUnder, KnowsLine, TurnUnder, DeskUnder, DeskAgrees, DeskBooked}
+use Rattle.pf_script.specs.FileTurns.{stands_on, SeatOver}
 use Rattle.pf_script.specs.Desk.{DeskState, session_at, IsDesk}
 use Rattle.pf_script.specs.DeskSteps.{OtherHas, HasItsName}
 use Rattle.pf_script.specs.Script.{Seat, Empty, ScriptState, seat_at, HasThisName, IsTaken, state_with, seat_of_line, name_of_line}
-use Rattle.pf_script.specs.Turns.{Seen, SeatTurn, silent, on_seat, SaysTaken}
+use Rattle.pf_script.specs.Turns.{Seen, Failed, SeatTurn, silent, on_seat, SaysTaken}
 use Rattle.pf_script.specs.Words.{SEATS}
 use Rattle.pf_script.specs.declared.line.ScriptLine.{ScriptLine}
 use Rattle.pf_script.specs.declared.reply.Reply.{Reply}
@@ -89,6 +89,13 @@ module _ (old : DeskState) (desk : IsDesk old) (k : ℕ) (below : k < SEATS) (ta
       turn_of knows =
           subst (λ (x : List ℕ). Knows book x (seat_at state k) line reply → SeatTurn (stands_on x (reading a.now)) x taken (seat_at state k) line seen reply under.acts under.after) (sym is_state.key_is) under.turn knows
 
+      over_of : Knows book state.key (seat_at state k) line reply → Failed seen false false → SeatOver state.key taken (seat_at state k) line seen.words reply under.acts under.after (reading a.now) (reading b.now)
+      over_of knows calm =
+          subst (λ (x : List ℕ). Knows book x (seat_at state k) line reply → SeatOver x taken (seat_at state k) line seen.words reply under.acts under.after (reading a.now) (reading b.now)) (sym is_state.key_is) (λ knows_it. under.over knows_it calm) knows
+
+      knows_seat : KnowsLine book state line reply → Knows book state.key (seat_at state k) line reply
+      knows_seat knows = subst (λ (o : Option ℕ). IfSome o (λ i. Knows book state.key (seat_at state i) line reply)) names knows
+
       turn_under : TurnUnder line seen reply new book seats state a b
       turn_under = record {
         acts = under.acts;
@@ -100,7 +107,8 @@ module _ (old : DeskState) (desk : IsDesk old) (k : ℕ) (below : k < SEATS) (ta
           eight = length-set state.seats k under.after ∙ is_state.eight;
           shows = λ j. ⊎_elim (λ same. on_it j same) (λ apart. off_it j apart) (same_or_not j k);
         };
-        turn = λ knows. on_seat k taken under.after names state_says (turn_of (subst (λ (o : Option ℕ). IfSome o (λ i. Knows book state.key (seat_at state i) line reply)) names knows)) refl;
+        turn = λ knows. on_seat k taken under.after names state_says (turn_of (knows_seat knows)) refl;
+        over = λ knows calm. let over = over_of (knows_seat knows) calm in record { turn = on_seat k taken under.after names state_says over.turn refl; files = over.files };
       }
 
   desk_agrees : (reply : Reply) (before after : HostState) (random random' : WordsState) → SeatAgrees old.key taken line reply (session_at old k) left before after random random' → DeskAgrees line reply old new before after random random'
@@ -121,5 +129,5 @@ blank_booked desk host words = record {
   seen = idle_seen;
   was_seen = record { answers = told_none host host refl; words = none_taken words; of_host = refl; of_words = refl };
   under = both_same (DeskUnder lines.Blank idle_seen replies.None desk desk) host.honest host.honest refl
-      (λ a book seats state agrees reads is_state. record { acts = []; left = seats; after = state; did = (unchanged_now a, λ s has. has); is_state = is_state; turn = λ _. silent refl refl refl refl refl });
+      (λ a book seats state agrees reads is_state. record { acts = []; left = seats; after = state; did = (unchanged_now a, λ s has. has); is_state = is_state; turn = λ _. silent refl refl refl refl refl; over = λ _ _. record { turn = silent refl refl refl refl refl; files = λ name. refl } });
 }

@@ -16,7 +16,7 @@ use Rattle.pf_script.specs.Book.{Book, Seal}
 use Rattle.pf_script.specs.BookActs.{Act}
 use Rattle.pf_script.specs.BookSeats.{Covers, CoversEach, CoversBoth, KeepsUnder}
 use Rattle.pf_script.specs.Desk.{DeskState, session_at, IsSeated, IsSeatOf, IsDesk, Shows, IsStateOf}
-use Rattle.pf_script.specs.DeskSteps.{Unfolds, in_the_end, then_more, SeatAsks, Asks, HasItsName, OtherHas, Concerns, CoversSome, CoversDesk, AnyName, KeepsSession, NothingDone, IsBrokenSession, BreaksSeat, SeatIdle, SeatWants, Wants, WhereWanting, WhereReplied, SeatGoes, DeskGoes}
+use Rattle.pf_script.specs.DeskSteps.{Unfolds, in_the_end, then_more, SeatAsks, Asks, HasItsName, OtherHas, Concerns, ConcernsDesk, CoversSome, CoversDesk, AnyName, KeepsSession, NothingDone, IsBrokenSession, BreaksSeat, SeatIdle, SeatWants, Wants, WhereWanting, WhereReplied, SeatGoes, DeskGoes}
 use Rattle.pf_script.specs.Script.{Seat, Empty, ScriptState, seat_at, HasThisName, IsTaken, state_with, seat_of_line, name_of_line}
 use Rattle.pf_script.specs.Turns.{SeatTurn, on_seat, on_carried, SaysTaken}
 use Rattle.pf_script.specs.Words.{SEATS}
@@ -24,6 +24,7 @@ use Rattle.pf_script.specs.declared.line.ScriptLine.{ScriptLine}
 use Rattle.pf_script.specs.declared.reply.Reply.{Reply}
 use Rattle.pf_script.proofs.Refusing.{keeps_same}
 use Rattle.pf_script.proofs.Showing.{shows_none, shows_some, shows_more}
+use Rattle.pf_script.proofs.Sparing.{spares_more}
 use Rattle.pf_script.proofs.StepKeeping.{keeps_more, others_too, covers_less}
 
 -- a seat is the k-th, or another one
@@ -200,13 +201,23 @@ module _ (old : DeskState) (desk : IsDesk old) (k : ℕ) (below : k < SEATS) (ta
     all_wants (Ok reply) wants = tt
     all_wants (Err fault) wants = wants_on wants
 
+    -- the names that the line is concerned with
+    concern_desk : (name : Name) → Concerns taken line (session_at old k) name → ConcernsDesk line old name
+    concern_desk name (inl has) = inr (k, has)
+    concern_desk name (inr gives) = inl gives.0
+
+    named_on : (j : ℕ) (name : Name) → HasItsName (session_at new j) name → ConcernsDesk line old name
+    named_on j name has = ⊎_elim
+        (λ e. concern_desk name (goes.named name (subst (λ (o : Option SessionState). HasItsName o name) (ap (λ (i : ℕ). session_at new i) e ∙ here) has)))
+        (λ apart. inr (j, subst (λ (o : Option SessionState). HasItsName o name) (there j apart) has)) (same_or_not j k)
+
     pub desk_goes : DeskGoes line result old new before after random random'
     desk_goes = record {
-      named = ?;
-      spares = ?;
       key_is = refl;
       asks = all_asks result goes.asks;
       books = both_weaker (KeepsUnder (CoversSome (session_at old k)) (CoversSome left) (Concerns taken line (session_at old k))) (KeepsUnder (CoversDesk old) (CoversDesk new) AnyName) before.honest after.honest goes.books books_on;
+      named = named_on;
+      spares = spares_more (Concerns taken line (session_at old k)) (ConcernsDesk line old) concern_desk before after goes.spares;
       counts = goes.counts;
       wants = all_wants result goes.wants;
     }

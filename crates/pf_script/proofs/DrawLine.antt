@@ -10,6 +10,7 @@ use Rattle.pf_session.specs.Backing.{IsBacked}
 use Rattle.pf_session.specs.Moving.{IsKeptOn}
 use Rattle.pf_session.specs.Drawing.{DrawGoes, drawn_before, drawn_now, not_drawn}
 use Rattle.pf_session.specs.State.{SessionState}
+use Rattle.pf_session.proofs.Created.{aside_none}
 use Rattle.pf_script.specs.BookSeats.{Covers, KeepsUnder}
 use Rattle.pf_script.specs.Desk.{IsSeated, Shows, whole_file, seat_on}
 use Rattle.pf_script.specs.DeskSteps.{SeatGoes}
@@ -83,7 +84,7 @@ draw_goes key k old new result host random random' seated whole goes = by_case g
     by_case : DrawGoes result old new random random' → SeatGoes key false (lines.Draw k) (Ok (draw_result result)) (Some old) (Some new) host host random random'
     by_case (drawn_before nonce was same words said) =
         subst (λ (r : Result (List ℕ) WordsFault). SeatGoes key false (lines.Draw k) (Ok (draw_result r)) (Some old) (Some new) host host random random') (sym said)
-        (goes_on key false (lines.Draw k) (replies.Drawn nonce) old host host random random' [] [] false false
+        (goes_on key false (lines.Draw k) (replies.Drawn nonce) old host host random random' (aside_none old.name host) [] [] false false
         (record {
           told = told_none host host refl;
           taken = subst (λ (w : WordsState). Both random.left w.left (AreTaken [])) (sym words) (none_taken random);
@@ -95,13 +96,13 @@ draw_goes key k old new result host random random' seated whole goes = by_case g
         let joined : new ≡ record old { drawn = Some (drawn.first ++ drawn.second) } = subst (λ (n : List ℕ). new ≡ record old { drawn = Some n }) drawn.is same in
         subst (λ (r : Result (List ℕ) WordsFault). SeatGoes key false (lines.Draw k) (Ok (draw_result r)) (Some old) (Some new) host host random random') (sym said)
         (subst (λ (n : List ℕ). SeatGoes key false (lines.Draw k) (Ok (replies.Drawn n)) (Some old) (Some new) host host random random') (sym drawn.is)
-        (goes_on key false (lines.Draw k) (replies.Drawn (drawn.first ++ drawn.second)) old host host random random' [] (drawn.first ∷ drawn.second ∷ []) false false
+        (goes_on key false (lines.Draw k) (replies.Drawn (drawn.first ++ drawn.second)) old host host random random' (aside_none old.name host) [] (drawn.first ∷ drawn.second ∷ []) false false
         (record { told = told_none host host refl; taken = drawn.took.told; on_host = refl; on_words = drawn.took.calm }) refl refl new
         (whole_turns key false (lines.Draw k) (seen_by [] (drawn.first ∷ drawn.second ∷ []) false false) (replies.Drawn (drawn.first ++ drawn.second)) old (Some new) [] whole
         (new_turns key k old whole new drawn.first drawn.second none joined)) books (seated_now same) (ap (λ (s : SessionState). s.name) same)))
     by_case (not_drawn fault none fewer same said) =
         subst (λ (r : Result (List ℕ) WordsFault). SeatGoes key false (lines.Draw k) (Ok (draw_result r)) (Some old) (Some new) host host random random') (sym said)
-        (goes_on key false (lines.Draw k) replies.WordsFault old host host random random' [] fewer.words false true
+        (goes_on key false (lines.Draw k) replies.WordsFault old host host random random' (aside_none old.name host) [] fewer.words false true
         (record { told = told_none host host refl; taken = fewer.told; on_host = refl; on_words = fewer.once }) refl refl new
         (whole_turns key false (lines.Draw k) (seen_by [] fewer.words false true) replies.WordsFault old (Some new) [] whole (lost_turns key k old whole new fewer.words none same)) books
         (subst (λ (s : SessionState). IsSeated key s) (sym same) seated) (ap (λ (s : SessionState). s.name) same))

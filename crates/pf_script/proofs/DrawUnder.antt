@@ -1,6 +1,7 @@
 -- The line `draw` under a book, from the contract of a drawing.
-use Rattle.std.proofs.Common.{◌≡◌, inl, true, false, List, [], ◌∷◌, ◌++◌, ℕ, refl, sym, ap, subst, Option, Some, Result}
+use Rattle.std.proofs.Common.{◌≡◌, inl, Bool, true, false, List, [], ◌∷◌, ◌++◌, ℕ, refl, sym, ap, subst, Option, Some, Result}
 use Rattle.node_tree.specs.Sheet.{Sheet}
+use Rattle.pf_io.specs.Disk.{reading}
 use Rattle.pf_io.specs.Host.{HostState, Both, OnDisk}
 use Rattle.pf_io.specs.Words.{WordsState}
 use Rattle.pf_io.specs.declared.faults.WordsFault.{WordsFault}
@@ -10,10 +11,11 @@ use Rattle.pf_session.specs.Drawing.{DrawGoes, drawn_before, drawn_now, not_draw
 use Rattle.pf_session.specs.State.{SessionState}
 use Rattle.pf_script.specs.BookSeats.{Covers}
 use Rattle.pf_script.specs.BookTurns.{ShowsUnder, of_book, SeatUnder, SeatAgrees}
+use Rattle.pf_script.specs.FileTurns.{stands_on}
 use Rattle.pf_script.specs.Desk.{IsSeated, seat_on}
 use Rattle.pf_script.specs.DeskSteps.{Concerns}
 use Rattle.pf_script.specs.Script.{Own}
-use Rattle.pf_script.specs.Turns.{Seen, SeatTurn, Standing, accepted, words_failed, drawn_again, drawn_now as draws_now, no_nonce}
+use Rattle.pf_script.specs.Turns.{SeatTurn, Standing, accepted, words_failed, drawn_again, drawn_now as draws_now, no_nonce}
 use Rattle.pf_script.specs.declared.line.ScriptLine.TheVariants as lines
 use Rattle.pf_script.specs.declared.reply.Reply.{Reply}
 use Rattle.pf_script.specs.declared.reply.Reply.TheVariants as replies
@@ -27,14 +29,15 @@ use Rattle.pf_script.proofs.Under.{own_under, none_concerned}
 
 module _ (key : List ℕ) (k : ℕ) (old : SessionState) (seated : IsSeated key old) (whole : old.broken ≡ false) (new : SessionState) (host : HostState) (random random' : WordsState) (result : Result (List ℕ) WordsFault) (goes : DrawGoes result old new random random') where
   -- on each sheet the session shows the seat that the turn leaves
-  drawn_under : (seen : Seen) (reply : Reply) (drawn : Option (List ℕ)) → new ≡ record old { drawn = drawn }
-      → ((standing : Standing) (base : Sheet) → SeatTurn standing key false (Own (seat_on base old)) (lines.Draw k) seen reply [] (Own (record (seat_on base old) { drawn = drawn }))) → OnDisk host host (SeatUnder key false (lines.Draw k) seen reply (Some old) (Some new))
-  drawn_under seen reply drawn same turns =
+  drawn_under : (words : List (List ℕ)) (of_words : Bool) (reply : Reply) (drawn : Option (List ℕ)) → new ≡ record old { drawn = drawn }
+      → ((standing : Standing) (base : Sheet) → SeatTurn standing key false (Own (seat_on base old)) (lines.Draw k) (seen_by [] words false of_words) reply [] (Own (record (seat_on base old) { drawn = drawn })))
+      → OnDisk host host (SeatUnder key false (lines.Draw k) (seen_by [] words false of_words) reply (Some old) (Some new))
+  drawn_under words of_words reply drawn same turns =
+      let seen = seen_by [] words false of_words in
       both_same (SeatUnder key false (lines.Draw k) seen reply (Some old) (Some new)) host.honest host.honest refl
       (λ a. own_under key false (lines.Draw k) seen reply old whole (Some new) a a
       (keeps_more (Covers old) (Covers new) (λ name. name ≡ old.name) (Concerns false (lines.Draw k) (Some old)) a a (λ name is. inl is) (draw_keeps old seated.of_script new result random random' a goes))
       (λ book seats agrees base on. record {
-        over = ?;
         acts = [];
         left = seats;
         after = Own (record (seat_on base old) { drawn = drawn });
@@ -42,7 +45,12 @@ module _ (key : List ℕ) (k : ℕ) (old : SessionState) (seated : IsSeated key 
         shows = subst (λ (s : SessionState). ShowsUnder book seats (Own (record (seat_on base old) { drawn = drawn })) (Some s)) (sym same) (of_book base (record old { drawn = drawn }) whole on.seated (with_drawn key k old whole new base drawn on.kept) refl refl);
         spares = λ s has apart. has;
         concerned = none_concerned false (lines.Draw k) (Some old);
-        turn = λ _. turns _ base;
+        turn = λ _. turns (stands_on key (reading a.now)) base;
+        over = λ _ calm. record {
+          turn = subst (λ (w : Bool). SeatTurn (stands_on key (reading a.now)) key false (Own (seat_on base old)) (lines.Draw k) (seen_by [] words false w) reply [] (Own (record (seat_on base old) { drawn = drawn }))) calm.random
+              (turns (stands_on key (reading a.now)) base);
+          files = λ name. refl;
+        };
       }))
 
   by_case : DrawGoes result old new random random' → SeatAgrees key false (lines.Draw k) (draw_result result) (Some old) (Some new) host host random random'
@@ -51,7 +59,7 @@ module _ (key : List ℕ) (k : ℕ) (old : SessionState) (seated : IsSeated key 
       (record {
         seen = seen_by [] [] false false;
         was_seen = record { answers = told_none host host refl; words = subst (λ (w : WordsState). Both random.left w.left (AreTaken [])) (sym words) (none_taken random); of_host = refl; of_words = ap (λ (w : WordsState). w.faults) words };
-        under = drawn_under (seen_by [] [] false false) (replies.Drawn nonce) old.drawn same
+        under = drawn_under [] false (replies.Drawn nonce) old.drawn same
             (λ standing base. accepted (none_then [] (Own (seat_on base old)) (seat_on base old) refl whole tt) (record { host = refl; random = refl }) (drawn_again k (seat_on base old) nonce was refl));
       })
   by_case (drawn_now nonce none drawn same said) =
@@ -60,7 +68,7 @@ module _ (key : List ℕ) (k : ℕ) (old : SessionState) (seated : IsSeated key 
       (record {
         seen = seen_by [] (drawn.first ∷ drawn.second ∷ []) false false;
         was_seen = record { answers = told_none host host refl; words = drawn.took.told; of_host = refl; of_words = drawn.took.calm };
-        under = drawn_under (seen_by [] (drawn.first ∷ drawn.second ∷ []) false false) (replies.Drawn (drawn.first ++ drawn.second)) (Some (drawn.first ++ drawn.second)) (subst (λ (n : List ℕ). new ≡ record old { drawn = Some n }) drawn.is same)
+        under = drawn_under (drawn.first ∷ drawn.second ∷ []) false (replies.Drawn (drawn.first ++ drawn.second)) (Some (drawn.first ++ drawn.second)) (subst (λ (n : List ℕ). new ≡ record old { drawn = Some n }) drawn.is same)
             (λ standing base. accepted (none_then [] (Own (seat_on base old)) (seat_on base old) refl whole tt) (record { host = refl; random = refl }) (draws_now k (seat_on base old) drawn.first drawn.second none refl));
       }))
   by_case (not_drawn fault none fewer same said) =
@@ -68,7 +76,7 @@ module _ (key : List ℕ) (k : ℕ) (old : SessionState) (seated : IsSeated key 
       (record {
         seen = seen_by [] fewer.words false true;
         was_seen = record { answers = told_none host host refl; words = fewer.told; of_host = refl; of_words = fewer.once };
-        under = drawn_under (seen_by [] fewer.words false true) replies.WordsFault old.drawn same (λ standing base. words_failed (record { host = refl; random = refl }) (no_nonce k (seat_on base old) none) refl);
+        under = drawn_under fewer.words true replies.WordsFault old.drawn same (λ standing base. words_failed (record { host = refl; random = refl }) (no_nonce k (seat_on base old) none) refl);
       })
 
 pub draw_under : (key : List ℕ) (k : ℕ) (old new : SessionState) (result : Result (List ℕ) WordsFault) (host : HostState) (random random' : WordsState) → IsSeated key old → old.broken ≡ false

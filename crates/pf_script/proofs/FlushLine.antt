@@ -53,7 +53,7 @@ abbrev pub flush_act : SessionState → Sheet → Bool → Act
 flush_act old sheet is_done = record { deed = Flush (seat_of old.key old.name sheet); done = is_done }
 
 module _ (key : List ℕ) (k : ℕ) (old : SessionState) (seated : IsSeated key old) (whole : old.broken ≡ false) (new : SessionState) (before after : HostState) (random random' : WordsState)
-    (books : OnDisk before after (KeepsUnder (Covers old) (Covers new) (λ name. name ≡ old.name))) (goes : IsOfScript new) where
+    (aside : Aside old.name before after) (books : OnDisk before after (KeepsUnder (Covers old) (Covers new) (λ name. name ≡ old.name))) (goes : IsOfScript new) where
   -- no word came
   lacked_turns : (words : List (List ℕ)) → new ≡ old → SheetTurns key false (lines.Flush k) (seen_by [] words false true) replies.WordsFault old (Some new) []
   lacked_turns words same sealed base among linked kept =
@@ -69,7 +69,7 @@ module _ (key : List ℕ) (k : ℕ) (old : SessionState) (seated : IsSeated key 
   failed_turn sealed base next these words ByHost seals blames =
       host_failed (record { host = refl; random = refl }) (not_sealed (seat_on base old) (lines.Flush k) next ByHost (Own (broken_seat (seat_on base old))) seals blames (of_flush k)) refl
   failed_turn sealed base next these words (ByDamage damage) seals blames =
-      was_damaged damage ? (record { host = refl; random = refl }) (not_sealed (seat_on base old) (lines.Flush k) next (ByDamage damage) (Own (broken_seat (seat_on base old))) seals blames (of_flush k)) refl
+      was_damaged damage (none_then [] (Own (seat_on base old)) (seat_on base old) refl whole tt) (record { host = refl; random = refl }) (not_sealed (seat_on base old) (lines.Flush k) next (ByDamage damage) (Own (broken_seat (seat_on base old))) seals blames (of_flush k)) refl
 
   failed_turns : (these : List Answer) (words : List (List ℕ)) (blame : Blame) → SealsOwn old words (λ next. Unit {0}) → BlamesFlush old.name these blame → new.key ≡ old.key → new.name ≡ old.name → new.broken ≡ true
       → SheetTurns key false (lines.Flush k) (seen_by these words (host_blamed blame) false) (flush_reply (fault_of blame)) old (Some new) these
@@ -96,22 +96,22 @@ module _ (key : List ℕ) (k : ℕ) (old : SessionState) (seated : IsSeated key 
   by_case : (result : Result (Unit {0}) FlushFault) → FlushCase result old new before after random random' → SeatGoes key false (lines.Flush k) (Ok (flush_result result)) (Some old) (Some new) before after random random'
   by_case result (lacked words seen same stays said) =
       subst (λ (r : Result (Unit {0}) FlushFault). SeatGoes key false (lines.Flush k) (Ok (flush_result r)) (Some old) (Some new) before after random random') (sym said)
-      (goes_on key false (lines.Flush k) replies.WordsFault old before after random random' [] words false true seen refl refl new
+      (goes_on key false (lines.Flush k) replies.WordsFault old before after random random' aside [] words false true seen refl refl new
       (whole_turns key false (lines.Flush k) (seen_by [] words false true) replies.WordsFault old (Some new) [] whole (lacked_turns words same)) books
       (subst (λ (s : SessionState). IsSeated key s) (sym same) seated) (ap (λ (s : SessionState). s.name) same))
   by_case result (failed blame these words seen blames seals key_is name_is broken said) =
       subst (λ (r : Result (Unit {0}) FlushFault). SeatGoes key false (lines.Flush k) (Ok (flush_result r)) (Some old) (Some new) before after random random') (sym said)
-      (goes_on key false (lines.Flush k) (flush_reply (fault_of blame)) old before after random random' these words (host_blamed blame) false seen (host_reply blame) (words_reply blame) new
+      (goes_on key false (lines.Flush k) (flush_reply (fault_of blame)) old before after random random' aside these words (host_blamed blame) false seen (host_reply blame) (words_reply blame) new
       (whole_turns key false (lines.Flush k) (seen_by these words (host_blamed blame) false) (flush_reply (fault_of blame)) old (Some new) these whole (failed_turns these words blame seals blames key_is name_is broken)) books
       (record { of_script = goes; key_is = key_is ∙ seated.key_is; clean = λ also. absurd (false_true new.broken broken also) }) name_is)
   by_case result (done these words seen seals same dirty said) =
       subst (λ (r : Result (Unit {0}) FlushFault). SeatGoes key false (lines.Flush k) (Ok (flush_result r)) (Some old) (Some new) before after random random') (sym said)
-      (goes_on key false (lines.Flush k) replies.Flushed old before after random random' these words false false seen refl refl new
+      (goes_on key false (lines.Flush k) replies.Flushed old before after random random' aside these words false false seen refl refl new
       (whole_turns key false (lines.Flush k) (seen_by these words false false) replies.Flushed old (Some new) these whole (done_turns these words seals same dirty)) books
       (record { of_script = goes; key_is = ap (λ (s : SessionState). s.key) same ∙ seated.key_is; clean = λ also unchanged. dirty }) (ap (λ (s : SessionState). s.name) same))
 
 pub flush_goes : (key : List ℕ) (k : ℕ) (old new : SessionState) (result : Result (Unit {0}) FlushFault) (before after : HostState) (random random' : WordsState) → IsSeated key old → old.broken ≡ false
     → FlushGoes result old new before after random random' → Aside old.name before after → ReadsAsImage after → SeatGoes key false (lines.Flush k) (Ok (flush_result result)) (Some old) (Some new) before after random random'
 flush_goes key k old new result before after random random' seated whole goes aside reads =
-    by_case key k old seated whole new before after random random' (flush_keeps old seated.of_script result new before after random random' whole goes aside reads)
+    by_case key k old seated whole new before after random random' aside (flush_keeps old seated.of_script result new before after random random' whole goes aside reads)
     (of_flushed old new seated.of_script result before after random random' goes) result (flush_case old seated.of_script new before after random random' result goes)

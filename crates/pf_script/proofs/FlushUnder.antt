@@ -1,19 +1,21 @@
 -- The line `flush` under a book, from the contract of a flush.
-use Rattle.std.proofs.Common.{◌≡◌, inl, Bool, true, false, List, [], ◌∷◌, ℕ, refl, sym, ◌∙◌, ap, subst, Some, Result}
-use Rattle.node_tree.specs.Sheet.{Sheet}
+use Rattle.std.proofs.Common.{◌≡◌, inl, Bool, true, false, List, [], ◌∷◌, ℕ, refl, sym, ◌∙◌, ap, subst, Option, Some, Result, Err}
+use Rattle.std.specs.Prelude.{IfSome, option_map}
+use Rattle.node_tree.specs.Sheet.{Sheet, Stands}
 use Rattle.pf_io.specs.Disk.{reading}
-use Rattle.pf_io.specs.Host.{Answer, HostState, OnDisk, ReadsAsImage}
+use Rattle.pf_io.specs.Host.{Answer, HostState, OnDisk, ReadsAsImage, contents}
 use Rattle.pf_io.specs.Moments.{Honest, Ran, Where}
 use Rattle.pf_io.specs.Words.{WordsState}
 use Rattle.pf_session.specs.Aside.{Aside, LeavesApart, KeepsApart}
-use Rattle.pf_session.specs.Flushing.{FlushGoes}
+use Rattle.pf_session.specs.Backing.{IsBacked}
+use Rattle.pf_session.specs.Flushing.{FlushGoes, UndamagedFlush, IsUndamaged}
 use Rattle.pf_session.specs.Reopening.{AsEither, Stood}
 use Rattle.pf_session.specs.Sealing.{StoodIf}
-use Rattle.pf_session.specs.State.{SessionState}
+use Rattle.pf_session.specs.State.{SessionState, file_of}
 use Rattle.pf_session.specs.declared.fault.FlushFault.{FlushFault}
 use Rattle.pf_script.specs.BookActs.{Flush}
-use Rattle.pf_script.specs.BookDebts.{seat_of}
-use Rattle.pf_script.specs.BookSeats.{Covers, KeepsUnder}
+use Rattle.pf_script.specs.BookDebts.{DidAll, seat_of}
+use Rattle.pf_script.specs.BookSeats.{IsOfScript, Covers, KeepsUnder}
 use Rattle.pf_script.specs.BookTurns.{ShowsUnder, of_book, other_file, SeatUnder, SeatAgrees, SeenIn}
 use Rattle.pf_script.specs.FileTurns.{stands_on}
 use Rattle.pf_script.specs.Desk.{IsSeated, seat_on}
@@ -25,11 +27,12 @@ use Rattle.pf_script.specs.declared.line.ScriptLine.TheVariants as lines
 use Rattle.pf_script.specs.declared.reply.Reply.{Reply}
 use Rattle.pf_script.specs.declared.reply.Reply.TheVariants as replies
 use Rattle.pf_script.proofs.ActKeeping.{one_spares}
-use Rattle.pf_script.proofs.CallKeeping.{at_both, read_image, same_disk, flush_keeps}
+use Rattle.pf_script.proofs.CallKeeping.{at_both, read_image, same_disk, stands_there, flush_keeps}
+use Rattle.pf_script.proofs.FilesLeft.{files_flushed}
 use Rattle.pf_script.proofs.FlushLine.{flush_result, flush_act, resealed_own}
 use Rattle.pf_script.proofs.Flushed.{SeenOf, FlushEnds, not_begun, not_ended, was_ended, flush_ends, host_blamed, fault_of}
 use Rattle.pf_script.proofs.Refusing.{none_then}
-use Rattle.pf_script.proofs.SeatCalls.{seen_by}
+use Rattle.pf_script.proofs.SeatCalls.{seen_by, false_true}
 use Rattle.pf_script.proofs.Seats.{seats_after}
 use Rattle.pf_script.proofs.Under.{KnownUnder, on_disk, none_concerned, one_concerned, flush_did, left_seat}
 
@@ -37,11 +40,22 @@ use Rattle.pf_script.proofs.Under.{KnownUnder, on_disk, none_concerned, one_conc
 pub seen_in : (these : List Answer) (words : List (List ℕ)) (of_host of_words : Bool) (before after : HostState) (random random' : WordsState) → SeenOf these words of_host of_words before after random random' → SeenIn (seen_by these words of_host of_words) before after random random'
 seen_in these words of_host of_words before after random random' seen = record { answers = seen.told; words = seen.taken; of_host = seen.on_host; of_words = seen.on_words }
 
+-- a flush under a book meets no damage: one that failed is counted as a fault of the host
+pub flush_counts : (old : SessionState) (mine : IsOfScript old) (blame : Blame) (before : HostState) (a : Honest) → before.honest ≡ Some a → UndamagedFlush (Err (fault_of blame)) old before → (base : Sheet) → IsBacked base old
+    → Stood old.key old.name base a.now → host_blamed blame ≡ true
+flush_counts old mine ByHost before a is undamaged base backed stood = refl
+flush_counts old mine (ByDamage damage) before a is undamaged base backed stood =
+    let fault = fault_of (ByDamage damage) in
+    absurd
+    (subst (λ (o : Option Honest). IfSome (option_map (λ host. reading host.now) o) (λ files. (sheet : Sheet) → IsBacked sheet old → Stands (contents (files (file_of old))) old.key sheet → IsUndamaged (Err fault))) is
+    undamaged base backed (stands_there old mine a base stood))
+
 -- a turn of a flush that failed after its words
-failed_turn : (standing : Standing) (key : List ℕ) (k : ℕ) (own : OwnSeat) (next : Sheet) (these : List Answer) (words : List (List ℕ)) (blame : Blame) → SealsOwn own words next → BlamesFlush own.name these blame
+failed_turn : (standing : Standing) (key : List ℕ) (k : ℕ) (own : OwnSeat) (next : Sheet) (these : List Answer) (words : List (List ℕ)) (blame : Blame) → own.broken ≡ false → SealsOwn own words next → BlamesFlush own.name these blame
     → SeatTurn standing key false (Own own) (lines.Flush k) (seen_by these words (host_blamed blame) false) (flush_reply (fault_of blame)) (record { deed = Flush (seat_of own.key own.name next); done = false } ∷ []) (Own (broken_seat own))
-failed_turn standing key k own next these words ByHost seals blames = host_failed (record { host = refl; random = refl }) (not_sealed own (lines.Flush k) next ByHost (Own (broken_seat own)) seals blames (of_flush k)) refl
-failed_turn standing key k own next these words (ByDamage damage) seals blames = was_damaged damage ? (record { host = refl; random = refl }) (not_sealed own (lines.Flush k) next (ByDamage damage) (Own (broken_seat own)) seals blames (of_flush k)) refl
+failed_turn standing key k own next these words ByHost whole seals blames = host_failed (record { host = refl; random = refl }) (not_sealed own (lines.Flush k) next ByHost (Own (broken_seat own)) seals blames (of_flush k)) refl
+failed_turn standing key k own next these words (ByDamage damage) whole seals blames =
+    was_damaged damage (none_then [] (Own own) own refl whole tt) (record { host = refl; random = refl }) (not_sealed own (lines.Flush k) next (ByDamage damage) (Own (broken_seat own)) seals blames (of_flush k)) refl
 
 module _ (key : List ℕ) (k : ℕ) (old : SessionState) (seated : IsSeated key old) (whole : old.broken ≡ false) (new : SessionState) (before after : HostState) (random random' : WordsState)
     (keeps : OnDisk before after (KeepsUnder (Covers old) (Covers new) (λ name. name ≡ old.name))) (aside : Aside old.name before after) (reads : ReadsAsImage after) where
@@ -49,8 +63,8 @@ module _ (key : List ℕ) (k : ℕ) (old : SessionState) (seated : IsSeated key 
       → OnDisk before after (SeatUnder key false (lines.Flush k) seen reply (Some old) (Some new))
   line_under seen reply known = on_disk key false (lines.Flush k) seen reply old whole (Some new) before after keeps aside known
 
-  by_end : (result : Result (Unit {0}) FlushFault) → FlushEnds result old new before after random random' → SeatAgrees key false (lines.Flush k) (flush_result result) (Some old) (Some new) before after random random'
-  by_end result (not_begun words seen same stays said) =
+  by_end : (result : Result (Unit {0}) FlushFault) → UndamagedFlush result old before → FlushEnds result old new before after random random' → SeatAgrees key false (lines.Flush k) (flush_result result) (Some old) (Some new) before after random random'
+  by_end result undamaged (not_begun words seen same stays said) =
       subst (λ (r : Result (Unit {0}) FlushFault). SeatAgrees key false (lines.Flush k) (flush_result r) (Some old) (Some new) before after random random') (sym said)
       (record {
         seen = seen_by [] words false true;
@@ -65,9 +79,10 @@ module _ (key : List ℕ) (k : ℕ) (old : SessionState) (seated : IsSeated key 
               spares = λ s has apart. has;
               concerned = none_concerned false (lines.Flush k) (Some old);
               turn = λ _. words_failed (record { host = refl; random = refl }) (no_flush k (seat_on base old)) refl;
+              over = λ _ calm. absurd (false_true true refl calm.random);
             });
       })
-  by_end result (not_ended blame these words seen blames seals key_is name_is broken said) =
+  by_end result undamaged (not_ended blame these words seen blames seals key_is name_is broken said) =
       subst (λ (r : Result (Unit {0}) FlushFault). SeatAgrees key false (lines.Flush k) (flush_result r) (Some old) (Some new) before after random random') (sym said)
       (record {
         seen = seen_by these words (host_blamed blame) false;
@@ -83,10 +98,15 @@ module _ (key : List ℕ) (k : ℕ) (old : SessionState) (seated : IsSeated key 
               shows = other_file (broken_seat (seat_on base old)) new (inl broken) (sym key_is) (sym name_is) (sym broken) refl refl;
               spares = one_spares seats (Flush (seat_of old.key old.name next.0)) false;
               concerned = one_concerned false (lines.Flush k) old false next.0;
-              turn = λ _. failed_turn (stands_on key (reading a.now)) key k (seat_on base old) next.0 these words blame next.1 blames;
+              turn = λ _. failed_turn (stands_on key (reading a.now)) key k (seat_on base old) next.0 these words blame whole next.1 blames;
+              over = λ _ calm.
+                  absurd
+                  (false_true (host_blamed blame)
+                  (flush_counts old seated.of_script blame before a is (subst (λ (r : Result (Unit {0}) FlushFault). UndamagedFlush r old before) said undamaged) base on.kept.backed on.stood)
+                  calm.host);
             });
       })
-  by_end result (was_ended these words seen seals same dirty said) =
+  by_end result undamaged (was_ended these words seen seals same dirty said) =
       subst (λ (r : Result (Unit {0}) FlushFault). SeatAgrees key false (lines.Flush k) (flush_result r) (Some old) (Some new) before after random random') (sym said)
       (record {
         seen = seen_by these words false false;
@@ -94,23 +114,31 @@ module _ (key : List ℕ) (k : ℕ) (old : SessionState) (seated : IsSeated key 
         under = line_under (seen_by these words false false) replies.Flushed
             (λ a b is is2 ran book seats agrees base on.
             let next = seals base on.stood.as_sheet.stands.linked on.kept.backed in
-            let own = seat_on base old in record {
+            let own = seat_on base old in
+            let left = seats_after (Flush (seat_of old.key old.name next.0)) true seats in
+            let did : DidAll book seats (flush_act old next.0 true ∷ []) left a b =
+            flush_did book seats true old.key old.name base next.0 a b on.entry seated.of_script.is_target ran (read_image after.honest b is2 reads) on.was on.seated
+            (record { path_is = next.1.next.path_is; sealed = at_both (Where (Stood old.key old.name base) (Ran (AsEither old.key old.name base next.0) (StoodIf true old.key old.name next.0))) before.honest after.honest a b is is2 next.2.1 }) in
+            record {
               acts = flush_act old next.0 true ∷ [];
-              left = seats_after (Flush (seat_of old.key old.name next.0)) true seats;
+              left = left;
               after = Own (resealed own next.0);
-              did = flush_did book seats true old.key old.name base next.0 a b on.entry seated.of_script.is_target ran (read_image after.honest b is2 reads) on.was on.seated
-                  (record { path_is = next.1.next.path_is; sealed = at_both (Where (Stood old.key old.name base) (Ran (AsEither old.key old.name base next.0) (StoodIf true old.key old.name next.0))) before.honest after.honest a b is is2 next.2.1 });
+              did = did;
               shows = of_book next.0 new (ap (λ (s : SessionState). s.broken) same ∙ whole)
                   (left_seat (Flush (seat_of old.key old.name next.0)) seats new (ap (λ (s : SessionState). s.key) same) (ap (λ (s : SessionState). s.name) same))
                   (record { backed = next.2.0.backed; rests = λ _. record { stands = next.2.0; clean = dirty } }) (ap Own (resealed_own base old new words next.0 next.1 next.2.0 same dirty)) refl;
               spares = one_spares seats (Flush (seat_of old.key old.name next.0)) true;
               concerned = one_concerned false (lines.Flush k) old true next.0;
               turn = λ _. accepted (none_then [] (Own own) own refl whole tt) (record { host = refl; random = refl }) (flushed_line k own next.0 next.1);
+              over = λ _ calm. record {
+                turn = accepted (none_then [] (Own own) own refl whole tt) (record { host = refl; random = refl }) (flushed_line k own next.0 next.1);
+                files = files_flushed own (next.0 ∷ []) book seats left a b agrees on.image did on.entry on.was;
+              };
             });
       })
 
 pub flush_under : (key : List ℕ) (k : ℕ) (old new : SessionState) (result : Result (Unit {0}) FlushFault) (before after : HostState) (random random' : WordsState) → IsSeated key old → old.broken ≡ false
-    → FlushGoes result old new before after random random' → Aside old.name before after → ReadsAsImage after → SeatAgrees key false (lines.Flush k) (flush_result result) (Some old) (Some new) before after random random'
-flush_under key k old new result before after random random' seated whole goes aside reads =
-    by_end key k old seated whole new before after random random' (flush_keeps old seated.of_script result new before after random random' whole goes aside reads) aside reads result
+    → FlushGoes result old new before after random random' → UndamagedFlush result old before → Aside old.name before after → ReadsAsImage after → SeatAgrees key false (lines.Flush k) (flush_result result) (Some old) (Some new) before after random random'
+flush_under key k old new result before after random random' seated whole goes undamaged aside reads =
+    by_end key k old seated whole new before after random random' (flush_keeps old seated.of_script result new before after random random' whole goes aside reads) aside reads result undamaged
     (flush_ends old seated.of_script new before after random random' result goes)

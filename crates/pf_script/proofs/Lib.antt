@@ -17,6 +17,7 @@ pub mod Opened
 pub mod Deeds
 pub mod Moving
 pub mod Composing
+pub mod FilesLeft
 pub mod Starting
 pub mod Seats
 pub mod ActKeeping
@@ -36,6 +37,7 @@ pub mod Refusing
 pub mod Flushed
 pub mod SeatCalls
 pub mod FlushLine
+pub mod OverGiven
 pub mod Under
 pub mod FlushUnder
 pub mod CloseUnder
@@ -43,6 +45,7 @@ pub mod DrawUnder
 pub mod LastBlock
 pub mod OnEmpty
 pub mod CreateLine
+pub mod OpenRules
 pub mod OpenLine
 pub mod ReadUnder
 pub mod ChangeLeft
@@ -52,8 +55,10 @@ pub mod WriteUnder
 pub mod SizeLeft
 pub mod SizeUnder
 pub mod MoveUnder
+pub mod MoveOver
 pub mod MoveTurns
 pub mod CloseLine
+pub mod Sparing
 pub mod Desking
 pub mod DeskUnder
 pub mod DrawLine

@@ -1,5 +1,5 @@
 -- A line that is one change, under a book.
-use Rattle.std.proofs.Common.{◌≡◌, inl, Bool, true, false, List, [], ◌∷◌, ℕ, refl, sym, subst, Option, Some, length}
+use Rattle.std.proofs.Common.{◌≡◌, inl, Bool, true, false, List, [], ◌∷◌, ℕ, refl, sym, ◌∙◌, ap, subst, Option, Some, length}
 use Rattle.std.proofs.lemmas.List.Elements.{Contains-push}
 use Rattle.std.specs.Prelude.{Contains}
 use Rattle.node_tree.specs.Applying.{Step}
@@ -11,16 +11,16 @@ use Rattle.pf_io.specs.Moments.{Honest}
 use Rattle.pf_io.specs.Words.{WordsState}
 use Rattle.pf_session.specs.Aside.{Aside}
 use Rattle.pf_session.specs.State.{SessionState}
-use Rattle.pf_script.specs.Book.{Book, Seal, Agrees}
-use Rattle.pf_script.specs.BookDebts.{seat_of}
+use Rattle.pf_script.specs.Book.{Book, Entry, Seal, Agrees}
+use Rattle.pf_script.specs.BookDebts.{DidAll, seat_of}
 use Rattle.pf_script.specs.BookSeats.{Covers, KeepsUnder}
 use Rattle.pf_script.specs.BookTurns.{of_book, LineUnder, SeatBooked}
-use Rattle.pf_script.specs.FileTurns.{stands_on}
+use Rattle.pf_script.specs.FileTurns.{stands_on, answers_of, SeatOver}
 use Rattle.pf_script.specs.Desk.{IsSeated, seat_on}
 use Rattle.pf_script.specs.Rules.{NoneRefuses, rules}
-use Rattle.pf_script.specs.Script.{Own}
+use Rattle.pf_script.specs.Script.{OwnSeat, Own}
 use Rattle.pf_script.specs.SeatReplies.{flush_reply}
-use Rattle.pf_script.specs.SeatSteps.{AsksFor}
+use Rattle.pf_script.specs.SeatSteps.{AsksFor, MakesAll}
 use Rattle.pf_script.specs.Turns.{Seen, Standing, SeatTurn, IsChangeReply, accepted, changed, flushes}
 use Rattle.pf_script.specs.declared.line.ScriptLine.{ScriptLine}
 use Rattle.pf_script.specs.declared.reply.Reply.{Reply}
@@ -31,6 +31,7 @@ use Rattle.pf_script.proofs.ChangeLeft.{ChangeIn}
 use Rattle.pf_script.proofs.ChangeLine.{outcome_reply, none_made}
 use Rattle.pf_script.proofs.ChangeTold.{Outcome, Went, Broke, Lacked, Wanted, Grew}
 use Rattle.pf_script.proofs.ChangeUnder.{Progress, Fell, change_known}
+use Rattle.pf_script.proofs.FilesLeft.{files_flushed}
 use Rattle.pf_script.proofs.Flushed.{host_blamed, fault_of}
 use Rattle.pf_script.proofs.SeatCalls.{seen_by}
 use Rattle.pf_script.proofs.Under.{OnBase, on_disk}
@@ -51,6 +52,16 @@ begins key line seen reply old whole new a b book seats agrees base on mine stan
   stood = on.stood;
 }
 
+-- a line that was accepted and made these steps, over the files alone
+pub changed_over : (key : List ℕ) (line : ScriptLine) (reply : Reply) (own after : OwnSeat) (steps : List Step) (words : List (List ℕ)) (sheets : List Sheet) (book : Book) (seats left : List Seal) (a b : Honest)
+    → ((given : List Answer) → NoneRefuses (rules key false (Own own) line given)) → AsksFor line (length own.content) steps → MakesAll own steps words sheets after → IsChangeReply sheets line reply
+    → Agrees book seats a.now → IsImage a.now (reading a.now) → DidAll book seats (flushes own sheets) left a b → (entry : Entry) → book own.name ≡ Some entry
+    → SeatOver key false (Own own) line words reply (flushes own sheets) (Own after) (reading a.now) (reading b.now)
+changed_over key line reply own after steps words sheets book seats left a b passes asks makes replies agrees image did entry was = record {
+  turn = accepted (passes (answers_of (reading a.now) line)) (record { host = refl; random = refl }) (changed own after line reply steps sheets asks makes replies);
+  files = files_flushed own sheets book seats left a b agrees image did entry was;
+}
+
 module _ (key : List ℕ) (line : ScriptLine) (old new : SessionState) (seated : IsSeated key old) where
   -- a line that ended with a fault
   pub fell_under : (seen : Seen) (reply : Reply) (these : List Answer) (words : List (List ℕ)) (of_host of_words : Bool) → seen ≡ seen_by these words of_host of_words → (a b : Honest) (book : Book) (seats : List Seal) (agrees : Agrees book seats a.now) (base : Sheet)
@@ -65,6 +76,7 @@ module _ (key : List ℕ) (line : ScriptLine) (old new : SessionState) (seated :
     spares = fell.spares;
     concerned = λ n among. inl (fell.only n among);
     turn = λ _. subst (λ (s : Seen). SeatTurn (stands_on key (reading a.now)) key false (Own (seat_on base old)) line s reply fell.acts fell.after) (sym is) (fell.turn these);
+    over = λ _ calm. absurd (fell.failed (ap (λ (s : Seen). s.host_failed) (sym is) ∙ calm.host) (ap (λ (s : Seen). s.words_failed) (sym is) ∙ calm.random));
   }
 
 module _ (key : List ℕ) (line : ScriptLine) (old new : SessionState) (seated : IsSeated key old) (whole : old.broken ≡ false) (before after : HostState) (random random' : WordsState)
@@ -93,6 +105,9 @@ module _ (key : List ℕ) (line : ScriptLine) (old new : SessionState) (seated :
             turn = λ _.
                 accepted (passes base is.these) (record { host = refl; random = refl })
                 (changed own (seat_on out.base_now new) line (replied flushed) (step ∷ []) out.sheets_now (asks (length (now base old.tree))) then.was.makes (replies_to flushed out.sheets_now out.grew));
+            over = λ _ calm.
+                changed_over key line (replied flushed) own (seat_on out.base_now new) (step ∷ []) is.words out.sheets_now book seats then.left a b (passes base) (asks (length (now base old.tree))) then.was.makes
+                (replies_to flushed out.sheets_now out.grew) agrees on.image then.did on.entry on.was;
           });
     }
     line_under (Broke blame) is = record {

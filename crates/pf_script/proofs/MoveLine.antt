@@ -28,7 +28,7 @@ use Rattle.pf_script.specs.BookActs.{Move, Flush, Act}
 use Rattle.pf_script.specs.BookDebts.{seat_of}
 use Rattle.pf_script.specs.BookSeats.{IsOfScript, Covers, KeepsUnder}
 use Rattle.pf_script.specs.Desk.{IsSeated, Shows, whole_file, broken_file, seat_on}
-use Rattle.pf_script.specs.DeskSteps.{CountsFault, SeatAsks, SeatGoes, Concerns, is_host_fault, is_words_fault}
+use Rattle.pf_script.specs.DeskSteps.{CountsFault, SeatAsks, SeatGoes, Concerns, Spares, is_host_fault, is_words_fault}
 use Rattle.pf_script.specs.Rules.{Rule, NoneRefuses, rules, refuses}
 use Rattle.pf_script.specs.SeatReplies.{flush_reply, move_reply}
 use Rattle.pf_script.specs.declared.line.ScriptLine.{ScriptLine}
@@ -48,6 +48,7 @@ use Rattle.pf_script.proofs.StepKeeping.{keeps_more}
 use Rattle.pf_script.proofs.Refusing.{none_taken, at_last, refused_goes, nothing_wanting, first_then, none_then}
 use Rattle.pf_script.proofs.SeatCalls.{seen_by, own_with, SheetTurns, whole_turns, host_reply, words_reply, shows_same, false_true}
 use Rattle.pf_script.proofs.Showing.{shows_some}
+use Rattle.pf_script.proofs.Sparing.{spares_both}
 use Rattle.pf_script.proofs.WriteLine.{nothing_goes}
 use Rattle.pf_script.specs.Script.{OwnSeat, Own, Seat, sheet_of, sheets_of}
 use Rattle.pf_script.specs.SeatSteps.{IsNextSheet, SealsMoved, renamed, broken_seat}
@@ -213,12 +214,20 @@ module _ (key : List ℕ) (k : ℕ) (to : Name) (old : SessionState) (seated : I
   abbrev pub move_rules : List Answer → List Rule
   move_rules given = refuses whys.NameBusy (false ≡ true) ∷ refuses whys.BadName (¬ (IsTarget to)) ∷ refuses whys.TargetExists ((size : ℕ) × (others : List Answer) × (given ≡ LengthWas to (Some size) ∷ others)) ∷ []
 
-  module _ (new : SessionState) (before after : HostState) (random random' : WordsState) (books : OnDisk before after (KeepsUnder (Covers old) (Covers new) (Concerns false line (Some old)))) (mine : IsOfScript new) where
+  -- no rule refuses a new name that is free
+  pub move_passes : IsTarget to → (base : Sheet) (rest : List Answer) → NoneRefuses (rules key false (Own (seat_on base old)) line (looked None ∷ rest))
+  move_passes good base rest =
+      none_then (move_rules (looked None ∷ rest)) (Own (seat_on base old)) (seat_on base old) refl whole
+      (not_busy, ((λ other bad. bad.1 good), ((λ other there. not_there there.1.0 there.1.1 there.1.2), tt)))
+    where
+      not_there : (size : ℕ) (others : List Answer) → looked None ∷ rest ≡ looked (Some size) ∷ others → ⊥
+      not_there size others is = absurd (cc)
+
+  module _ (new : SessionState) (before after : HostState) (random random' : WordsState) (books : OnDisk before after (KeepsUnder (Covers old) (Covers new) (Concerns false line (Some old)))) (spares : Spares (Concerns false line (Some old)) before after) (mine : IsOfScript new) where
     move_on : (reply : Reply) (these : List Answer) (words : List (List ℕ)) (of_host of_words : Bool) → SeenOf these words of_host of_words before after random random' → is_host_fault reply ≡ of_host → is_words_fault reply ≡ of_words
         → SheetTurns key false line (seen_by these words of_host of_words) reply old (Some new) these → new.key ≡ old.key → ((name : Name) → name ≡ new.name → Concerns false line (Some old) name)
         → (new.broken ≡ false → new.changed ≡ false → new.tree.dirty ≡ []) → SeatGoes key false line (Ok reply) (Some old) (Some new) before after random random'
     move_on reply these words of_host of_words seen host_is words_is turns key_is names clean = record {
-      spares = ?;
       asks = told_by (λ given. SeatAsks key false line reply (Some old) (Some new) given before after random random') these before after seen.told
           (record {
             seen = seen_by these words of_host of_words;
@@ -230,6 +239,7 @@ module _ (key : List ℕ) (k : ℕ) (to : Name) (old : SessionState) (seated : I
       wants = tt;
       seated = record { of_script = mine; key_is = key_is ∙ seated.key_is; clean = clean };
       named = names;
+      spares = spares;
     }
 
     -- the session is as it was
@@ -248,19 +258,20 @@ module _ (key : List ℕ) (k : ℕ) (to : Name) (old : SessionState) (seated : I
 
     -- a call failed: the seat is broken
     broken_on : (blame : Blame) (these : List Answer) (words : List (List ℕ)) → SeenOf these words (host_blamed blame) false before after random random' → new.key ≡ old.key → new.name ≡ old.name → new.broken ≡ true
+        → ((base : Sheet) → NoneRefuses (rules key false (Own (seat_on base old)) line these))
         → ((base : Sheet) → IsLinked base → IsKeptOn base old → (acts : List Act) × (left : OwnSeat) × Fails key (seen_by these words (host_blamed blame) false) blame (Own (seat_on base old)) line acts (Own left) × (left.broken ≡ true) × (left.key ≡ old.key) × (left.name ≡ old.name))
         → SeatGoes key false line (Ok (flush_reply (fault_of blame))) (Some old) (Some new) before after random random'
-    broken_on blame these words seen key_is name_is broken fails =
+    broken_on blame these words seen key_is name_is broken passes fails =
         move_on (flush_reply (fault_of blame)) these words (host_blamed blame) false seen (host_reply blame) (words_reply blame)
         (λ sealed base among linked kept.
         let on = fails base linked kept in
-        at_last on.0 (λ unforged. (Own on.1, fault_turn sealed (Own (seat_on base old)) blame on.0 (Own on.1) on.2, broken_file on.1 new broken on.3 (on.4 ∙ sym key_is) (on.5 ∙ sym name_is) refl refl)))
+        at_last on.0 (λ unforged. (Own on.1, fault_turn sealed (Own (seat_on base old)) blame on.0 (Own on.1) (passes base) on.2, broken_file on.1 new broken on.3 (on.4 ∙ sym key_is) (on.5 ∙ sym name_is) refl refl)))
         key_is (λ name is. inl (is ∙ name_is)) (λ also. absurd (false_true new.broken broken also))
       where
-        fault_turn : (sealed : List Sheet) (seat : Seat) (blame : Blame) (acts : List Act) (left : Seat) → Fails key (seen_by these words (host_blamed blame) false) blame seat line acts left
+        fault_turn : (sealed : List Sheet) (seat : Seat) (blame : Blame) (acts : List Act) (left : Seat) → NoneRefuses (rules key false seat line these) → Fails key (seen_by these words (host_blamed blame) false) blame seat line acts left
             → SeatTurn (on_carried key sealed) key false seat line (seen_by these words (host_blamed blame) false) (flush_reply (fault_of blame)) acts left
-        fault_turn sealed seat ByHost acts left fails = host_failed (record { host = refl; random = refl }) fails refl
-        fault_turn sealed seat (ByDamage damage) acts left fails = was_damaged damage ? (record { host = refl; random = refl }) fails refl
+        fault_turn sealed seat ByHost acts left none fails = host_failed (record { host = refl; random = refl }) fails refl
+        fault_turn sealed seat (ByDamage damage) acts left none fails = was_damaged damage none (record { host = refl; random = refl }) fails refl
 
     -- it was not flushed
     unflushed : (start : HostState) (fault : FlushFault) → IsFree to before start → (fails : FlushFails fault old new start after random random') → FlushEnds (Err fault) old new start after random fails.between
@@ -281,7 +292,7 @@ module _ (key : List ℕ) (k : ℕ) (to : Name) (old : SessionState) (seated : I
           taken = taken_then words (first ∷ second ∷ []) random fails.between random' seen.taken fails.drawn.took.told;
           on_host = subst (λ n. CountsFault (host_blamed blame) n after.faults) free.looks.asked.asked.faults seen.on_host;
           on_words = fails.drawn.took.calm ∙ seen.on_words;
-        }) key_is name_is broken
+        }) key_is name_is broken (λ base. move_passes free.is_target base these)
         (λ base linked kept.
         let on = seals base linked kept.backed in (
           record { deed = Flush (seat_of old.key old.name on.0); done = false } ∷ [],
@@ -324,7 +335,7 @@ module _ (key : List ℕ) (k : ℕ) (to : Name) (old : SessionState) (seated : I
           (subst (λ (r : Result Reply Memory). SeatGoes key false line r (Some old) (Some new) before after random random') (blamed_reply by.blame)
           (broken_on by.blame (all_given by.these) all_words
           (record { told = all_told by.these by.told; taken = f.taken; on_host = subst (λ n. CountsFault (host_blamed by.blame) n after.faults) up_to by.on_host; on_words = f.on_words })
-          (ap (λ (s : SessionState). s.key) same ∙ f.key_is) (ap (λ (s : SessionState). s.name) same ∙ f.name_is) (ap (λ (s : SessionState). s.broken) same)
+          (ap (λ (s : SessionState). s.key) same ∙ f.key_is) (ap (λ (s : SessionState). s.name) same ∙ f.name_is) (ap (λ (s : SessionState). s.broken) same) (λ base. move_passes free.is_target base (f.these ++ by.these))
           (λ base linked kept.
           let each = f.each base linked kept in
           let base' = each.1 in
@@ -346,14 +357,6 @@ module _ (key : List ℕ) (k : ℕ) (to : Name) (old : SessionState) (seated : I
           (whole_file on.next (renamed_session to nonce mid) f.whole among on.is_next.linked (record { backed = on.on_next.stands.backed; rests = λ unchanged. on.on_next })
           (ap (λ (content : List ℕ). Own (own_with mid.key to on.next content mid.tree.dirty mid.changed mid.drawn mid.broken)) (rests.stands.now_is ∙ sym on.same_content ∙ sym on.on_next.stands.now_is)) refl)
 
-      passes : (base : Sheet) (more : List Answer) → NoneRefuses (rules key false (Own (seat_on base old)) line (all_given more))
-      passes base more =
-          none_then (move_rules (all_given more)) (Own (seat_on base old)) (seat_on base old) refl whole
-          (not_busy, ((λ other bad. bad.1 free.is_target), ((λ other there. not_there there.1.0 there.1.1 there.1.2), tt)))
-        where
-          not_there : (size : ℕ) (others : List Answer) → all_given more ≡ LengthWas to (Some size) ∷ others → ⊥
-          not_there size others is = let e : looked None ∷ (f.these ++ more) ≡ LengthWas to (Some size) ∷ others = is in absurd (cc)
-
       carried_on : (more : List Answer) → Both between.given after.given (IsMore more) → after.faults ≡ between.faults → Moves true to nonce mid between after → new ≡ renamed_session to nonce mid
           → SeatGoes key false line (Ok replies.Moved) (Some old) (Some new) before after random random'
       carried_on more told on_host carries same =
@@ -367,7 +370,7 @@ module _ (key : List ℕ) (k : ℕ) (to : Name) (old : SessionState) (seated : I
           let acts = before_it ++ act ∷ [] in
           at_last acts (λ unforged. (
             Own (renamed (seat_on base' mid) to on.next),
-            accepted (passes base more) (record { host = refl; random = refl }) (moved_on k to (seat_on base old) (seat_on base' mid) f.words (f.first ∷ f.second ∷ []) each.0 on.next each.2 (seals_moved true base' each.3 on) refl),
+            accepted (move_passes free.is_target base (f.these ++ more)) (record { host = refl; random = refl }) (moved_on k to (seat_on base old) (seat_on base' mid) f.words (f.first ∷ f.second ∷ []) each.0 on.next each.2 (seals_moved true base' each.3 on) refl),
             shows_moved sealed base' acts each.3 on
                 (Contains-append_right sealed (sheets_of acts) on.next (subst (λ (l : List Sheet). Contains l on.next) (sym (sheets_then before_it (act ∷ []))) (Contains-push (sheets_of before_it) on.next))) same,
           )))
@@ -424,6 +427,7 @@ move_goes key k to old new result before after random random' seated whole goes 
     (both_weaker (KeepsUnder (Covers old) (Covers new) (λ name. (name ≡ to) ⊎ (name ≡ old.name))) (KeepsUnder (Covers old) (Covers new) (Concerns false (lines.Move k to) (Some old))) before.honest after.honest
     (move_keeps old seated.of_script whole to result new before after random random' goes aside reads)
     (λ a b keeps. keeps_more (Covers old) (Covers new) (λ name. (name ≡ to) ⊎ (name ≡ old.name)) (Concerns false (lines.Move k to) (Some old)) a b concerned keeps))
+    (spares_both (Concerns false (lines.Move k to) (Some old)) old.name to (inl refl) (inr (refl, refl)) before after aside)
     (of_moved old new seated.of_script result to before after random random' goes) result goes
   where
     concerned : (name : Name) → (name ≡ to) ⊎ (name ≡ old.name) → Concerns false (lines.Move k to) (Some old) name

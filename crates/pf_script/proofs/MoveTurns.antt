@@ -1,6 +1,6 @@
 -- The line `move` under a book: how it ends.
 use Rattle.std.proofs.Common.{◌≡◌, ◌≢◌, ◌⊎◌, inl, inr, Bool, true, false, List, [], ◌∷◌, ◌++◌, ℕ, refl, sym, ◌∙◌, ap, subst, Option, Some, None, Result, Err}
-use Rattle.std.specs.Prelude.{Contains}
+use Rattle.std.specs.Prelude.{Contains, is_some}
 use Rattle.node_tree.specs.Sheet.{Sheet}
 use Rattle.pf_io.specs.Disk.{Name, Disk, File, IsImage, reading, read_of}
 use Rattle.pf_io.specs.Host.{Answer, LengthWas, HostState, Both, IsMore, OnDisk, ReadsAsImage}
@@ -26,11 +26,12 @@ use Rattle.pf_script.specs.BookSeats.{Covers, KeepsUnder}
 use Rattle.pf_script.specs.BookTurns.{SeenIn, ShowsUnder, of_book, other_file, SeatUnder, SeatAgrees, SeatBooked}
 use Rattle.pf_script.specs.Desk.{IsSeated, seat_on}
 use Rattle.pf_script.specs.DeskSteps.{CountsFault, Concerns}
-use Rattle.pf_script.specs.Rules.{NoneRefuses, rules}
+use Rattle.pf_script.specs.FileTurns.{stands_on, answers_of, seen_over}
+use Rattle.pf_script.specs.Rules.{IsFirst, NoneRefuses, rules}
 use Rattle.pf_script.specs.Script.{OwnSeat, Seat, Own}
 use Rattle.pf_script.specs.SeatReplies.{flush_reply, move_reply}
 use Rattle.pf_script.specs.SeatSteps.{broken_seat, renamed as renamed_own}
-use Rattle.pf_script.specs.Turns.{Seen, Standing, SeatTurn, Blame, ByHost, ByDamage, BlamesFlush, Fails, flushes, moved as moved_line, not_moved as not_moved_line, refused, accepted, host_failed, was_damaged, words_failed, not_looked_up, not_flushed_to_move, no_move}
+use Rattle.pf_script.specs.Turns.{Seen, Failed, Standing, SeatTurn, Blame, ByHost, ByDamage, BlamesFlush, Fails, flushes, moved as moved_line, not_moved as not_moved_line, refused, accepted, host_failed, was_damaged, words_failed, not_looked_up, not_flushed_to_move, no_move}
 use Rattle.pf_script.specs.declared.line.ScriptLine.{ScriptLine}
 use Rattle.pf_script.specs.declared.line.ScriptLine.TheVariants as lines
 use Rattle.pf_script.specs.declared.reply.Reply.{Reply}
@@ -39,15 +40,18 @@ use Rattle.pf_script.specs.declared.reply.Why.TheVariants as whys
 use Rattle.pf_script.proofs.ActKeeping.{unchanged_now, one_spares}
 use Rattle.pf_script.proofs.CallKeeping.{at_both, both_with, on_to, read_image}
 use Rattle.pf_script.proofs.Composing.{did_on}
+use Rattle.pf_script.proofs.FilesLeft.{files_after, moved_booked}
 use Rattle.pf_script.proofs.Flushed.{FlushEnds, not_begun, not_ended, was_ended, seal_ends, host_blamed, fault_of}
 use Rattle.pf_script.proofs.FlushLine.{flush_act}
-use Rattle.pf_script.proofs.MoveLine.{move_rules, not_busy, never_lacks, blamed_reply, short_more, taken_then, CarryBlamed, carry_blamed}
+use Rattle.pf_script.proofs.MoveLine.{move_rules, not_busy, move_passes, never_lacks, blamed_reply, short_more, taken_then, CarryBlamed, carry_blamed}
+use Rattle.pf_script.proofs.MoveOver.{looked_answers, not_calm}
+use Rattle.pf_script.proofs.OverGiven.{same_over, over_idle}
 use Rattle.pf_script.proofs.Ruling.{never}
 use Rattle.pf_script.proofs.Seats.{seats_after}
 use Rattle.pf_script.proofs.MoveCallKeeping.{move_keeps}
 use Rattle.pf_script.proofs.MoveUnder.{FirstIn, first_in, FirstKnown, first_known, did_move, spares_move, only_move, seals_moved, renamed_seat, moved_kept}
-use Rattle.pf_script.proofs.Refusing.{none_taken, none_then, first_then}
-use Rattle.pf_script.proofs.SeatCalls.{seen_by}
+use Rattle.pf_script.proofs.Refusing.{none_taken, first_then}
+use Rattle.pf_script.proofs.SeatCalls.{seen_by, false_true}
 use Rattle.pf_script.proofs.StepKeeping.{keeps_more}
 use Rattle.pf_script.proofs.Under.{KnownUnder, own_under, none_concerned, one_concerned, flush_did, left_seat}
 
@@ -74,13 +78,14 @@ module _ (key : List ℕ) (k : ℕ) (to : Name) (old : SessionState) (seated : I
   -- nothing was changed
   idle : (reply : Reply) (these : List Answer) (words : List (List ℕ)) (of_host of_words : Bool) → new ≡ old → OnDisk before after Unchanged → Both before.given after.given (IsMore these) → Both random.left random'.left (AreTaken words)
       → CountsFault of_host before.faults after.faults → CountsFault of_words random.faults random'.faults
-      → ((standing : Standing) (base : Sheet) → SeatTurn standing key false (Own (seat_on base old)) line (seen_by these words of_host of_words) reply [] (Own (seat_on base old))) → SeatAgrees key false line reply (Some old) (Some new) before after random random'
-  idle reply these words of_host of_words same only told taken on_host on_words turn = record {
+      → ((standing : Standing) (base : Sheet) → SeatTurn standing key false (Own (seat_on base old)) line (seen_by these words of_host of_words) reply [] (Own (seat_on base old)))
+      → ((base : Sheet) (a : Honest) → before.honest ≡ Some a → Failed (seen_by these words of_host of_words) false false
+      → SeatTurn (stands_on key (reading a.now)) key false (Own (seat_on base old)) line (seen_over (reading a.now) line words) reply [] (Own (seat_on base old))) → SeatAgrees key false line reply (Some old) (Some new) before after random random'
+  idle reply these words of_host of_words same only told taken on_host on_words turn over = record {
     seen = seen_by these words of_host of_words;
     was_seen = record { answers = told; words = taken; of_host = on_host; of_words = on_words };
     under = on_move Unchanged (seen_by these words of_host of_words) reply only
         (λ a b is is2 only_ab book seats agrees base on. record {
-          over = ?;
           acts = [];
           left = seats;
           after = Own (seat_on base old);
@@ -89,6 +94,7 @@ module _ (key : List ℕ) (k : ℕ) (to : Name) (old : SessionState) (seated : I
           spares = λ s has apart. has;
           concerned = none_concerned false line (Some old);
           turn = λ _. turn _ base;
+          over = λ _ calm. over_idle key false (Own (seat_on base old)) line words reply (Own (seat_on base old)) a b only_ab (over base a is calm);
         });
   }
 
@@ -102,25 +108,33 @@ module _ (key : List ℕ) (k : ℕ) (to : Name) (old : SessionState) (seated : I
   misnamed_under : ¬ (IsTarget to) → new ≡ old → after ≡ before → random' ≡ random → SeatAgrees key false line (replies.Refused whys.BadName) (Some old) (Some new) before after random random'
   misnamed_under bad same stays words =
       idle (replies.Refused whys.BadName) [] [] false false same (stays_so stays) (told_none before after (ap (λ (h : HostState). h.given) stays)) (none_taken_now words) (ap (λ (h : HostState). h.faults) stays) (ap (λ (w : WordsState). w.faults) words)
-      (λ standing base.
-      let own = seat_on base old in
-      refused whys.BadName (first_then (move_rules key k to old seated whole []) whys.BadName (Own own) own refl whole (inr (not_busy key k to old seated whole, inl (refl, bad)))) (record { host = refl; random = refl }) refl refl refl refl)
+      (λ standing base. refused whys.BadName (first base []) (record { host = refl; random = refl }) refl refl refl refl)
+      (λ base a is calm. refused whys.BadName (first base (answers_of (reading a.now) line)) (record { host = refl; random = refl }) refl refl refl refl)
+    where
+      first : (base : Sheet) (given : List Answer) → IsFirst (rules key false (Own (seat_on base old)) line given) whys.BadName
+      first base given = let own = seat_on base old in first_then (move_rules key k to old seated whole given) whys.BadName (Own own) own refl whole (inr (not_busy key k to old seated whole, inl (refl, bad)))
 
   looks_under : (size : ℕ) → IsTarget to → LooksUp to (Some size) before after → new ≡ old → random' ≡ random → SeatAgrees key false line (replies.Refused whys.TargetExists) (Some old) (Some new) before after random random'
   looks_under size good looks same words =
-      let given = LengthWas to (Some size) ∷ [] in
-      idle (replies.Refused whys.TargetExists) given [] false false same looks.disk looks.asked.asked.told (none_taken_now words) looks.asked.asked.faults (ap (λ (w : WordsState). w.faults) words)
-      (λ standing base.
-      let own = seat_on base old in
-      refused whys.TargetExists
-      (first_then (move_rules key k to old seated whole given) whys.TargetExists (Own own) own refl whole (inr (not_busy key k to old seated whole, inr ((λ other bad. bad.1 good), inl (refl, (size, [], refl))))))
-      (record { host = refl; random = refl }) refl refl refl refl)
+      idle (replies.Refused whys.TargetExists) (LengthWas to (Some size) ∷ []) [] false false same looks.disk looks.asked.asked.told (none_taken_now words) looks.asked.asked.faults (ap (λ (w : WordsState). w.faults) words) there
+      (λ base a is calm.
+      let own = Own (seat_on base old) in
+      let files = reading a.now in
+      same_over key files false own line (LengthWas to (Some size) ∷ []) [] (replies.Refused whys.TargetExists) [] own (looked_answers k to (Some size) before after a is looks) (there (stands_on key files) base))
+    where
+      there : (standing : Standing) (base : Sheet) → SeatTurn standing key false (Own (seat_on base old)) line (seen_by (LengthWas to (Some size) ∷ []) [] false false) (replies.Refused whys.TargetExists) [] (Own (seat_on base old))
+      there standing base =
+          let own = seat_on base old in
+          refused whys.TargetExists
+          (first_then (move_rules key k to old seated whole (LengthWas to (Some size) ∷ [])) whys.TargetExists (Own own) own refl whole
+          (inr (not_busy key k to old seated whole, inr ((λ other bad. bad.1 good), inl (refl, (size, [], refl))))))
+          (record { host = refl; random = refl }) refl refl refl refl
 
   -- the turn of a line that failed
-  fault_turn : (standing : Standing) (own : OwnSeat) (these : List Answer) (words : List (List ℕ)) (blame : Blame) (acts : List Act) (left : Seat) → Fails key (seen_by these words (host_blamed blame) false) blame (Own own) line acts left
+  fault_turn : (standing : Standing) (own : OwnSeat) (these : List Answer) (words : List (List ℕ)) (blame : Blame) (acts : List Act) (left : Seat) → NoneRefuses (rules key false (Own own) line these) → Fails key (seen_by these words (host_blamed blame) false) blame (Own own) line acts left
       → SeatTurn standing key false (Own own) line (seen_by these words (host_blamed blame) false) (flush_reply (fault_of blame)) acts left
-  fault_turn standing own these words ByHost acts left fails = host_failed (record { host = refl; random = refl }) fails refl
-  fault_turn standing own these words (ByDamage damage) acts left fails = was_damaged damage ? (record { host = refl; random = refl }) fails refl
+  fault_turn standing own these words ByHost acts left none fails = host_failed (record { host = refl; random = refl }) fails refl
+  fault_turn standing own these words (ByDamage damage) acts left none fails = was_damaged damage none (record { host = refl; random = refl }) fails refl
 
   module _ (aside : AsideBoth old.name to before after) (reads : ReadsAsImage after) where
     -- reads before the acts
@@ -128,11 +142,11 @@ module _ (key : List ℕ) (k : ℕ) (to : Name) (old : SessionState) (seated : I
     did_later book seats left acts a m b only did = did_on book seats seats left [] acts a m b (only, λ s has. has) did
 
     -- it was not flushed
-    unflushed : (start : HostState) (fault : FlushFault) → IsFree to before start → (fails : FlushFails fault old new start after random random') → FlushEnds (Err fault) old new start after random fails.between
+    unflushed : (start : HostState) (fault : FlushFault) → IsFree to before start → (fails : FlushFails fault old new start after random random') → FlushEnds (Err fault) old new start after random fails.between → UndamagedMove (Err (move_of_flush fault)) old before
         → SeatBooked key false line (move_reply (Err (move_of_flush fault))) (Some old) (Some new) before after random random'
-    unflushed start fault free fails (not_begun words seen same stays said) = absurd (never_lacks fault fails.sealed fails.keys old new start after fails.goes said)
-    unflushed start fault free fails (was_ended these words seen seals same dirty said) = absurd (cc)
-    unflushed start fault free fails (not_ended blame these words seen blames seals key_is name_is broken said) =
+    unflushed start fault free fails (not_begun words seen same stays said) undamaged = absurd (never_lacks fault fails.sealed fails.keys old new start after fails.goes said)
+    unflushed start fault free fails (was_ended these words seen seals same dirty said) undamaged = absurd (cc)
+    unflushed start fault free fails (not_ended blame these words seen blames seals key_is name_is broken said) undamaged =
         let first = fails.drawn.first in
         let second = fails.drawn.second in
         let all = words ++ first ∷ second ∷ [] in
@@ -155,7 +169,6 @@ module _ (key : List ℕ) (k : ℕ) (to : Name) (old : SessionState) (seated : I
               let own = seat_on base old in
               let stood_m = subst (λ (d : Disk). Stood old.key old.name base d) (sym m.2.ends) on.stood in
               let acts : List Act = flush_act old next.0 false ∷ [] in record {
-                over = ?;
                 acts = acts;
                 left = seats_after (Flush (seat_of old.key old.name next.0)) false seats;
                 after = Own (broken_seat own);
@@ -166,8 +179,9 @@ module _ (key : List ℕ) (k : ℕ) (to : Name) (old : SessionState) (seated : I
                 shows = other_file (broken_seat own) new (inl broken) (sym key_is) (sym name_is) (sym broken) refl refl;
                 spares = one_spares seats (Flush (seat_of old.key old.name next.0)) false;
                 concerned = one_concerned false line old false next.0;
-                turn = λ _. fault_turn _ own given all blame acts (Own (broken_seat own))
+                turn = λ _. fault_turn _ own given all blame acts (Own (broken_seat own)) (move_passes key k to old seated whole free.is_target base these)
                     (not_flushed_to_move k to own words next.0 first second blame fails.is_changed next.1 refl (short_more (LengthWas to None ∷ []) these old.name blame blames));
+                over = λ _ calm. absurd (not_calm blame given all old before a is_a base on.kept on.stood (subst (λ (f : FlushFault). UndamagedMove (Err (move_of_flush f)) old before) fault_is undamaged) calm);
               });
         }))
 
@@ -189,14 +203,6 @@ module _ (key : List ℕ) (k : ℕ) (to : Name) (old : SessionState) (seated : I
         of_host = subst (λ n. CountsFault of_host n after.faults) (f.on_host ∙ free.looks.asked.asked.faults) counts;
         of_words = f.drawn.took.calm ∙ f.on_words;
       }
-
-      passes : (base : Sheet) (more : List Answer) → NoneRefuses (rules key false (Own (seat_on base old)) line (all_given more))
-      passes base more =
-          none_then (move_rules key k to old seated whole (all_given more)) (Own (seat_on base old)) (seat_on base old) refl whole
-          (not_busy key k to old seated whole, ((λ other bad. bad.1 free.is_target), ((λ other there. not_there there.1.0 there.1.1 there.1.2), tt)))
-        where
-          not_there : (size : ℕ) (others : List Answer) → all_given more ≡ LengthWas to (Some size) ∷ others → ⊥
-          not_there size others is = absurd (cc)
 
       -- under a book that knows the name
       module _ (a b : Honest) (is_a : before.honest ≡ Some a) (is_b : after.honest ≡ Some b) (book : Book) (seats : List Seal) (agrees : Agrees book seats a.now) (image : IsImage a.now (reading a.now)) (base : Sheet) (entry : Entry) (was : book old.name ≡ Some entry)
@@ -247,7 +253,6 @@ module _ (key : List ℕ) (k : ℕ) (to : Name) (old : SessionState) (seated : I
                 let next = moves.carries.each t.2.base_now t.2.stood_now.as_sheet.stands.linked t.2.rests in
                 let acts : List Act = flushes own t.2.sheets ++ record { deed = Move old.name (seat_of old.key to next.next); done = false } ∷ [] in
                 let left = seats_after (Move old.name (seat_of old.key to next.next)) false t.2.left in record {
-                  over = ?;
                   acts = acts;
                   left = left;
                   after = Own (broken_seat (seat_on t.2.base_now mid));
@@ -258,11 +263,12 @@ module _ (key : List ℕ) (k : ℕ) (to : Name) (old : SessionState) (seated : I
                   spares = spares_move key old seated whole book seats m.0 agrees_m image_m base on.entry on.was on.seated on.kept stood_m to free.is_target false mid new f.words t.0 b t.2 nonce between after t.1 is_b absent moves.carries well;
                   concerned = λ n among.
                       both_concerned n (only_move key old seated whole book seats m.0 agrees_m image_m base on.entry on.was on.seated on.kept stood_m to free.is_target false mid new f.words t.0 b t.2 nonce between after t.1 is_b absent moves.carries well n among);
-                  turn = λ _. fault_turn _ own (all_given by.these) all_words by.blame acts (Own (broken_seat (seat_on t.2.base_now mid)))
+                  turn = λ _. fault_turn _ own (all_given by.these) all_words by.blame acts (Own (broken_seat (seat_on t.2.base_now mid))) (move_passes key k to old seated whole free.is_target base (f.these ++ by.these))
                       (not_moved_line k to own (seat_on t.2.base_now mid) f.words (f.drawn.first ∷ f.drawn.second ∷ []) t.2.sheets next.next by.blame t.2.first
                       (seals_moved key old seated whole book seats m.0 agrees_m image_m base on.entry on.was on.seated on.kept stood_m to free.is_target false mid new f.words t.0 b t.2 nonce between after t.1 is_b absent moves.carries well
                       f.drawn.first f.drawn.second f.drawn.is) refl
                       (short_more (LengthWas to None ∷ []) (f.these ++ by.these) old.name by.blame (short_more f.these by.these old.name by.blame (subst (λ (n : Name). BlamesFlush n by.these by.blame) t.2.name_is by.blames))));
+                  over = λ _ calm. absurd (not_calm by.blame (all_given by.these) all_words old before a is_a base on.kept on.stood (subst (λ (f : FlushFault). UndamagedMove (Err (move_of_flush f)) old before) by.fault_is undamaged) calm);
                 });
           }))
 
@@ -285,13 +291,21 @@ module _ (key : List ℕ) (k : ℕ) (to : Name) (old : SessionState) (seated : I
             let next = moves.carries.each t.2.base_now t.2.stood_now.as_sheet.stands.linked t.2.rests in
             let deed = Move old.name (seat_of old.key to next.next) in
             let acts : List Act = flushes own t.2.sheets ++ record { deed = deed; done = true } ∷ [] in
-            let left = seats_after deed true t.2.left in record {
-              over = ?;
+            let left = seats_after deed true t.2.left in
+            let then = Own (renamed_own (seat_on t.2.base_now mid) to next.next) in
+            let did : DidAll book seats acts left a b =
+            did_later book seats left acts a m.0 b m.2
+            (did_move key old seated whole book seats m.0 agrees_m image_m base on.entry on.was on.seated on.kept stood_m to free.is_target true mid new f.words t.0 b t.2 nonce between after t.1 is_b absent moves.carries well) in
+            let turn : (rest : List Answer) → SeatTurn (stands_on key (reading a.now)) key false (Own own) line (seen_by (LengthWas to None ∷ rest) all_words false false) replies.Moved acts then =
+            λ rest.
+            accepted (move_passes key k to old seated whole free.is_target base rest) (record { host = refl; random = refl })
+            (moved_line k to own (seat_on t.2.base_now mid) f.words (f.drawn.first ∷ f.drawn.second ∷ []) t.2.sheets next.next t.2.first
+            (seals_moved key old seated whole book seats m.0 agrees_m image_m base on.entry on.was on.seated on.kept stood_m to free.is_target true mid new f.words t.0 b t.2 nonce between after t.1 is_b absent moves.carries well
+            f.drawn.first f.drawn.second f.drawn.is) refl) in record {
               acts = acts;
               left = left;
-              after = Own (renamed_own (seat_on t.2.base_now mid) to next.next);
-              did = did_later book seats left acts a m.0 b m.2
-                  (did_move key old seated whole book seats m.0 agrees_m image_m base on.entry on.was on.seated on.kept stood_m to free.is_target true mid new f.words t.0 b t.2 nonce between after t.1 is_b absent moves.carries well);
+              after = then;
+              did = did;
               shows = of_book next.next new (ap (λ (s : SessionState). s.broken) same ∙ t.2.whole_mid)
                   (left_seat deed t.2.left new (ap (λ (s : SessionState). s.key) same ∙ t.2.key_is) (ap (λ (s : SessionState). s.name) same))
                   (moved_kept key old seated whole book seats m.0 agrees_m image_m base on.entry on.was on.seated on.kept stood_m to free.is_target true mid new f.words t.0 b t.2 nonce between after t.1 is_b absent moves.carries well same)
@@ -299,11 +313,11 @@ module _ (key : List ℕ) (k : ℕ) (to : Name) (old : SessionState) (seated : I
               spares = spares_move key old seated whole book seats m.0 agrees_m image_m base on.entry on.was on.seated on.kept stood_m to free.is_target true mid new f.words t.0 b t.2 nonce between after t.1 is_b absent moves.carries well;
               concerned = λ n among.
                   both_concerned n (only_move key old seated whole book seats m.0 agrees_m image_m base on.entry on.was on.seated on.kept stood_m to free.is_target true mid new f.words t.0 b t.2 nonce between after t.1 is_b absent moves.carries well n among);
-              turn = λ _.
-                  accepted (passes base more) (record { host = refl; random = refl })
-                  (moved_line k to own (seat_on t.2.base_now mid) f.words (f.drawn.first ∷ f.drawn.second ∷ []) t.2.sheets next.next t.2.first
-                  (seals_moved key old seated whole book seats m.0 agrees_m image_m base on.entry on.was on.seated on.kept stood_m to free.is_target true mid new f.words t.0 b t.2 nonce between after t.1 is_b absent moves.carries well
-                  f.drawn.first f.drawn.second f.drawn.is) refl);
+              turn = λ _. turn (f.these ++ more);
+              over = λ _ _. record {
+                turn = same_over key (reading a.now) false (Own own) line (LengthWas to None ∷ []) all_words replies.Moved acts then (looked_answers k to None before start a is_a free.looks) (turn []);
+                files = files_after book seats left acts a b agrees on.image did (moved_booked own t.2.sheets (seat_of old.key to next.next) book (ap (λ (o : Option Entry). is_some o) on.was));
+              };
             });
       }
 
@@ -313,15 +327,15 @@ module _ (key : List ℕ) (k : ℕ) (to : Name) (old : SessionState) (seated : I
     by_case result undamaged (look_up_failed good fails same words said) =
         subst (λ (r : Result (Unit {0}) MoveFault). SeatBooked key false line (move_reply r) (Some old) (Some new) before after random random') (sym said)
         (idle replies.HostFault [] [] true false same fails.disk fails.asked.asked.told (none_taken_now words) fails.asked.asked.faults (ap (λ (w : WordsState). w.faults) words)
-        (λ standing base. host_failed (record { host = refl; random = refl }) (not_looked_up k to (seat_on base old) refl) refl))
+        (λ standing base. host_failed (record { host = refl; random = refl }) (not_looked_up k to (seat_on base old) refl) refl) (λ base a is calm. absurd (false_true true refl calm.host)))
     by_case result undamaged (was_there size good looks same words said) = subst (λ (r : Result (Unit {0}) MoveFault). SeatBooked key false line (move_reply r) (Some old) (Some new) before after random random') (sym said) (looks_under size good looks same words)
     by_case result undamaged (no_words free fewer same said) =
         subst (λ (r : Result (Unit {0}) MoveFault). SeatBooked key false line (move_reply r) (Some old) (Some new) before after random random') (sym said)
         (idle replies.WordsFault (LengthWas to None ∷ []) fewer.words false true same free.looks.disk free.looks.asked.asked.told fewer.told free.looks.asked.asked.faults fewer.once
-        (λ standing base. words_failed (record { host = refl; random = refl }) (no_move k to (seat_on base old)) refl))
+        (λ standing base. words_failed (record { host = refl; random = refl }) (no_move k to (seat_on base old)) refl) (λ base a is calm. absurd (false_true true refl calm.random)))
     by_case result undamaged (not_flushed start fault free fails said) =
         subst (λ (r : Result (Unit {0}) MoveFault). SeatBooked key false line (move_reply r) (Some old) (Some new) before after random random') (sym said)
-        (unflushed start fault free fails (seal_ends old seated.of_script new start after random fails.between (Err fault) fails.sealed fails.keys fails.came fails.goes))
+        (unflushed start fault free fails (seal_ends old seated.of_script new start after random fails.between (Err fault) fails.sealed fails.keys fails.came fails.goes) (subst (λ (r : Result (Unit {0}) MoveFault). UndamagedMove r old before) said undamaged))
     by_case result undamaged (not_moved start between mid nonce fault free first carry moves same said) =
         subst (λ (r : Result (Unit {0}) MoveFault). SeatBooked key false line (move_reply r) (Some old) (Some new) before after random random') (sym said)
         (uncarried start between mid nonce free first fault (carry_blamed fault to nonce mid between after carry) moves same (subst (λ (r : Result (Unit {0}) MoveFault). UndamagedMove r old before) said undamaged))

@@ -4,36 +4,40 @@ use Rattle.std.specs.Prelude.{Contains}
 use Rattle.std.specs.Option.{is_some}
 use Rattle.std.proofs.lemmas.List.Elements.{Contains-push_cases, Contains-append_cases}
 use Rattle.node_tree.specs.Sheet.{Sheet}
-use Rattle.pf_io.specs.Disk.{Name, IsImage, reading}
+use Rattle.pf_io.specs.Disk.{Name, Files, IsImage, reading}
 use Rattle.pf_io.specs.Host.{Answer, HostState, OnDisk, WhereTold}
 use Rattle.pf_io.specs.Moments.{Honest}
 use Rattle.pf_io.specs.Unchanged.{KeepsDisk}
 use Rattle.pf_io.specs.Words.{WordsState}
 use Rattle.pf_io.specs.declared.faults.Memory.{Memory}
 use Rattle.pf_io.proofs.Telling.{told_by, told_none, both_same, both_weaker}
+use Rattle.pf_session.specs.Aside.{Aside}
 use Rattle.pf_session.specs.State.{SessionState}
 use Rattle.pf_script.specs.Book.{Book, Seal, Agrees}
 use Rattle.pf_script.specs.BookActs.{Act}
 use Rattle.pf_script.specs.BookDebts.{Unchanged}
 use Rattle.pf_script.specs.BookSeats.{CoversNone, KeepsUnder}
 use Rattle.pf_script.specs.BookTurns.{no_file, LineUnder, SeatUnder, SeatBooked}
-use Rattle.pf_script.specs.FileTurns.{stands_on}
+use Rattle.pf_script.specs.FileTurns.{stands_on, seen_over}
 use Rattle.pf_script.specs.Desk.{IsSeatOf, Shows, no_file as no_file_now}
-use Rattle.pf_script.specs.DeskSteps.{Unfolds, SeatTurns, SeatAsks, CountsFault, CoversSome, Concerns, HasItsName, SeatGoes, TakesNone, is_host_fault, is_words_fault}
+use Rattle.pf_script.specs.DeskSteps.{Unfolds, SeatTurns, SeatAsks, CountsFault, CoversSome, Concerns, Spares, HasItsName, SeatGoes, TakesNone, is_host_fault, is_words_fault}
 use Rattle.pf_script.specs.Rules.{Rule, IsFirst, NoneRefuses, seating_rules}
 use Rattle.pf_script.specs.Script.{Seat, Empty, name_of_line, sheets_of}
-use Rattle.pf_script.specs.Turns.{Seen, Standing, SeatTurn, on_carried}
+use Rattle.pf_script.specs.Turns.{Seen, Failed, Standing, SeatTurn, on_carried}
 use Rattle.pf_script.specs.declared.line.ScriptLine.{ScriptLine}
 use Rattle.pf_script.specs.declared.reply.Reply.{Reply}
 use Rattle.pf_script.specs.declared.reply.Why.{Why}
 use Rattle.pf_script.specs.declared.reply.Why.TheVariants as whys
 pub use Rattle.pf_script.proofs.LastBlock.{not_of}
 use Rattle.pf_script.proofs.ActKeeping.{only_reads, unchanged_now}
+use Rattle.pf_script.proofs.CallKeeping.{both_with}
 use Rattle.pf_script.proofs.FlushUnder.{seen_in}
 use Rattle.pf_script.proofs.Flushed.{SeenOf}
+use Rattle.pf_script.proofs.OverGiven.{over_idle}
 use Rattle.pf_script.proofs.Refusing.{at_last, not_empty}
 use Rattle.pf_script.proofs.SeatCalls.{seen_by}
 use Rattle.pf_script.proofs.Showing.{shows_none, shows_some}
+use Rattle.pf_script.proofs.Sparing.{spares_none, spares_kept, spares_aside}
 use Rattle.pf_script.proofs.StepKeeping.{keeps_more}
 use Rattle.pf_script.proofs.Under.{LooksLike, looks_like}
 
@@ -93,7 +97,7 @@ module _ (key : List ℕ) (line : ScriptLine) (name : Name) (names : name_of_lin
   pub concerns : (n : Name) → n ≡ name → Concerns false line None n
   concerns n same = inr (names ∙ ap (λ (x : Name). Some x) (sym same), refl)
 
-  module _ (new : Option SessionState) (before after : HostState) (random random' : WordsState) (keeps : OnDisk before after (KeepsUnder CoversNone (CoversSome new) (λ n. n ≡ name))) (seated : IsSeatOf key new) (named : (n : Name) → HasItsName new n → n ≡ name) where
+  module _ (new : Option SessionState) (before after : HostState) (random random' : WordsState) (keeps : OnDisk before after (KeepsUnder CoversNone (CoversSome new) (λ n. n ≡ name))) (spares : Spares (Concerns false line None) before after) (seated : IsSeatOf key new) (named : (n : Name) → HasItsName new n → n ≡ name) where
     books : OnDisk before after (KeepsUnder CoversNone (CoversSome new) (Concerns false line None))
     books = both_weaker (KeepsUnder CoversNone (CoversSome new) (λ n. n ≡ name)) (KeepsUnder CoversNone (CoversSome new) (Concerns false line None)) before.honest after.honest keeps
         (λ a b keeps. keeps_more CoversNone (CoversSome new) (λ n. n ≡ name) (Concerns false line None) a b concerns keeps)
@@ -108,10 +112,11 @@ module _ (key : List ℕ) (line : ScriptLine) (name : Name) (names : name_of_lin
       wants = tt;
       seated = seated;
       named = λ n has. concerns n (named n has);
+      spares = spares;
     }
 
     -- want of memory
-    pub empty_wants : ¬ (TakesNone line) → new ≡ None → KeepsDisk before after → after.faults ≡ before.faults → random' ≡ random → WhereTold before after (λ given. Unit {0}) → SeatGoes key false line (Err (record { spares = ? })) None new before after random random'
+    pub empty_wants : ¬ (TakesNone line) → new ≡ None → KeepsDisk before after → after.faults ≡ before.faults → random' ≡ random → WhereTold before after (λ given. Unit {0}) → SeatGoes key false line (Err (record {})) None new before after random random'
     empty_wants takes none disk calm same told = record {
       asks = tt;
       books = books;
@@ -119,13 +124,18 @@ module _ (key : List ℕ) (line : ScriptLine) (name : Name) (names : name_of_lin
       wants = record { takes = takes; told = told; ends = inl (record { seat = none; disk = disk; words = same }) };
       seated = seated;
       named = λ n has. concerns n (named n has);
+      spares = spares;
     }
+
+  -- all other names are left alone
+  pub spares_given : (before after : HostState) → Aside name before after → Spares (Concerns false line None) before after
+  spares_given = spares_aside (Concerns false line None) name (concerns name refl)
 
   -- want of memory before anything was asked
   pub empty_unasked : (state : HostState) (random : WordsState) → ¬ (TakesNone line) → SeatGoes key false line (Err (record {})) None None state state random random
   empty_unasked state random takes =
       empty_wants None state state random random
-      (both_same (KeepsUnder CoversNone CoversNone (λ n. n ≡ name)) state.honest state.honest refl (λ a. only_reads CoversNone a a (λ n. n ≡ name) (unchanged_now a))) tt (λ n none. absurd none) takes refl
+      (both_same (KeepsUnder CoversNone CoversNone (λ n. n ≡ name)) state.honest state.honest refl (λ a. only_reads CoversNone a a (λ n. n ≡ name) (unchanged_now a))) (spares_none (Concerns false line None) state) tt (λ n none. absurd none) takes refl
       (both_same Unchanged state.honest state.honest refl (λ a. unchanged_now a)) refl refl (told_by (λ given. Unit {0}) [] state state (told_none state state refl) tt)
 
   -- under a book the seat is empty
@@ -134,9 +144,14 @@ module _ (key : List ℕ) (line : ScriptLine) (name : Name) (names : name_of_lin
   empty_under seen reply new a b under book seats seat agrees reads shows =
       subst (λ (x : Seat). LineUnder key false line seen reply None new book seats x a b) (sym (looks_like book seats seat None shows)) (under book seats agrees reads)
 
+  -- the turn of the line by the answers of the files, by which the seat stays empty
+  abbrev pub TurnsOver : Files → List (List ℕ) → Reply → Type 0
+  TurnsOver files words reply = SeatTurn (stands_on key files) key false Empty line (seen_over files line words) reply [] Empty
+
   -- nothing was changed, and the seat stays empty
-  pub not_there : (seen : Seen) (reply : Reply) (a b : Honest) → Unchanged a b → SeatTurn (stands_on key (reading a.now)) key false Empty line seen reply [] Empty → SeatUnder key false line seen reply None None a b
-  not_there seen reply a b only turn =
+  pub not_there : (seen : Seen) (reply : Reply) (a b : Honest) → Unchanged a b → SeatTurn (stands_on key (reading a.now)) key false Empty line seen reply [] Empty
+      → (Failed seen false false → TurnsOver (reading a.now) seen.words reply) → SeatUnder key false line seen reply None None a b
+  not_there seen reply a b only turn over =
       empty_under seen reply None a b
       (λ book seats agrees reads. record {
         acts = [];
@@ -147,6 +162,7 @@ module _ (key : List ℕ) (line : ScriptLine) (name : Name) (names : name_of_lin
         spares = λ s has apart. has;
         concerned = λ n none. absurd none;
         turn = λ _. turn;
+        over = λ knows calm. over_idle key false Empty line seen.words reply Empty a b only (over calm);
       })
 
   -- on any host, acts that do not depend on what was sealed
@@ -161,14 +177,16 @@ module _ (key : List ℕ) (line : ScriptLine) (name : Name) (names : name_of_lin
 
   -- nothing was done
   pub empty_idle : (before after : HostState) (random random' : WordsState) (reply : Reply) (these : List Answer) (words : List (List ℕ)) (of_host of_words : Bool) → OnDisk before after Unchanged → SeenOf these words of_host of_words before after random random'
-      → is_host_fault reply ≡ of_host → is_words_fault reply ≡ of_words → ((standing : Standing) → SeatTurn standing key false Empty line (seen_by these words of_host of_words) reply [] Empty) → BothHalves key line (Ok reply) None before after random random'
-  empty_idle before after random random' reply these words of_host of_words only seen host_is words_is turn = record {
+      → is_host_fault reply ≡ of_host → is_words_fault reply ≡ of_words → ((standing : Standing) → SeatTurn standing key false Empty line (seen_by these words of_host of_words) reply [] Empty)
+      → ((a : Honest) → before.honest ≡ Some a → Failed (seen_by these words of_host of_words) false false → TurnsOver (reading a.now) words reply) → BothHalves key line (Ok reply) None before after random random'
+  empty_idle before after random random' reply these words of_host of_words only seen host_is words_is turn over = record {
     goes = empty_goes None before after random random'
-        (both_weaker Unchanged (KeepsUnder CoversNone CoversNone (λ n. n ≡ name)) before.honest after.honest only (λ a b only_ab. only_reads CoversNone a b (λ n. n ≡ name) only_ab)) tt (λ n none. absurd none)
+        (both_weaker Unchanged (KeepsUnder CoversNone CoversNone (λ n. n ≡ name)) before.honest after.honest only (λ a b only_ab. only_reads CoversNone a b (λ n. n ≡ name) only_ab)) (spares_kept (Concerns false line None) before after only) tt (λ n none. absurd none)
         reply these words of_host of_words seen host_is words_is (empty_turns (seen_by these words of_host of_words) reply None these [] Empty turn still_shows);
     booked = record {
       seen = seen_by these words of_host of_words;
       was_seen = seen_in these words of_host of_words before after random random' seen;
-      under = both_weaker Unchanged (SeatUnder key false line (seen_by these words of_host of_words) reply None None) before.honest after.honest only (λ a b only_ab. not_there (seen_by these words of_host of_words) reply a b only_ab (turn _));
+      under = both_with Unchanged (SeatUnder key false line (seen_by these words of_host of_words) reply None None) before.honest after.honest only
+          (λ a b is is2 only_ab. not_there (seen_by these words of_host of_words) reply a b only_ab (turn _) (over a is));
     };
   }

@@ -1,23 +1,21 @@
 -- The line `open`, from the contract of an opening.
-use Rattle.std.proofs.Common.{◌≡◌, ◌≢◌, inl, inr, Bool, true, false, List, [], ◌∷◌, ◌++◌, ℕ, refl, sym, ◌∙◌, ap, subst, Option, Some, None, Result, Ok, Err, arith, length, length-append, take}
+use Rattle.std.proofs.Common.{◌≡◌, inl, inr, Bool, true, false, List, [], ◌∷◌, ◌++◌, ℕ, refl, sym, ◌∙◌, ap, subst, Option, Some, None, Result, Ok, Err, length}
 use Rattle.std.proofs.lemmas.List.{append-nil, append_cancel_left}
 use Rattle.std.proofs.lemmas.List.Elements.{Contains-push, Contains-append_left, Contains-append_right}
+use Rattle.std.specs.List.{AllByRecursion}
 use Rattle.std.specs.Prelude.{Contains, IfOk, IsSomeAnd}
 use Rattle.std.specs.Str.{IsUtf8}
-use Rattle.node_layout.specs.Faults.{IsPlainFault}
-use Rattle.node_layout.specs.Metadata.{flag_at, magic}
-use Rattle.node_layout.specs.Opening.{OpensTo}
 use Rattle.node_layout.specs.declared.damage.Damage.{Damage}
 use Rattle.node_layout.specs.declared.damage.Kind.TheVariants as kinds
 use Rattle.node_layout.specs.declared.metadata.MetaSecret.{MetaSecret}
 use Rattle.node_layout.specs.declared.metadata.PlainFault.TheVariants.{BadVersion}
-use Rattle.node_layout.proofs.Secrets.{opens_to_one}
 use Rattle.node_tree.specs.Backing.{now}
 use Rattle.node_tree.specs.Sheet.{Sheet}
 use Rattle.node_tree.specs.Unforged.{Unforged}
+use Rattle.pf_io.specs.Answered.{IsAnswerOf}
 use Rattle.pf_io.specs.Counts.{counted}
 use Rattle.pf_io.specs.Disk.{Name, Disk, IsImage, reading}
-use Rattle.pf_io.specs.Host.{Answer, LengthWas, Gave, HostState, Both as BothAre, IsMore, since, WhereTold, OnDisk}
+use Rattle.pf_io.specs.Host.{Answer, LengthWas, HostState, Both as BothAre, IsMore, since, WhereTold, OnDisk, OnHonest}
 use Rattle.pf_io.specs.Moments.{Honest}
 use Rattle.pf_io.specs.Names.{IsTarget, recovery_of}
 use Rattle.pf_io.specs.Unchanged.{KeepsDisk}
@@ -25,24 +23,22 @@ use Rattle.pf_io.specs.Words.{WordsState}
 use Rattle.pf_io.specs.declared.faults.Memory.{Memory}
 use Rattle.pf_io.proofs.Telling.{told_by, told_none, both_weaker}
 use Rattle.pf_session.specs.Backing.{StandsOn}
-use Rattle.pf_session.specs.Carries.{IsLast, OnFirst, OpensOnFirst}
+use Rattle.pf_session.specs.Carries.{OnFirst, OpensOnFirst}
 use Rattle.pf_session.specs.Keeping.{OpensEither}
-use Rattle.pf_session.specs.Opening.{Opens, by_answers, length_failed, read_failed, no_names, no_tree, misnamed, absent, block_refused, secret_refused, accepted, IsOpenable, IsAccepted, BlockRefused, not_protected, node_short, update_pending, other_version, SecretRefused, not_opened, other_path, node_answers, opened_session}
-use Rattle.pf_session.specs.Reopening.{ReopensAs}
+use Rattle.pf_session.specs.Opening.{AreGood, Opens, by_answers, length_failed, read_failed, no_names, no_tree, misnamed, absent, block_refused, secret_refused, accepted, IsOpenable, IsAccepted, BlockRefused, not_protected, node_short, update_pending, other_version, SecretRefused, not_opened, other_path, node_answers, opened_session}
+use Rattle.pf_session.specs.Reopening.{ReopensAs, Stood}
 use Rattle.pf_session.specs.State.{SessionState}
 use Rattle.pf_session.specs.declared.open_fault.OpenFault.{OpenFault}
-use Rattle.pf_session.specs.declared.open_fault.OpenFault.TheVariants as faults
 use Rattle.pf_session.proofs.Backed.{last_there}
-use Rattle.pf_session.proofs.OpenStanding.{not_block}
 use Rattle.pf_script.specs.Book.{Book, Entry, Seal, Agrees}
-use Rattle.pf_script.specs.BookActs.{Opening, Among, speaks}
+use Rattle.pf_script.specs.BookActs.{Act, Opening, Among, speaks}
 use Rattle.pf_script.specs.BookDebts.{Unchanged, seat_of}
 use Rattle.pf_script.specs.BookSeats.{CoversNone, CoversMade, KeepsUnder}
 use Rattle.pf_script.specs.BookTurns.{of_book, Knows, LineUnder, SeatUnder}
-use Rattle.pf_script.specs.FileTurns.{stands_on}
+use Rattle.pf_script.specs.FileTurns.{stands_on, opening_answers}
 use Rattle.pf_script.specs.Desk.{IsSeated, Shows, whole_file, seat_on}
 use Rattle.pf_script.specs.DeskSteps.{CountsFault, Unfolds, then_more, in_the_end, SeatTurns, SeatAsks, Concerns, CoversSome}
-use Rattle.pf_script.specs.Rules.{IsFirst as IsFirstRule, NoneRefuses, opening_rules, other_version as other_version_rule}
+use Rattle.pf_script.specs.Rules.{IsFirst as IsFirstRule, NoneRefuses, opening_rules}
 use Rattle.pf_script.specs.Script.{Seat, Empty, Own, sheets_of}
 use Rattle.pf_script.specs.SeatReplies.{open_reply}
 use Rattle.pf_script.specs.Turns.{Seen, Standing, SeatTurn, refused, accepted as accepts, host_failed, was_damaged, opened, not_opened as fails_to_open, ByHost, ByDamage, BlamesOpening, short_zero, closed_zero, new_seat, on_carried}
@@ -57,13 +53,15 @@ use Rattle.pf_script.proofs.CallKeeping.{at_both, both_with}
 use Rattle.pf_script.proofs.CreateLine.{named_target}
 use Rattle.pf_script.proofs.Flushed.{SeenOf, length_now}
 use Rattle.pf_script.proofs.FlushUnder.{seen_in}
-use Rattle.pf_script.proofs.LastBlock.{last_one}
-use Rattle.pf_script.proofs.OnEmpty.{not_of, made_seat, BothHalves, concerns, empty_wants, empty_under, empty_idle, seat_first, seat_none}
+use Rattle.pf_script.proofs.OnEmpty.{made_seat, BothHalves, concerns, empty_wants, empty_under, empty_idle, seat_first, seat_none}
 use Rattle.pf_script.proofs.OpenKeeping.{WasOpened, was_opened, known_opening, open_keeps}
+use Rattle.pf_script.proofs.OverGiven.{no_host_fault, on_reading, same_over}
+use Rattle.pf_script.proofs.OpenRules.{none_given, node_given, not_protected_first, unbuilt_first, version_first, path_first, none_refuses, none_closed, none_short}
 use Rattle.pf_script.proofs.Refusing.{none_taken}
 use Rattle.pf_script.proofs.SeatCalls.{seen_by, own_same, shows_same}
 use Rattle.pf_script.proofs.Seats.{seats_after, seat_is_left}
 use Rattle.pf_script.proofs.Showing.{shows_none}
+use Rattle.pf_script.proofs.Sparing.{spares_kept}
 use Rattle.pf_script.proofs.StepKeeping.{keeps_more}
 use Rattle.pf_script.proofs.Under.{unknown_under}
 
@@ -78,65 +76,6 @@ told_these P Q these old new more told go = by_given old.given new.given more to
         (told.0, subst Q same (go (subst P (sym same) told.1)))
     by_given None (Some now) more told = absurd more
     by_given (Some before) None more told = absurd more
-
-module _ (key : List ℕ) (name : Name) (target : IsTarget name) (size : ℕ) (block : List ℕ) where
-  abbrev given : List Answer
-  given = node_answers name size block
-
-  last : IsLast name given block
-  last = last_there name size block
-
-  was_there : (why : Why) → (why ≡ whys.NotFound name) × Contains given (LengthWas name None) → ⊥
-  was_there why refuses =
-      not_of (LengthWas name (Some size)) (LengthWas name None) (Gave name 0 4096 block ∷ []) (λ same. absurd (cc))
-      (not_of (Gave name 0 4096 block) (LengthWas name None) [] (λ same. absurd (cc)) (λ none. absurd (omega (arith, none.1)))) refuses.1
-
-  not_protected_first : take 8 block ≢ magic → IsFirstRule (opening_rules key name given) whys.NotProtected
-  not_protected_first other = inr ((λ why refuses. refuses.1 target), inr (was_there, inl (refl, (block, last, other))))
-
-  magic_is : take 8 block ≡ magic → (why : Why) → (why ≡ whys.NotProtected) × ((b : List ℕ) × IsLast name given b × (take 8 b ≢ magic)) → ⊥
-  magic_is is why refuses = refuses.1.2 (subst (λ (b : List ℕ). take 8 b ≡ magic) (sym (last_one name size block refuses.1.0 refuses.1.1)) is)
-
-  unbuilt_first : take 8 block ≡ magic → length block ≡ 4096 → flag_at block ≢ 0 → IsFirstRule (opening_rules key name given) whys.Unbuilt
-  unbuilt_first is whole flag = inr ((λ why refuses. refuses.1 target), inr (was_there, inr (magic_is is, inl (refl, (block, last, whole, flag)))))
-
-  no_flag : flag_at block ≡ 0 → (why : Why) → (why ≡ whys.Unbuilt) × ((b : List ℕ) × IsLast name given b × (length b ≡ 4096) × (flag_at b ≢ 0)) → ⊥
-  no_flag is why refuses = refuses.1.3 (subst (λ (b : List ℕ). flag_at b ≡ 0) (sym (last_one name size block refuses.1.0 refuses.1.1)) is)
-
-  version_first : (major minor : ℕ) → length block ≡ 4096 → flag_at block ≡ 0 → IsPlainFault block (BadVersion major minor) → IsFirstRule (opening_rules key name given) (whys.BadVersion major minor)
-  version_first major minor whole flag other =
-      inr ((λ why refuses. refuses.1 target), inr (was_there, inr (magic_is other.0, inr (no_flag flag, inl (block, major, minor, last, whole, flag, other, refl)))))
-
-  no_version : IsOpenable block → (why : Why) → other_version_rule name given why → ⊥
-  no_version openable why refuses =
-      not_block block openable (faults.BadVersion refuses.1 refuses.2)
-      (other_version refuses.1 refuses.2 openable.whole openable.flag (subst (λ (b : List ℕ). IsPlainFault b (BadVersion refuses.1 refuses.2)) (last_one name size block refuses.0 refuses.3) refuses.6) refl)
-
-  path_first : IsOpenable block → (secret : MetaSecret) → OpensTo key block secret → name ≢ secret.path → IsFirstRule (opening_rules key name given) (whys.WrongPath secret.path)
-  path_first openable secret opens other =
-      inr ((λ why refuses. refuses.1 target), inr (was_there, inr (magic_is openable.plain.magic_is, inr (no_flag openable.flag, inr (no_version openable, inl (block, secret, last, openable.whole, opens, other, refl))))))
-
-  none_refuses : IsOpenable block → (secret : MetaSecret) → OpensTo key block secret → name ≡ secret.path → NoneRefuses (opening_rules key name given)
-  none_refuses openable secret opens same = (
-    λ why refuses. refuses.1 target,
-    (
-      was_there,
-      (
-        magic_is openable.plain.magic_is,
-        (
-          no_flag openable.flag,
-          (
-            no_version openable,
-            (
-              λ why refuses.
-                  refuses.5 (same ∙ ap (λ (m : MetaSecret). m.path) (opens_to_one key block secret refuses.1 opens (subst (λ (b : List ℕ). OpensTo key b refuses.1) (last_one name size block refuses.0 refuses.2) refuses.4))),
-              tt,
-            ),
-          ),
-        ),
-      ),
-    ),
-  )
 
 -- the reply to an opening
 abbrev pub open_result : Name → Result SessionState OpenFault → Result Reply Memory
@@ -153,55 +92,79 @@ module _ (key : List ℕ) (k : ℕ) (name : Name) (utf8 : IsUtf8 name) (before a
   seen_of : (these : List Answer) (of_host : Bool) → BothAre before.given after.given (IsMore these) → CountsFault of_host before.faults after.faults → SeenOf these [] of_host false before after words words
   seen_of these of_host told counts = record { told = told; taken = none_taken words; on_host = counts; on_words = refl }
 
+  -- these answers are those of the files of an honest host
+  abbrev AreOfFiles : List Answer → Type 0
+  AreOfFiles these = (a : Honest) → before.honest ≡ Some a → these ≡ opening_answers name (reading a.now name)
+
+  node_of_files : (size : ℕ) (block : List ℕ) → OnHonest before (λ files. AllByRecursion (IsAnswerOf files) (node_answers name size block)) → AreOfFiles (node_answers name size block)
+  node_of_files size block honest a is = let all = on_reading (λ files. AllByRecursion (IsAnswerOf files) (node_answers name size block)) before.honest a is honest in node_given name size block (reading a.now name) all.0 all.1.0
+
+  none_of_files : OnHonest before (λ files. AllByRecursion (IsAnswerOf files) (LengthWas name None ∷ [])) → AreOfFiles (LengthWas name None ∷ [])
+  none_of_files honest a is = none_given name (reading a.now name) (on_reading (λ files. AllByRecursion (IsAnswerOf files) (LengthWas name None ∷ [])) before.honest a is honest).0
+
   -- refused by a rule
-  refuses_to_open : (these : List Answer) (why : Why) → BothAre before.given after.given (IsMore these) → after.faults ≡ before.faults → IsFirstRule (opening_rules key name these) why → Halves (Ok (replies.Refused why)) None
-  refuses_to_open these why told calm first =
+  refuses_to_open : (these : List Answer) (why : Why) → BothAre before.given after.given (IsMore these) → after.faults ≡ before.faults → IsFirstRule (opening_rules key name these) why
+      → ((a : Honest) → before.honest ≡ Some a → IsFirstRule (opening_rules key name (opening_answers name (reading a.now name))) why) → Halves (Ok (replies.Refused why)) None
+  refuses_to_open these why told calm first by_files =
       empty_idle key line name refl before after words words (replies.Refused why) these [] false false only (seen_of these false told calm) refl refl
       (λ standing. refused why (seat_first (opening_rules key name these) why first) (record { host = refl; random = refl }) refl refl refl refl)
+      (λ a is none_failed. refused why (seat_first (opening_rules key name (opening_answers name (reading a.now name))) why (by_files a is)) (record { host = refl; random = refl }) refl refl refl refl)
+
+  -- so where the answers are those of the files
+  refuses_by : (these : List Answer) (why : Why) → BothAre before.given after.given (IsMore these) → after.faults ≡ before.faults → IsFirstRule (opening_rules key name these) why → AreOfFiles these → Halves (Ok (replies.Refused why)) None
+  refuses_by these why told calm first of_files = refuses_to_open these why told calm first (λ a is. subst (λ (l : List Answer). IsFirstRule (opening_rules key name l) why) (of_files a is) first)
 
   -- a call failed
   host_fails : (these : List Answer) → BothAre before.given after.given (IsMore these) → after.faults ≡ counted before.faults → Halves (Ok replies.HostFault) None
   host_fails these told rose =
       empty_idle key line name refl before after words words replies.HostFault these [] true false only (seen_of these true told rose) refl refl
-      (λ standing. host_failed (record { host = refl; random = refl }) (fails_to_open k name ByHost refl tt) refl)
+      (λ standing. host_failed (record { host = refl; random = refl }) (fails_to_open k name ByHost refl tt) refl) (λ a is none_failed. absurd (no_host_fault none_failed))
 
   -- node 0 is damaged
-  is_damaged : (these : List Answer) (damage : Damage) → BothAre before.given after.given (IsMore these) → after.faults ≡ before.faults → BlamesOpening key name these (ByDamage damage) → Halves (Ok (replies.DamagedNode damage)) None
-  is_damaged these damage told calm blames =
-      empty_idle key line name refl before after words words (replies.DamagedNode damage) these [] false false only (seen_of these false told calm) refl refl
-      (λ standing. was_damaged damage ? (record { host = refl; random = refl }) (fails_to_open k name (ByDamage damage) refl blames) refl)
+  is_damaged : (these : List Answer) (damage : Damage) → BothAre before.given after.given (IsMore these) → after.faults ≡ before.faults → NoneRefuses (opening_rules key name these) → BlamesOpening key name these (ByDamage damage) → AreOfFiles these
+      → Halves (Ok (replies.DamagedNode damage)) None
+  is_damaged these damage told calm none blames of_files =
+      let turn : (standing : Standing) → SeatTurn standing key false Empty line (seen_by these [] false false) (replies.DamagedNode damage) [] Empty = λ standing.
+      was_damaged damage (seat_none (opening_rules key name these) none) (record { host = refl; random = refl }) (fails_to_open k name (ByDamage damage) refl blames) refl in
+      empty_idle key line name refl before after words words (replies.DamagedNode damage) these [] false false only (seen_of these false told calm) refl refl turn
+      (λ a is none_failed. same_over key (reading a.now) false Empty line these [] (replies.DamagedNode damage) [] Empty (of_files a is) (turn (stands_on key (reading a.now))))
 
   wants_memory : after.faults ≡ before.faults → WhereTold before after (λ given. Unit {0}) → Halves (Err (record {})) None
   wants_memory calm told = record {
     goes = empty_wants key line name refl None before after words words
-        (both_weaker Unchanged (KeepsUnder CoversNone CoversNone (λ n. n ≡ name)) before.honest after.honest only (λ a b only_ab. only_reads CoversNone a b (λ n. n ≡ name) only_ab)) tt (λ n none. absurd none) (λ takes. takes) refl only calm refl told;
+        (both_weaker Unchanged (KeepsUnder CoversNone CoversNone (λ n. n ≡ name)) before.honest after.honest only (λ a b only_ab. only_reads CoversNone a b (λ n. n ≡ name) only_ab)) (spares_kept (Concerns false line None) before after only) tt (λ n none. absurd none) (λ takes. takes) refl only calm refl told;
     booked = tt;
   }
 
-  block_case : (size : ℕ) (block : List ℕ) (fault : OpenFault) → IsTarget name → BothAre before.given after.given (IsMore (node_answers name size block)) → after.faults ≡ before.faults → BlockRefused block fault → Halves (open_reply name fault) None
-  block_case size block fault target told calm (not_protected few other said) =
-      subst (λ (f : OpenFault). Halves (open_reply name f) None) (sym said) (refuses_to_open (node_answers name size block) whys.NotProtected told calm (not_protected_first key name target size block other))
-  block_case size block fault target told calm (node_short is short said) =
-      subst (λ (f : OpenFault). Halves (open_reply name f) None) (sym said) (is_damaged (node_answers name size block) (record { node = 0; kind = kinds.Short }) told calm (short_zero block (last_there name size block) short refl))
-  block_case size block fault target told calm (update_pending is whole flag said) =
-      subst (λ (f : OpenFault). Halves (open_reply name f) None) (sym said) (refuses_to_open (node_answers name size block) whys.Unbuilt told calm (unbuilt_first key name target size block is whole flag))
-  block_case size block fault target told calm (other_version major minor whole flag other said) =
-      subst (λ (f : OpenFault). Halves (open_reply name f) None) (sym said) (refuses_to_open (node_answers name size block) (whys.BadVersion major minor) told calm (version_first key name target size block major minor whole flag other))
-
-  secret_case : (size : ℕ) (block : List ℕ) (fault : OpenFault) → IsTarget name → BothAre before.given after.given (IsMore (node_answers name size block)) → after.faults ≡ before.faults → IsOpenable block → SecretRefused key (Some name) block fault
+  block_case : (size : ℕ) (block : List ℕ) (fault : OpenFault) → IsTarget name → BothAre before.given after.given (IsMore (node_answers name size block)) → after.faults ≡ before.faults → AreOfFiles (node_answers name size block) → BlockRefused block fault
       → Halves (open_reply name fault) None
-  secret_case size block fault target told calm openable (not_opened kind why said) =
-      subst (λ (f : OpenFault). Halves (open_reply name f) None) (sym said) (is_damaged (node_answers name size block) (record { node = 0; kind = kind }) told calm (closed_zero block kind (last_there name size block) openable.whole why refl))
-  secret_case size block fault target told calm openable (other_path secret given opens is_given other said) =
+  block_case size block fault target told calm of_files (not_protected few other said) =
+      subst (λ (f : OpenFault). Halves (open_reply name f) None) (sym said) (refuses_by (node_answers name size block) whys.NotProtected told calm (not_protected_first key name target size block other) of_files)
+  block_case size block fault target told calm of_files (node_short is short said) =
       subst (λ (f : OpenFault). Halves (open_reply name f) None) (sym said)
-      (refuses_to_open (node_answers name size block) (whys.WrongPath secret.path) told calm (path_first key name target size block openable secret opens (λ same. other (sym (same_name name given is_given) ∙ same))))
+      (is_damaged (node_answers name size block) (record { node = 0; kind = kinds.Short }) told calm (none_short key name target size block is short) (short_zero block (last_there name size block) short refl) of_files)
+  block_case size block fault target told calm of_files (update_pending is whole flag said) =
+      subst (λ (f : OpenFault). Halves (open_reply name f) None) (sym said) (refuses_by (node_answers name size block) whys.Unbuilt told calm (unbuilt_first key name target size block is whole flag) of_files)
+  block_case size block fault target told calm of_files (other_version major minor whole flag other said) =
+      subst (λ (f : OpenFault). Halves (open_reply name f) None) (sym said)
+      (refuses_by (node_answers name size block) (whys.BadVersion major minor) told calm (version_first key name target size block major minor whole flag other) of_files)
+
+  secret_case : (size : ℕ) (block : List ℕ) (fault : OpenFault) → IsTarget name → BothAre before.given after.given (IsMore (node_answers name size block)) → after.faults ≡ before.faults → AreOfFiles (node_answers name size block) → IsOpenable block
+      → SecretRefused key (Some name) block fault
+      → Halves (open_reply name fault) None
+  secret_case size block fault target told calm of_files openable (not_opened kind why said) =
+      subst (λ (f : OpenFault). Halves (open_reply name f) None) (sym said)
+      (is_damaged (node_answers name size block) (record { node = 0; kind = kind }) told calm (none_closed key name target size block openable kind why) (closed_zero block kind (last_there name size block) openable.whole why refl) of_files)
+  secret_case size block fault target told calm of_files openable (other_path secret given opens is_given other said) =
+      subst (λ (f : OpenFault). Halves (open_reply name f) None) (sym said)
+      (refuses_by (node_answers name size block) (whys.WrongPath secret.path) told calm (path_first key name target size block openable secret opens (λ same. other (sym (same_name name given is_given) ∙ same))) of_files)
     where
       same_name : (n m : Name) → Some n ≡ Some m → n ≡ m
       same_name n m same = cc
 
   -- it is accepted
   module _ (size : ℕ) (block : List ℕ) (secret : MetaSecret) (target : IsTarget name) (openable : IsOpenable block) (is : IsAccepted key (Some name) block secret) (told : BothAre before.given after.given (IsMore (node_answers name size block)))
-      (calm : after.faults ≡ before.faults) where
+      (calm : after.faults ≡ before.faults) (of_files : AreOfFiles (node_answers name size block)) where
     abbrev session : SessionState
     session = opened_session key name block secret
 
@@ -216,6 +179,9 @@ module _ (key : List ℕ) (k : ℕ) (name : Name) (utf8 : IsUtf8 name) (before a
 
     same_seat : (sheet : Sheet) → StandsOn sheet session → new_seat key name sheet ≡ seat_on sheet session
     same_seat sheet on = own_same sheet key key name name sheet.content (now sheet session.tree) [] [] false false None None false false refl refl (sym on.now_is) refl refl refl refl
+
+    abbrev act : Sheet → Act
+    act sheet = record { deed = Opening (seat_of key name sheet); done = true }
 
     turn : (standing : Standing) (sheet : Sheet) → StandsOn sheet session → standing name came sheet → SeatTurn standing key false Empty line seen (replies.Opened session.tree.size) (record { deed = Opening (seat_of key name sheet); done = true } ∷ []) (Own (new_seat key name sheet))
     turn standing sheet on stands =
@@ -268,6 +234,9 @@ module _ (key : List ℕ) (k : ℕ) (name : Name) (utf8 : IsUtf8 name) (before a
             only_it sheet n (inl same) = concerns key line name refl n same
             only_it sheet n (inr none) = absurd none
 
+            turn_now : (sheet : Sheet) → StandsOn sheet session → Stood key name sheet b.now → SeatTurn (stands_on key (reading a.now)) key false Empty line seen (replies.Opened session.tree.size) (act sheet ∷ []) (Own (new_seat key name sheet))
+            turn_now sheet on stood = turn (stands_on key (reading a.now)) sheet on (subst (λ (d : Disk). ReopensAs key sheet (reading d name) (reading d (recovery_of name))) only_ab.ends stood.as_sheet)
+
             by_speaks : (entry : Entry) → book name ≡ Some entry → (s : Bool) → speaks key entry ≡ s → LineUnder key false line seen (replies.Opened session.tree.size) None (Some session) book seats Empty a b
             by_speaks entry was false says =
                 unknown (λ knows. let e : true ≡ false = sym (subst (λ (o : Option Entry). IsSomeAnd o (λ e. speaks key e ≡ true)) was knows) ∙ says in absurd (cc))
@@ -281,7 +250,11 @@ module _ (key : List ℕ) (k : ℕ) (name : Name) (utf8 : IsUtf8 name) (before a
                   shows = of_book sheet session refl (seat_is_left (Opening (seat_of key name sheet)) seats) (record { backed = known.on.on.backed; rests = λ _. record { stands = known.on.on; clean = refl } }) (ap Own (same_seat sheet known.on.on)) refl;
                   spares = one_spares seats (Opening (seat_of key name sheet)) true;
                   concerned = only_it sheet;
-                  turn = λ _. turn (stands_on key (reading a.now)) sheet known.on.on (subst (λ (d : Disk). ReopensAs key sheet (reading d name) (reading d (recovery_of name))) only_ab.ends known.stood.as_sheet);
+                  turn = λ _. turn_now sheet known.on.on known.stood;
+                  over = λ knows none_failed. record {
+                    turn = same_over key (reading a.now) false Empty line came [] (replies.Opened session.tree.size) (act sheet ∷ []) (Own (new_seat key name sheet)) (of_files a is_a) (turn_now sheet known.on.on known.stood);
+                    files = (refl, (reading b.now, record { stands = known.stood.as_sheet; away = tt; others = λ other apart. ap (λ (d : Disk). reading d other) only_ab.ends }, λ n. refl));
+                  };
                 }
 
             by_entry : (o : Option Entry) → book name ≡ o → LineUnder key false line seen (replies.Opened session.tree.size) None (Some session) book seats Empty a b
@@ -290,7 +263,6 @@ module _ (key : List ℕ) (k : ℕ) (name : Name) (utf8 : IsUtf8 name) (before a
 
     is_accepted : Opens key name (Some name) before after (Ok session) → OpensOnFirst session before after → OnDisk before after (OpensEither session) → Halves (Ok (replies.Opened session.tree.size)) (Some session)
     is_accepted goes first either = record {
-      spares = ?;
       goes = record {
         asks = told_these (λ came. (sheets : List Sheet) → Unforged key sheets came → OnFirst sheets session came) (λ given. SeatAsks key false line (replies.Opened session.tree.size) None (Some session) given before after words words) came before after told first
             (λ on. record { seen = seen; was_seen = record { answers = refl; words = none_taken words; of_host = calm; of_words = refl }; turns = turns on });
@@ -301,29 +273,35 @@ module _ (key : List ℕ) (k : ℕ) (name : Name) (utf8 : IsUtf8 name) (before a
         wants = tt;
         seated = seated;
         named = λ n has. concerns key line name refl n has;
+        spares = spares_kept (Concerns false line None) before after only;
       };
       booked = record { seen = seen; was_seen = seen_in came [] false false before after words words (seen_of came false told calm); under = under goes either };
     }
 
+  bad_name : {given : List Answer} → ¬ (AreGood name (Some name)) → IsFirstRule (opening_rules key name given) whys.BadName
+  bad_name bad = inl (refl, λ target. bad (record { target = target; stored = (named_target name utf8 target).path_is }))
+
   by_case : (result : Result SessionState OpenFault) → IfOk result (λ session. OpensOnFirst session before after) → IfOk result (λ session. OnDisk before after (OpensEither session)) → Opens key name (Some name) before after result → Halves (open_result name result) (made_seat result)
   by_case result first either (by_answers these asked (misnamed bad are said)) =
       subst (λ (r : Result SessionState OpenFault). Halves (open_result name r) (made_seat r)) (sym said)
-      (refuses_to_open [] whys.BadName (subst (λ (l : List Answer). BothAre before.given after.given (IsMore l)) are asked.asked.told) asked.asked.faults
-      (inl (refl, λ target. bad (record { target = target; stored = (named_target name utf8 target).path_is }))))
+      (refuses_to_open [] whys.BadName (subst (λ (l : List Answer). BothAre before.given after.given (IsMore l)) are asked.asked.told) asked.asked.faults (bad_name bad) (λ a is. bad_name bad))
   by_case result first either (by_answers these asked (absent good are said)) =
       subst (λ (r : Result SessionState OpenFault). Halves (open_result name r) (made_seat r)) (sym said)
-      (refuses_to_open (LengthWas name None ∷ []) (whys.NotFound name) (subst (λ (l : List Answer). BothAre before.given after.given (IsMore l)) are asked.asked.told) asked.asked.faults
-      (inr ((λ why refuses. refuses.1 good.target), inl (refl, Contains-push [] (LengthWas name None)))))
+      (refuses_by (LengthWas name None ∷ []) (whys.NotFound name) (subst (λ (l : List Answer). BothAre before.given after.given (IsMore l)) are asked.asked.told) asked.asked.faults
+      (inr ((λ why refuses. refuses.1 good.target), inl (refl, Contains-push [] (LengthWas name None))))
+      (none_of_files (subst (λ (l : List Answer). OnHonest before (λ files. AllByRecursion (IsAnswerOf files) l)) are asked.answered.honest)))
   by_case result first either (by_answers these asked (block_refused size block fault good are why said)) =
       subst (λ (r : Result SessionState OpenFault). Halves (open_result name r) (made_seat r)) (sym said)
-      (block_case size block fault good.target (subst (λ (l : List Answer). BothAre before.given after.given (IsMore l)) are asked.asked.told) asked.asked.faults why)
+      (block_case size block fault good.target (subst (λ (l : List Answer). BothAre before.given after.given (IsMore l)) are asked.asked.told) asked.asked.faults
+      (node_of_files size block (subst (λ (l : List Answer). OnHonest before (λ files. AllByRecursion (IsAnswerOf files) l)) are asked.answered.honest)) why)
   by_case result first either (by_answers these asked (secret_refused size block fault good are openable why said)) =
       subst (λ (r : Result SessionState OpenFault). Halves (open_result name r) (made_seat r)) (sym said)
-      (secret_case size block fault good.target (subst (λ (l : List Answer). BothAre before.given after.given (IsMore l)) are asked.asked.told) asked.asked.faults openable why)
+      (secret_case size block fault good.target (subst (λ (l : List Answer). BothAre before.given after.given (IsMore l)) are asked.asked.told) asked.asked.faults
+      (node_of_files size block (subst (λ (l : List Answer). OnHonest before (λ files. AllByRecursion (IsAnswerOf files) l)) are asked.answered.honest)) openable why)
   by_case result first either (by_answers these asked (accepted size block secret good are openable is said)) =
       subst (λ (r : Result SessionState OpenFault). Halves (open_result name r) (made_seat r)) (sym said)
       (is_accepted size block secret good.target openable is (subst (λ (l : List Answer). BothAre before.given after.given (IsMore l)) are asked.asked.told) asked.asked.faults
-      (by_answers these asked (accepted size block secret good are openable is refl))
+      (node_of_files size block (subst (λ (l : List Answer). OnHonest before (λ files. AllByRecursion (IsAnswerOf files) l)) are asked.answered.honest)) (by_answers these asked (accepted size block secret good are openable is refl))
       (subst (λ (r : Result SessionState OpenFault). IfOk r (λ session. OpensOnFirst session before after)) said first) (subst (λ (r : Result SessionState OpenFault). IfOk r (λ session. OnDisk before after (OpensEither session))) said either))
   by_case result first either (length_failed good asked said) = subst (λ (r : Result SessionState OpenFault). Halves (open_result name r) (made_seat r)) (sym said) (host_fails [] asked.asked.told asked.asked.faults)
   by_case result first either (read_failed size good asked said) = subst (λ (r : Result SessionState OpenFault). Halves (open_result name r) (made_seat r)) (sym said) (host_fails (LengthWas name (Some size) ∷ []) asked.asked.told asked.asked.faults)

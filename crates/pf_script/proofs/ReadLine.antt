@@ -24,6 +24,7 @@ use Rattle.pf_session.specs.Backing.{IsBacked}
 use Rattle.pf_session.specs.Moving.{IsKeptOn}
 use Rattle.pf_session.specs.Reading.{KeepsFields, StaysRead, BackedRead, ReadsStanding}
 use Rattle.pf_session.specs.State.{SessionState, file_of}
+use Rattle.pf_session.proofs.Created.{aside_kept}
 use Rattle.pf_script.specs.BookSeats.{Covers, KeepsUnder}
 use Rattle.pf_script.specs.Desk.{IsSeated, Shows, whole_file, seat_on}
 use Rattle.pf_script.specs.DeskSteps.{SeatAsks, SeatGoes}
@@ -155,7 +156,7 @@ module _ (key : List ℕ) (k at count : ℕ) (old : SessionState) (seated : IsSe
         at_last [] (λ unforged.
         let out = on_sheet (Err (trees.Damaged d)) facts sealed base among kept.backed unforged in (
           Own own,
-          was_damaged d ? (record { host = refl; random = refl }) (not_read k at count own (ByDamage d) refl out.1) refl,
+          was_damaged d (none_then (refuses whys.TooLong (PIECE < count) ∷ []) (Own own) own refl whole ((λ other long. omega (arith, long.1, few)), tt)) (record { host = refl; random = refl }) (not_read k at count own (ByDamage d) refl out.1) refl,
           shows_new sealed base among linked kept out.0.backed out.0.same,
         ))
 
@@ -173,7 +174,7 @@ module _ (key : List ℕ) (k at count : ℕ) (old : SessionState) (seated : IsSe
     by_result : (r : Result ℕ TreeFault) → IfOk r (λ n. n ≡ readable old.tree at (length buffer)) → HasCause before.faults after.faults (host_part r) → WhereTold before after (ReadFacts r at buffer old new)
         → SeatGoes key false (lines.Read k at count) (read_reply buffer r) (Some old) (Some new) before after words words
     by_result (Ok n) counted cause told =
-        goes_told key false (lines.Read k at count) old before after words words (replies.Given buffer) (cause.still, refl) new
+        goes_told key false (lines.Read k at count) old before after words words (aside_kept old.name before after disk) (replies.Given buffer) (cause.still, refl) new
         (told_weaker (ReadFacts (Ok n) at buffer old new) (λ given. SeatAsks key false (lines.Read k at count) (replies.Given buffer) (Some old) (Some new) given before after words words) before after told
         (λ given facts. record {
           seen = seen_by given [] false false;
@@ -181,7 +182,7 @@ module _ (key : List ℕ) (k at count : ℕ) (old : SessionState) (seated : IsSe
           turns = whole_turns key false (lines.Read k at count) (seen_by given [] false false) (replies.Given buffer) old (Some new) given whole (given_turns few given n counted facts);
         })) books seated_new (ap (λ (s : SessionState). s.name) fields)
     by_result (Err (trees.Damaged d)) counted cause told =
-        goes_told key false (lines.Read k at count) old before after words words (replies.DamagedNode d) (cause.still, refl) new
+        goes_told key false (lines.Read k at count) old before after words words (aside_kept old.name before after disk) (replies.DamagedNode d) (cause.still, refl) new
         (told_weaker (ReadFacts (Err (trees.Damaged d)) at buffer old new) (λ given. SeatAsks key false (lines.Read k at count) (replies.DamagedNode d) (Some old) (Some new) given before after words words) before after told
         (λ given facts. record {
           seen = seen_by given [] false false;
@@ -189,7 +190,7 @@ module _ (key : List ℕ) (k at count : ℕ) (old : SessionState) (seated : IsSe
           turns = whole_turns key false (lines.Read k at count) (seen_by given [] false false) (replies.DamagedNode d) old (Some new) given whole (damage_turns few given d facts);
         })) books seated_new (ap (λ (s : SessionState). s.name) fields)
     by_result (Err trees.Host) counted cause told =
-        goes_told key false (lines.Read k at count) old before after words words replies.HostFault (cause.once, refl) new
+        goes_told key false (lines.Read k at count) old before after words words (aside_kept old.name before after disk) replies.HostFault (cause.once, refl) new
         (told_weaker (ReadFacts (Err trees.Host) at buffer old new) (λ given. SeatAsks key false (lines.Read k at count) replies.HostFault (Some old) (Some new) given before after words words) before after told
         (λ given facts. record {
           seen = seen_by given [] true false;
@@ -197,7 +198,7 @@ module _ (key : List ℕ) (k at count : ℕ) (old : SessionState) (seated : IsSe
           turns = whole_turns key false (lines.Read k at count) (seen_by given [] true false) replies.HostFault old (Some new) given whole (host_turns few given facts);
         })) books seated_new (ap (λ (s : SessionState). s.name) fields)
     by_result (Err trees.Memory) counted cause told =
-        goes_wanting key false (lines.Read k at count) old before after words words (record {}) new (record { takes = λ none. none; told = told_weaker (ReadFacts (Err trees.Memory) at buffer old new) (λ given. Unit {0}) before after told (λ given facts. tt); ends = inl (record { seat = fields; disk = disk; words = refl }) }) books seated_new
+        goes_wanting key false (lines.Read k at count) old before after words words (aside_kept old.name before after disk) (record {}) new (record { takes = λ none. none; told = told_weaker (ReadFacts (Err trees.Memory) at buffer old new) (λ given. Unit {0}) before after told (λ given facts. tt); ends = inl (record { seat = fields; disk = disk; words = refl }) }) books seated_new
         (ap (λ (s : SessionState). s.name) fields) cause.still refl
 
 pub ends_count : (r : Result ℕ TreeFault) (given : AtNodes) (at : ℕ) (buffer : List ℕ) (old new : TreeState) → ReadEnds r given at buffer old new → IfOk r (λ n. n ≡ readable old at (length buffer))

@@ -9,8 +9,8 @@ use Rattle.node_tree.specs.State.{TreeState, readable}
 use Rattle.node_tree.specs.declared.fault.TreeFault.{TreeFault}
 use Rattle.node_tree.specs.declared.fault.TreeFault.TheVariants as trees
 use Rattle.pf_io.specs.Counts.{HasCause}
-use Rattle.pf_io.specs.Disk.{Name}
-use Rattle.pf_io.specs.Host.{HostState, OnDisk}
+use Rattle.pf_io.specs.Disk.{Name, reading}
+use Rattle.pf_io.specs.Host.{Answer, HostState, OnDisk}
 use Rattle.pf_io.specs.Unchanged.{KeepsDisk}
 use Rattle.pf_io.specs.Words.{WordsState}
 use Rattle.pf_session.specs.Reading.{KeepsFields, ReadsStanding, StandingRead}
@@ -20,6 +20,7 @@ use Rattle.pf_script.specs.BookSeats.{Covers, KeepsUnder}
 use Rattle.pf_script.specs.BookTurns.{of_book, SeatAgrees, SeatBooked}
 use Rattle.pf_script.specs.Desk.{IsSeated, seat_on}
 use Rattle.pf_script.specs.DeskSteps.{CountsFault}
+use Rattle.pf_script.specs.FileTurns.{stands_on}
 use Rattle.pf_script.specs.Rules.{refuses}
 use Rattle.pf_script.specs.Script.{Own}
 use Rattle.pf_script.specs.SeatReplies.{read_reply}
@@ -30,6 +31,7 @@ use Rattle.pf_script.specs.declared.line.ScriptLine.TheVariants as lines
 use Rattle.pf_script.specs.declared.reply.Reply.{Reply}
 use Rattle.pf_script.specs.declared.reply.Reply.TheVariants as replies
 use Rattle.pf_script.specs.declared.reply.Why.TheVariants as whys
+use Rattle.pf_script.proofs.OverGiven.{over_idle}
 use Rattle.pf_script.proofs.ReadKeeping.{read_keeps, stood_read}
 use Rattle.pf_script.proofs.ReadLine.{slice_is, same_seat, whole_new, kept_new, ends_count}
 use Rattle.pf_script.proofs.Refusing.{none_then, none_taken}
@@ -44,7 +46,7 @@ module _ (key : List ℕ) (k at count : ℕ) (old : SessionState) (seated : IsSe
 
   -- the seat stays, and the line has this turn on each sheet that the file stands for
   by_turn : (r : Result ℕ TreeFault) (of_host : Bool) (reply : Reply) → ReadsStanding r at buffer old new before → CountsFault of_host before.faults after.faults
-      → ((standing : Standing) (base : Sheet) → StandingRead r base at buffer old new → SeatTurn standing key false (Own (seat_on base old)) line (seen_by reads.these [] of_host false) reply [] (Own (seat_on base old)))
+      → ((standing : Standing) (base : Sheet) (given : List Answer) → StandingRead r base at buffer old new → SeatTurn standing key false (Own (seat_on base old)) line (seen_by given [] of_host false) reply [] (Own (seat_on base old)))
       → SeatAgrees key false line reply (Some old) (Some new) before after words words
   by_turn r of_host reply standing counts turn = record {
     seen = seen_by reads.these [] of_host false;
@@ -52,7 +54,6 @@ module _ (key : List ℕ) (k at count : ℕ) (old : SessionState) (seated : IsSe
     under = on_disk_by Unchanged key false line (seen_by reads.these [] of_host false) reply old whole (Some new) before after keeps disk
         (λ a b is_a is_b only book seats agrees base on.
         let stands = stood_read old seated.of_script new r at buffer before a is_a standing base on.stood on.kept.backed in record {
-          over = ?;
           acts = [];
           left = seats;
           after = Own (seat_on base old);
@@ -63,7 +64,10 @@ module _ (key : List ℕ) (k at count : ℕ) (old : SessionState) (seated : IsSe
               (ap Own (same_seat key k at count old seated whole new fields result buffer room before after reads base stands.same)) refl;
           spares = λ s has apart. has;
           concerned = none_concerned false line (Some old);
-          turn = λ _. turn _ base stands;
+          turn = λ _. turn (stands_on key (reading a.now)) base reads.these stands;
+          over = λ _ calm.
+              over_idle key false (Own (seat_on base old)) line [] reply (Own (seat_on base old)) a b only
+              (subst (λ (h : Bool). SeatTurn (stands_on key (reading a.now)) key false (Own (seat_on base old)) line (seen_by [] [] h false) reply [] (Own (seat_on base old))) calm.host (turn (stands_on key (reading a.now)) base [] stands));
         });
   }
 
@@ -71,14 +75,14 @@ module _ (key : List ℕ) (k at count : ℕ) (old : SessionState) (seated : IsSe
       → SeatBooked key false line (read_reply buffer r) (Some old) (Some new) before after words words
   by_result (Ok n) counted cause standing =
       by_turn (Ok n) false (replies.Given buffer) standing cause.still
-      (λ standing base stands.
+      (λ standing base given stands.
       let own = seat_on base old in
-      subst (λ (b : List ℕ). SeatTurn standing key false (Own own) line (seen_by reads.these [] false false) (replies.Given b) [] (Own own))
+      subst (λ (b : List ℕ). SeatTurn standing key false (Own own) line (seen_by given [] false false) (replies.Given b) [] (Own own))
       (sym (slice_is key k at count old seated whole new fields result buffer room before after reads n counted base stands.slice))
       (accepted (none_then (refuses whys.TooLong (PIECE < count) ∷ []) (Own own) own refl whole ((λ other long. omega (arith, long.1, few)), tt)) (record { host = refl; random = refl }) (read k at count own refl)))
-  by_result (Err (trees.Damaged d)) counted cause standing = by_turn (Err (trees.Damaged d)) false (replies.DamagedNode d) standing cause.still (λ standing base stands. absurd stands.undamaged)
+  by_result (Err (trees.Damaged d)) counted cause standing = by_turn (Err (trees.Damaged d)) false (replies.DamagedNode d) standing cause.still (λ standing base given stands. absurd stands.undamaged)
   by_result (Err trees.Host) counted cause standing =
-      by_turn (Err trees.Host) true replies.HostFault standing cause.once (λ standing base stands. host_failed (record { host = refl; random = refl }) (not_read k at count (seat_on base old) ByHost refl tt) refl)
+      by_turn (Err trees.Host) true replies.HostFault standing cause.once (λ standing base given stands. host_failed (record { host = refl; random = refl }) (not_read k at count (seat_on base old) ByHost refl tt) refl)
   by_result (Err trees.Memory) counted cause standing = tt
 
 pub read_under : (key : List ℕ) (k at count : ℕ) (old new : SessionState) (result : Result ℕ TreeFault) (buffer : List ℕ) (before after : HostState) (words : WordsState) → IsSeated key old → old.broken ≡ false → count ≤ 32768

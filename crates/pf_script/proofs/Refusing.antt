@@ -26,6 +26,7 @@ use Rattle.pf_script.specs.declared.reply.Reply.TheVariants as replies
 use Rattle.pf_script.specs.declared.reply.Why.{Why}
 use Rattle.pf_script.specs.declared.reply.Why.TheVariants as whys
 use Rattle.pf_script.proofs.ActKeeping.{unchanged_now}
+use Rattle.pf_script.proofs.Sparing.{spares_none}
 
 abbrev pub idle_seen : Seen
 idle_seen = record { given = []; words = []; host_failed = false; words_failed = false }
@@ -57,13 +58,13 @@ module _ (key : List ℕ) (taken : Bool) (line : ScriptLine) (why : Why) (old : 
 
   pub refused_goes : IsSeatOf key old → SeatGoes key taken line (Ok (replies.Refused why)) old old host host words words
   refused_goes seated = record {
-    spares = ?;
     asks = told_by (λ given. SeatAsks key taken line (replies.Refused why) old old given host host words words) [] host host (told_none host host refl) refused_asks;
     books = both_same (KeepsUnder (CoversSome old) (CoversSome old) (Concerns taken line old)) host.honest host.honest refl (same_keeps (CoversSome old) (Concerns taken line old));
     counts = (refl, refl);
     wants = tt;
     seated = seated;
     named = λ name has. inl has;
+    spares = spares_none (Concerns taken line old) host;
   }
 
 -- a session is kept
@@ -75,13 +76,13 @@ keeps_same (Some own) = refl
 pub nothing_wanting : (key : List ℕ) (taken : Bool) (line : ScriptLine) (fault : Memory) (old : Option SessionState) (host : HostState) (words : WordsState) → ¬ (TakesNone line) → IsSeatOf key old
     → SeatGoes key taken line (Err fault) old old host host words words
 nothing_wanting key taken line fault old host words takes seated = record {
-  spares = ?;
   asks = tt;
   books = both_same (KeepsUnder (CoversSome old) (CoversSome old) (Concerns taken line old)) host.honest host.honest refl (same_keeps (CoversSome old) (Concerns taken line old));
   counts = (refl, refl);
   wants = record { takes = takes; told = told_by (λ given. Unit {0}) [] host host (told_none host host refl) tt; ends = inl (record { seat = keeps_same old; disk = both_same (Ran IsImage Stays) host.honest host.honest refl unchanged_now; words = refl }) };
   seated = seated;
   named = λ name has. inl has;
+  spares = spares_none (Concerns taken line old) host;
 }
 
 -- the first rules of a line that needs a file

@@ -9,10 +9,11 @@ use Rattle.pf_io.specs.Host.{Answer, HostState, WhereTold, OnDisk}
 use Rattle.pf_io.specs.Words.{WordsState}
 use Rattle.pf_io.specs.declared.faults.Memory.{Memory}
 use Rattle.pf_io.proofs.Telling.{told_by, both_weaker}
+use Rattle.pf_session.specs.Aside.{Aside}
 use Rattle.pf_session.specs.State.{SessionState}
 use Rattle.pf_script.specs.BookSeats.{Covering, Covers, CoversNone, KeepsUnder}
 use Rattle.pf_script.specs.Desk.{IsSeated, Shows, seat_on}
-use Rattle.pf_script.specs.DeskSteps.{Unfolds, CountsFault, SeatTurns, SeatAsks, Concerns, CountsReply, SeatWants, SeatGoes, is_host_fault, is_words_fault}
+use Rattle.pf_script.specs.DeskSteps.{Unfolds, CountsFault, SeatTurns, SeatAsks, Concerns, CountsReply, Spares, SeatWants, SeatGoes, is_host_fault, is_words_fault}
 use Rattle.pf_script.specs.Script.{OwnSeat, Seat, Own, sheets_of}
 use Rattle.pf_script.specs.SeatReplies.{flush_reply}
 use Rattle.pf_script.specs.Turns.{Seen, SeatTurn, on_carried, Blame, ByHost, ByDamage}
@@ -20,6 +21,7 @@ use Rattle.pf_script.specs.declared.line.ScriptLine.{ScriptLine}
 use Rattle.pf_script.specs.declared.reply.Reply.{Reply}
 use Rattle.pf_script.proofs.Flushed.{SeenOf, host_blamed, fault_of}
 use Rattle.pf_script.proofs.Showing.{shows_whole}
+use Rattle.pf_script.proofs.Sparing.{spares_aside}
 use Rattle.pf_script.proofs.StepKeeping.{keeps_more}
 
 abbrev pub seen_by : List Answer → List (List ℕ) → Bool → Bool → Seen
@@ -70,7 +72,10 @@ false_true b is_true is_false = let e : true ≡ false = sym is_true ∙ is_fals
 pub shows_same : (sealed : List Sheet) (seat : Seat) (session : Option SessionState) → Shows sealed seat session → Shows (sealed ++ []) seat session
 shows_same sealed seat session shows = subst (λ (l : List Sheet). Shows l seat session) (sym (append-nil sealed)) shows
 
-module _ (key : List ℕ) (taken : Bool) (line : ScriptLine) (old : SessionState) (before after : HostState) (random random' : WordsState) where
+module _ (key : List ℕ) (taken : Bool) (line : ScriptLine) (old : SessionState) (before after : HostState) (random random' : WordsState) (aside : Aside old.name before after) where
+  spares_on : Spares (Concerns taken line (Some old)) before after
+  spares_on = spares_aside (Concerns taken line (Some old)) old.name (inl refl) before after aside
+
   books_on : (last : Covering) → OnDisk before after (KeepsUnder (Covers old) last (λ name. name ≡ old.name)) → OnDisk before after (KeepsUnder (Covers old) last (Concerns taken line (Some old)))
   books_on last books =
       both_weaker (KeepsUnder (Covers old) last (λ name. name ≡ old.name)) (KeepsUnder (Covers old) last (Concerns taken line (Some old))) before.honest after.honest books
@@ -80,27 +85,27 @@ module _ (key : List ℕ) (taken : Bool) (line : ScriptLine) (old : SessionState
   pub goes_wanting : (fault : Memory) (new : SessionState) → SeatWants line (Some old) (Some new) before after random random' → OnDisk before after (KeepsUnder (Covers old) (Covers new) (λ name. name ≡ old.name)) → IsSeated key new → new.name ≡ old.name
       → after.faults ≡ before.faults → random'.faults ≡ random.faults → SeatGoes key taken line (Err fault) (Some old) (Some new) before after random random'
   goes_wanting fault new wants books seated name_is on_host on_words = record {
-    spares = ?;
     asks = tt;
     books = books_on (Covers new) books;
     counts = (on_host, on_words);
     wants = wants;
     seated = seated;
     named = λ name has. inl (has ∙ name_is);
+    spares = spares_on;
   }
 
   module _ (reply : Reply) (counts : CountsReply (Ok reply) before after random random') where
     -- the session goes on
     pub goes_told : (new : SessionState) → WhereTold before after (λ given. SeatAsks key taken line reply (Some old) (Some new) given before after random random')
         → OnDisk before after (KeepsUnder (Covers old) (Covers new) (λ name. name ≡ old.name)) → IsSeated key new → new.name ≡ old.name → SeatGoes key taken line (Ok reply) (Some old) (Some new) before after random random'
-    goes_told new asks books seated name_is = record { spares = ?; asks = asks; books = books_on (Covers new) books; counts = counts; wants = tt; seated = seated; named = λ name has. inl (has ∙ name_is) }
+    goes_told new asks books seated name_is = record { asks = asks; books = books_on (Covers new) books; counts = counts; wants = tt; seated = seated; named = λ name has. inl (has ∙ name_is); spares = spares_on }
 
     -- it is let go
     pub out_told : WhereTold before after (λ given. SeatAsks key taken line reply (Some old) None given before after random random')
         → OnDisk before after (KeepsUnder (Covers old) CoversNone (λ name. name ≡ old.name)) → SeatGoes key taken line (Ok reply) (Some old) None before after random random'
-    out_told asks books = record { spares = ?; asks = asks; books = books_on CoversNone books; counts = counts; wants = tt; seated = tt; named = λ name none. absurd none }
+    out_told asks books = record { asks = asks; books = books_on CoversNone books; counts = counts; wants = tt; seated = tt; named = λ name none. absurd none; spares = spares_on }
 
-module _ (key : List ℕ) (taken : Bool) (line : ScriptLine) (reply : Reply) (old : SessionState) (before after : HostState) (random random' : WordsState) (these : List Answer) (words : List (List ℕ)) (of_host of_words : Bool)
+module _ (key : List ℕ) (taken : Bool) (line : ScriptLine) (reply : Reply) (old : SessionState) (before after : HostState) (random random' : WordsState) (aside : Aside old.name before after) (these : List Answer) (words : List (List ℕ)) (of_host of_words : Bool)
     (seen : SeenOf these words of_host of_words before after random random') (host_is : is_host_fault reply ≡ of_host) (words_is : is_words_fault reply ≡ of_words) where
   asks_by : (new : Option SessionState) → SeatTurns key taken line (seen_by these words of_host of_words) reply (Some old) new these → SeatAsks key taken line reply (Some old) new these before after random random'
   asks_by new turns = record {
@@ -115,11 +120,11 @@ module _ (key : List ℕ) (taken : Bool) (line : ScriptLine) (reply : Reply) (ol
   pub goes_on : (new : SessionState) → SeatTurns key taken line (seen_by these words of_host of_words) reply (Some old) (Some new) these → OnDisk before after (KeepsUnder (Covers old) (Covers new) (λ name. name ≡ old.name))
       → IsSeated key new → new.name ≡ old.name → SeatGoes key taken line (Ok reply) (Some old) (Some new) before after random random'
   goes_on new turns =
-      goes_told key taken line old before after random random' reply counts_by new
+      goes_told key taken line old before after random random' aside reply counts_by new
       (told_by (λ given. SeatAsks key taken line reply (Some old) (Some new) given before after random random') these before after seen.told (asks_by (Some new) turns))
 
   pub goes_out : SeatTurns key taken line (seen_by these words of_host of_words) reply (Some old) None these → OnDisk before after (KeepsUnder (Covers old) CoversNone (λ name. name ≡ old.name))
       → SeatGoes key taken line (Ok reply) (Some old) None before after random random'
   goes_out turns =
-      out_told key taken line old before after random random' reply counts_by
+      out_told key taken line old before after random random' aside reply counts_by
       (told_by (λ given. SeatAsks key taken line reply (Some old) None given before after random random') these before after seen.told (asks_by None turns))

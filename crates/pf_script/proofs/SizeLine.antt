@@ -104,7 +104,7 @@ module _ (key : List ℕ) (k size : ℕ) (small : size ≤ 2 ^ 32) (old new : Se
   module _ (result : Result (Unit {0}) SizeFault) (before after : HostState) (random random' : WordsState) (seen : SizeSeen key size small result old new before after random random') where
     by_outcome : (outcome : Outcome) → seen.outcome ≡ outcome → SeatGoes key false (lines.Size k size) (outcome_reply (sized size) outcome) (Some old) (Some new) before after random random'
     by_outcome (Went flushed) is =
-        goes_told key false (lines.Size k size) old before after random random' (replies.Sized size)
+        goes_told key false (lines.Size k size) old before after random random' seen.aside (replies.Sized size)
         (subst (λ (o : Outcome). CountsFault (host_in o) before.faults after.faults) is seen.on_host, subst (λ (o : Outcome). CountsFault (words_in o) random.faults random'.faults) is seen.on_words) new
         (told_weaker (λ given. SizeTold size old new given seen.words seen.outcome) (λ given. SeatAsks key false (lines.Size k size) (replies.Sized size) (Some old) (Some new) given before after random random') before after seen.told
         (λ given told. record {
@@ -119,7 +119,7 @@ module _ (key : List ℕ) (k size : ℕ) (small : size ≤ 2 ^ 32) (old new : Se
               (went_turns given seen.words flushed (subst (λ (o : Outcome). SizeTold size old new given seen.words o) is told));
         })) seen.books seen.seated_new seen.name_is
     by_outcome (Broke blame) is =
-        goes_told key false (lines.Size k size) old before after random random' (flush_reply (fault_of blame)) (
+        goes_told key false (lines.Size k size) old before after random random' seen.aside (flush_reply (fault_of blame)) (
           subst (λ b. CountsFault b before.faults after.faults) (sym (host_reply blame)) (subst (λ (o : Outcome). CountsFault (host_in o) before.faults after.faults) is seen.on_host),
           subst (λ b. CountsFault b random.faults random'.faults) (sym (words_reply blame)) (subst (λ (o : Outcome). CountsFault (words_in o) random.faults random'.faults) is seen.on_words),
         ) new
@@ -136,7 +136,7 @@ module _ (key : List ℕ) (k size : ℕ) (small : size ≤ 2 ^ 32) (old new : Se
               (broke_turns given seen.words blame (subst (λ (o : Outcome). SizeTold size old new given seen.words o) is told));
         })) seen.books seen.seated_new seen.name_is
     by_outcome Lacked is =
-        goes_told key false (lines.Size k size) old before after random random' replies.WordsFault
+        goes_told key false (lines.Size k size) old before after random random' seen.aside replies.WordsFault
         (subst (λ (o : Outcome). CountsFault (host_in o) before.faults after.faults) is seen.on_host, subst (λ (o : Outcome). CountsFault (words_in o) random.faults random'.faults) is seen.on_words) new
         (told_weaker (λ given. SizeTold size old new given seen.words seen.outcome) (λ given. SeatAsks key false (lines.Size k size) replies.WordsFault (Some old) (Some new) given before after random random') before after seen.told
         (λ given told. record {
@@ -151,7 +151,7 @@ module _ (key : List ℕ) (k size : ℕ) (small : size ≤ 2 ^ 32) (old new : Se
               (lacked_turns given seen.words (subst (λ (o : Outcome). SizeTold size old new given seen.words o) is told));
         })) seen.books seen.seated_new seen.name_is
     by_outcome Wanted is =
-        goes_wanting key false (lines.Size k size) old before after random random' (record {}) new (record { takes = λ none. none; told = told_weaker (λ given. SizeTold size old new given seen.words seen.outcome) (λ given. Unit {0}) before after seen.told (λ given facts. tt); ends = inr (tt, seen.breaks is) }) seen.books seen.seated_new seen.name_is
+        goes_wanting key false (lines.Size k size) old before after random random' seen.aside (record {}) new (record { takes = λ none. none; told = told_weaker (λ given. SizeTold size old new given seen.words seen.outcome) (λ given. Unit {0}) before after seen.told (λ given facts. tt); ends = inr (tt, seen.breaks is) }) seen.books seen.seated_new seen.name_is
         (subst (λ (o : Outcome). CountsFault (host_in o) before.faults after.faults) is seen.on_host) (subst (λ (o : Outcome). CountsFault (words_in o) random.faults random'.faults) is seen.on_words)
 
 pub size_goes : (key : List ℕ) (k size : ℕ) (old new : SessionState) (result : Result (Unit {0}) SizeFault) (before after : HostState) (random random' : WordsState) → size ≤ 2 ^ 32 → IsSeated key old → old.broken ≡ false

@@ -5,12 +5,13 @@ use Rattle.std.proofs.lemmas.List.{append_assoc}
 use Rattle.node_tree.specs.Applying.{Size}
 use Rattle.node_tree.specs.declared.fault.TreeFault.{TreeFault}
 use Rattle.node_tree.specs.declared.fault.TreeFault.TheVariants as trees
-use Rattle.pf_io.specs.Disk.{IsImage, reading}
+use Rattle.pf_io.specs.Disk.{Name, IsImage, reading}
 use Rattle.pf_io.specs.Host.{HostState, Both, WhereTold, OnDisk}
 use Rattle.pf_io.specs.Moments.{Honest}
 use Rattle.pf_io.specs.Words.{WordsState}
 use Rattle.pf_io.specs.declared.faults.Memory.{Memory}
 use Rattle.pf_io.proofs.Telling.{told_by, told_then, told_weaker, told_none, both_then}
+use Rattle.pf_session.specs.Aside.{Aside}
 use Rattle.pf_session.specs.Asking.{IsTaken as AreTaken}
 use Rattle.pf_session.specs.Changing.{refused, unchanged, changed, not_flushed, flushed_and_changed, SizeRefused, SizeGoes, stepped, StepGoes}
 use Rattle.pf_session.specs.Faults.{size_of_flush, size_of_tree}
@@ -34,6 +35,7 @@ use Rattle.pf_script.proofs.OfScript.{of_flushed}
 use Rattle.pf_script.proofs.Refusing.{none_taken}
 use Rattle.pf_script.proofs.SizeSet.{size_set}
 use Rattle.pf_script.proofs.SizeTold.{SizeTold, told_same, told_change, told_piece}
+use Rattle.pf_script.proofs.Sparing.{aside_on}
 use Rattle.pf_script.proofs.StepKeeping.{keeps_then, keeps_more}
 use Rattle.pf_script.proofs.WriteLine.{wanted_breaks}
 
@@ -122,6 +124,7 @@ module _ (key : List ℕ) (size : ℕ) (small : size ≤ 2 ^ 32) where
     pub seated_new : IsSeated key new
     pub name_is : new.name ≡ old.name
     pub books : OnDisk before after (KeepsUnder (Covers old) (Covers new) (λ name. name ≡ old.name))
+    pub aside : Aside old.name before after
 
   module _ (n : ℕ) (result : Result Written SizeFault) (old new : SessionState) (before after : HostState) (random random' : WordsState) (seated : IsSeated key old) (sets : SetsSize result n old new before after random random') where
     set_books : OnDisk before after (KeepsUnder (Covers old) (Covers new) (λ name. name ≡ old.name))
@@ -145,6 +148,7 @@ module _ (key : List ℕ) (size : ℕ) (small : size ≤ 2 ^ 32) where
     seated_new = (set_seated size (Ok written) old new before after random random' seated sets).0;
     name_is = (set_seated size (Ok written) old new before after random random' seated sets).1;
     books = set_books size (Ok written) old new before after random random' seated sets;
+    aside = sets.aside;
   }
   last_seen written old new before after random random' seated few sets (set_changed flushed other said some seen) = record {
     outcome = Went flushed;
@@ -159,6 +163,7 @@ module _ (key : List ℕ) (size : ℕ) (small : size ≤ 2 ^ 32) where
     seated_new = (set_seated size (Ok written) old new before after random random' seated sets).0;
     name_is = (set_seated size (Ok written) old new before after random random' seated sets).1;
     books = set_books size (Ok written) old new before after random random' seated sets;
+    aside = sets.aside;
   }
   last_seen written old new before after random random' seated few sets (set_broken outcome fault said reply stays other seen breaks) = absurd (cc)
 
@@ -183,6 +188,7 @@ module _ (key : List ℕ) (size : ℕ) (small : size ≤ 2 ^ 32) where
     seated_new = (set_seated n (Err fault) old new before after random random' seated sets).0;
     name_is = (set_seated n (Err fault) old new before after random random' seated sets).1;
     books = set_books n (Err fault) old new before after random random' seated sets;
+    aside = sets.aside;
   }
 
   -- a piece, and what came after it
@@ -232,6 +238,7 @@ module _ (key : List ℕ) (size : ℕ) (small : size ≤ 2 ^ 32) where
           seated_new = rest.seated_new;
           name_is = rest.name_is ∙ mid_name;
           books = all_books;
+          aside = aside_on old.name before between after sets.aside (subst (λ (n : Name). Aside n between after) mid_name rest.aside);
         }
 
   pub size_seen : (result : Result (Unit {0}) SizeFault) (old new : SessionState) (before after : HostState) (random random' : WordsState) → IsSeated key old → SizesGo result size old new before after random random' → SizeSeen result old new before after random random'

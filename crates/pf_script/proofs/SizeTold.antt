@@ -90,6 +90,7 @@ module _ (key : List ℕ) (sealed : List Sheet) (own : OwnSeat) (k size : ℕ) (
             (subst (λ (w : List (List ℕ)). LineEnds key sealed own (lines.Size k size) given w (host_blamed blame) false (flush_reply (fault_of blame)) new acts) (sym words_are) ends);
         lack = λ is acts ends. fin.lack is acts (subst (λ (w : List (List ℕ)). LineEnds key sealed own (lines.Size k size) given w false true replies.WordsFault new acts) (sym words_are) ends);
         memory = fin.memory;
+        passes = passes;
       }) told
   size_ends old _ _ outcome (told_piece _ mid _ these those first more flushed _ far size_is told rest) fin made words sheets base was on before_it split words_are =
       let steps = resize_steps size size (old.tree.size + 32768) (omega arith) in
@@ -105,4 +106,5 @@ module _ (key : List ℕ) (sealed : List Sheet) (own : OwnSeat) (k size : ℕ) (
         broke = λ blame is acts ends. absurd (cc);
         lack = λ is acts ends. absurd (cc);
         memory = λ is. absurd (cc);
+        passes = passes;
       }) told

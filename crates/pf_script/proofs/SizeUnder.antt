@@ -37,7 +37,7 @@ use Rattle.pf_script.proofs.ChangeLeft.{ChangeLeft}
 use Rattle.pf_script.proofs.ChangeTold.{Outcome, Went, Broke, Lacked, Wanted, host_in, words_in}
 use Rattle.pf_script.proofs.ChangeUnder.{Progress, Fell, change_known}
 use Rattle.pf_script.proofs.Flushed.{host_blamed, fault_of}
-use Rattle.pf_script.proofs.LineUnder.{begins, fell_under}
+use Rattle.pf_script.proofs.LineUnder.{begins, changed_over, fell_under}
 use Rattle.pf_script.proofs.SeatCalls.{seen_by}
 use Rattle.pf_script.proofs.SizeKeeping.{size_keeps}
 use Rattle.pf_script.proofs.SizeLeft.{SizeLeft, kept_size, one_change, one_piece, size_in}
@@ -161,6 +161,9 @@ module _ (key : List ℕ) (k size : ℕ) (small : size ≤ 2 ^ 32) (old new : Se
           turn = λ _.
               accepted (line_passes key k size small old new whole base these) (record { host = refl; random = refl })
               (changed own (seat_on out.base new) line (replies.Sized size) out.made out.sheets out.asks then.was.makes (to_size k size));
+          over = λ _ calm.
+              changed_over key line (replies.Sized size) own (seat_on out.base new) out.made words out.sheets book seats then.left a b (λ given. line_passes key k size small old new whole base given) out.asks then.was.makes
+              (to_size k size) agrees on.image then.did on.entry on.was;
         });
   }
   by_outcome (Broke blame) these words told taken on_host on_words left = record {

@@ -76,10 +76,10 @@ module _ (key : List ℕ) (sealed : List Sheet) (own : OwnSeat) (line : ScriptLi
       ((unforged_gives key (sealed ++ sheets) given (subst (λ (s : List Sheet). Unforged key (sealed ++ s) given) (sheets_flushed own sheets) unforged)).nodes name sheet among))
 
   -- the turn of a line that failed
-  pub fails_turn : (words : List (List ℕ)) (blame : Blame) (acts : List Act) (left : Seat) → Fails key (seen_by given words (host_blamed blame) false) blame (Own own) line acts left
+  pub fails_turn : NoneRefuses (rules key false (Own own) line given) → (words : List (List ℕ)) (blame : Blame) (acts : List Act) (left : Seat) → Fails key (seen_by given words (host_blamed blame) false) blame (Own own) line acts left
       → SeatTurn (on_carried key sealed) key false (Own own) line (seen_by given words (host_blamed blame) false) (flush_reply (fault_of blame)) acts left
-  fails_turn words ByHost acts left fails = host_failed (record { host = refl; random = refl }) fails refl
-  fails_turn words (ByDamage damage) acts left fails = was_damaged damage ? (record { host = refl; random = refl }) fails refl
+  fails_turn passes words ByHost acts left fails = host_failed (record { host = refl; random = refl }) fails refl
+  fails_turn passes words (ByDamage damage) acts left fails = was_damaged damage passes (record { host = refl; random = refl }) fails refl
 
   module _ (old : SessionState) (made : List Step) (words : List (List ℕ)) (sheets : List Sheet) (base : Sheet) (was : Made sealed own old made words sheets base) where
     -- all steps were made
@@ -98,11 +98,11 @@ module _ (key : List ℕ) (sealed : List Sheet) (own : OwnSeat) (line : ScriptLi
       broken_shows acts shown key_of name_of broken = broken_file (broken_seat shown) new broken refl (key_of ∙ sym key_is) (name_of ∙ sym name_is) refl refl
 
       -- a fetch failed
-      pub fetch_failed : (blame : Blame) → Fits (length (now base old.tree)) old.tree.dirty step → BlamesFetch base own.name given blame → new.broken ≡ true
+      pub fetch_failed : NoneRefuses (rules key false (Own own) line given) → (blame : Blame) → Fits (length (now base old.tree)) old.tree.dirty step → BlamesFetch base own.name given blame → new.broken ≡ true
           → LineEnds words (host_blamed blame) false (flush_reply (fault_of blame)) new (flushes own sheets)
-      fetch_failed blame fits blames broken = (
+      fetch_failed passes blame fits blames broken = (
         Own (broken_seat (seat_on base old)),
-        fails_turn words blame (flushes own sheets) (Own (broken_seat (seat_on base old))) (not_fetched own (seat_on base old) line step sheets blame some fits blames),
+        fails_turn passes words blame (flushes own sheets) (Own (broken_seat (seat_on base old))) (not_fetched own (seat_on base old) line step sheets blame some fits blames),
         broken_shows (flushes own sheets) (seat_on base old) refl refl broken,
       )
 
@@ -116,21 +116,21 @@ module _ (key : List ℕ) (sealed : List Sheet) (own : OwnSeat) (line : ScriptLi
       )
 
       -- the flush before failed
-      pub flush_failed : (blame : Blame) (more : List (List ℕ)) (next : Sheet) → FlushesFirst (length (now base old.tree)) old.tree.dirty step → Seals (seat_on base old) more next → BlamesFlush own.name given blame → new.broken ≡ true
+      pub flush_failed : NoneRefuses (rules key false (Own own) line given) → (blame : Blame) (more : List (List ℕ)) (next : Sheet) → FlushesFirst (length (now base old.tree)) old.tree.dirty step → Seals (seat_on base old) more next → BlamesFlush own.name given blame → new.broken ≡ true
           → LineEnds (words ++ more) (host_blamed blame) false (flush_reply (fault_of blame)) new (flushes own sheets ++ record { deed = Flush (seat_of own.key own.name next); done = false } ∷ [])
-      flush_failed blame more next first seals blames broken =
+      flush_failed passes blame more next first seals blames broken =
           let acts : List Act = flushes own sheets ++ record { deed = Flush (seat_of own.key own.name next); done = false } ∷ [] in (
             Own (broken_seat (seat_on base old)),
-            fails_turn (words ++ more) blame acts (Own (broken_seat (seat_on base old))) (not_flushed_before own (seat_on base old) line step words more sheets next blame some first seals refl blames),
+            fails_turn passes (words ++ more) blame acts (Own (broken_seat (seat_on base old))) (not_flushed_before own (seat_on base old) line step words more sheets next blame some first seals refl blames),
             broken_shows acts (seat_on base old) refl refl broken,
           )
 
       -- a fetch failed after it
-      pub fetch_failed_after : (blame : Blame) (more : List (List ℕ)) (next : Sheet) → FlushesFirst (length (now base old.tree)) old.tree.dirty step → Seals (seat_on base old) more next → BlamesFetch next own.name given blame
+      pub fetch_failed_after : NoneRefuses (rules key false (Own own) line given) → (blame : Blame) (more : List (List ℕ)) (next : Sheet) → FlushesFirst (length (now base old.tree)) old.tree.dirty step → Seals (seat_on base old) more next → BlamesFetch next own.name given blame
           → new.broken ≡ true → LineEnds (words ++ more) (host_blamed blame) false (flush_reply (fault_of blame)) new (flushes own (sheets ++ next ∷ []))
-      fetch_failed_after blame more next first seals blames broken = (
+      fetch_failed_after passes blame more next first seals blames broken = (
         Own (broken_seat (resealed (seat_on base old) next)),
-        fails_turn (words ++ more) blame (flushes own (sheets ++ next ∷ [])) (Own (broken_seat (resealed (seat_on base old) next)))
+        fails_turn passes (words ++ more) blame (flushes own (sheets ++ next ∷ [])) (Own (broken_seat (resealed (seat_on base old) next)))
             (not_fetched_after own (seat_on base old) line step words more sheets next blame some first seals refl blames),
         broken_shows (flushes own (sheets ++ next ∷ [])) (resealed (seat_on base old) next) refl refl broken,
       )

@@ -18,6 +18,7 @@ use Rattle.pf_script.specs.BookActs.{Deed, Flush, Among, booked_all}
 use Rattle.pf_script.specs.BookDebts.{Flushes, DidAll, Owes, seat_of, seal_of}
 use Rattle.pf_script.specs.BookSeats.{Covering, Covers, KeepsUnder}
 use Rattle.pf_script.specs.BookTurns.{ShowsUnder, no_file, of_book, other_file, Knows, LineUnder, SeatUnder, SeatAgrees, SeatBooked}
+use Rattle.pf_script.specs.FileTurns.{answers_of}
 use Rattle.pf_script.specs.Desk.{seat_on}
 use Rattle.pf_script.specs.DeskSteps.{CoversSome, Concerns}
 use Rattle.pf_script.specs.Rules.{IsFirst, rules}
@@ -30,6 +31,7 @@ use Rattle.pf_script.specs.declared.reply.Why.{Why}
 use Rattle.pf_script.proofs.ActKeeping.{no_sheet, one_act, unchanged_now}
 use Rattle.pf_script.proofs.CallKeeping.{at_both, both_with}
 use Rattle.pf_script.proofs.FlushLine.{flush_act}
+use Rattle.pf_script.proofs.OverGiven.{first_unasked, over_idle}
 use Rattle.pf_script.proofs.Refusing.{idle_seen, none_taken}
 use Rattle.pf_script.proofs.Seats.{seats_after, seat_is_left}
 use Rattle.pf_script.proofs.StepKeeping.{keeps_more}
@@ -79,7 +81,7 @@ module _ (key : List ℕ) (taken : Bool) (line : ScriptLine) (seen : Seen) (repl
   unknown_under before old new a b keeps book seats seat agrees reads covers unknown =
       let kept = keeps book seats agrees reads covers in
       let then = seat_after (booked_all kept.0 book) kept.1 new kept.3 in
-      record { over = ?; acts = kept.0; left = kept.1; after = then.after; did = kept.2; shows = then.shows; spares = kept.4; concerned = kept.5; turn = λ knows. absurd (unknown knows) }
+      record { acts = kept.0; left = kept.1; after = then.after; did = kept.2; shows = then.shows; spares = kept.4; concerned = kept.5; turn = λ knows. absurd (unknown knows); over = λ knows. absurd (unknown knows) }
 
   -- a line on a whole session
   module _ (old : SessionState) (whole : old.broken ≡ false) (new : Option SessionState) (a b : Honest) where
@@ -178,7 +180,6 @@ refused_agrees key taken line why old host words first = record {
   was_seen = record { answers = told_none host host refl; words = none_taken words; of_host = refl; of_words = refl };
   under = both_same (SeatUnder key taken line idle_seen (replies.Refused why) old old) host.honest host.honest refl
       (λ a book seats seat agrees reads shows. record {
-        over = ?;
         acts = [];
         left = seats;
         after = seat;
@@ -187,6 +188,9 @@ refused_agrees key taken line why old host words first = record {
         spares = λ s has apart. has;
         concerned = λ name none. absurd none;
         turn = λ _. refused why (first seat (looks_like book seats seat old shows)) (record { host = refl; random = refl }) refl refl refl refl;
+        over = λ knows calm.
+            over_idle key taken seat line [] (replies.Refused why) seat a a (unchanged_now a)
+            (refused why (first_unasked key taken seat line (answers_of (reading a.now) line) why (first seat (looks_like book seats seat old shows))) (record { host = refl; random = refl }) refl refl refl refl);
       });
 }
 

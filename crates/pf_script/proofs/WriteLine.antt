@@ -14,6 +14,7 @@ use Rattle.pf_session.specs.Aside.{Aside}
 use Rattle.pf_session.specs.Changing.{refused, unchanged, changed, not_flushed, flushed_and_changed, WriteRefused, WriteGoes, stepped, StepState}
 use Rattle.pf_session.specs.Faults.{write_of_flush, write_of_tree}
 use Rattle.pf_session.specs.State.{SessionState}
+use Rattle.pf_session.proofs.Created.{aside_none}
 use Rattle.pf_session.specs.declared.fault.FlushFault.{FlushFault}
 use Rattle.pf_session.specs.declared.fault.FlushFault.TheVariants as faults
 use Rattle.pf_session.specs.declared.fault.WriteFault.{WriteFault}
@@ -184,7 +185,7 @@ module _ (key : List ℕ) (at : ℕ) (bytes : List ℕ) (line : ScriptLine) (cou
     -- an empty write
     empty_goes : bytes ≡ [] → (host : HostState) (words : WordsState) → SeatGoes key false line (Ok (replies.Written count false)) (Some old) (Some old) host host words words
     empty_goes none host words =
-        goes_on key false line (replies.Written count false) old host host words words [] [] false false
+        goes_on key false line (replies.Written count false) old host host words words (aside_none old.name host) [] [] false false
         (record { told = told_none host host refl; taken = none_taken words; on_host = refl; on_words = refl }) refl refl old
         (whole_turns key false line (seen_by [] [] false false) (replies.Written count false) old (Some old) [] whole
         (λ sealed base among linked kept.
@@ -193,10 +194,10 @@ module _ (key : List ℕ) (at : ℕ) (bytes : List ℕ) (line : ScriptLine) (cou
         (both_same (KeepsUnder (Covers old) (Covers old) (λ name. name ≡ old.name)) host.honest host.honest refl (same_keeps (Covers old) (λ name. name ≡ old.name))) seated refl
 
     -- a write of some bytes
-    some_goes : bytes ≢ [] → (new : SessionState) (before after : HostState) (random random' : WordsState) → OnDisk before after (KeepsUnder (Covers old) (Covers new) (λ name. name ≡ old.name)) → IsSeated key new → new.name ≡ old.name
+    some_goes : bytes ≢ [] → (new : SessionState) (before after : HostState) (random random' : WordsState) → Aside old.name before after → OnDisk before after (KeepsUnder (Covers old) (Covers new) (λ name. name ≡ old.name)) → IsSeated key new → new.name ≡ old.name
         → (outcome : Outcome) → ChangeSeen (Write at bytes) old new outcome before after random random' → (outcome ≡ Wanted → new.broken ≡ true) → SeatGoes key false line (outcome_reply (written count) outcome) (Some old) (Some new) before after random random'
-    some_goes some new before after random random' books seated_new name_is =
-        line_goes key line old new whole (Write at bytes) (written count) (λ size. write_asks at bytes line count is_line size (Write at bytes ∷ []) (at_place some refl)) replied passes before after random random' books seated_new name_is
+    some_goes some new before after random random' aside books seated_new name_is =
+        line_goes key line old new whole (Write at bytes) (written count) (λ size. write_asks at bytes line count is_line size (Write at bytes ∷ []) (at_place some refl)) replied passes before after random random' aside books seated_new name_is
         (write_takes at bytes line count is_line) (write_changes at bytes line count is_line) (λ flushed. (refl, refl))
       where
         replied : (flushed : Bool) (sheets : List Sheet) → Grew flushed [] sheets → IsChangeReply sheets line (replies.Written count flushed)
@@ -228,16 +229,16 @@ write_goes key at bytes line count is_line old new result before after random ra
     by_case (changed one free some roomy steps words said) =
         as_result (stepped write_of_tree false one) said
         (by_reply (outcome_reply (written count) (outcome_of false one)) (write_reply count (stepped write_of_tree false one)) (stepped_reply count false one)
-        (some_goes key at bytes line count is_line old seated whole free some new before after random random' books seated_new.0 seated_new.1 (outcome_of false one)
+        (some_goes key at bytes line count is_line old seated whole free some new before after random random' aside books seated_new.0 seated_new.1 (outcome_of false one)
         (seen_once old seated.of_script (Write at bytes) before after random random' new one roomy steps words) (wanted_breaks false one old new steps.state)))
     by_case (not_flushed fault free some first flush undamaged said) =
         as_result (Err (write_of_flush fault)) said
         (by_reply (outcome_reply (written count) (flush_outcome fault)) (write_reply count (Err (write_of_flush fault))) (unflushed_reply count fault)
-        (some_goes key at bytes line count is_line old seated whole free some new before after random random' books seated_new.0 seated_new.1 (flush_outcome fault)
+        (some_goes key at bytes line count is_line old seated whole free some new before after random random' aside books seated_new.0 seated_new.1 (flush_outcome fault)
         (seen_unflushed old seated.of_script (Write at bytes) before after random random' new fault first (flush_case old seated.of_script new before after random random' (Err fault) flush)) (λ is. absurd (never_wanted fault is))))
     by_case (flushed_and_changed mid between one free some first flush steps said) =
         as_result (stepped write_of_tree true one) said
         (by_reply (outcome_reply (written count) (outcome_of true one)) (write_reply count (stepped write_of_tree true one)) (stepped_reply count true one)
-        (some_goes key at bytes line count is_line old seated whole free some new before after random random' books seated_new.0 seated_new.1 (outcome_of true one)
+        (some_goes key at bytes line count is_line old seated whole free some new before after random random' aside books seated_new.0 seated_new.1 (outcome_of true one)
         (seen_after old seated.of_script (Write at bytes) before after random random' mid new between one (of_flushed old mid seated.of_script (Ok tt) before between random random' flush) first
         (flush_case old seated.of_script mid before between random random' (Ok tt) flush) steps) (wanted_breaks true one mid new steps.state)))

@@ -3,7 +3,8 @@ use Rattle.std.proofs.Common.{◌≡◌, ◌≢◌, Bool, true, false, List, [],
 use Rattle.node_tree.specs.Applying.{Write}
 use Rattle.node_tree.specs.Backing.{now}
 use Rattle.node_tree.specs.Sheet.{Sheet}
-use Rattle.pf_io.specs.Host.{HostState, OnDisk, ReadsAsImage}
+use Rattle.pf_io.specs.Disk.{reading}
+use Rattle.pf_io.specs.Host.{Answer, HostState, OnDisk, ReadsAsImage}
 use Rattle.pf_io.specs.Words.{WordsState}
 use Rattle.pf_io.specs.declared.faults.Memory.{Memory}
 use Rattle.pf_io.proofs.Telling.{both_same, told_none}
@@ -17,6 +18,7 @@ use Rattle.pf_script.specs.BookSeats.{Covers, KeepsUnder}
 use Rattle.pf_script.specs.BookTurns.{of_book, SeatUnder, SeatBooked}
 use Rattle.pf_script.specs.Desk.{IsSeated, seat_on}
 use Rattle.pf_script.specs.DeskSteps.{Concerns}
+use Rattle.pf_script.specs.FileTurns.{stands_on, answers_of}
 use Rattle.pf_script.specs.Rules.{writing_rules}
 use Rattle.pf_script.specs.Script.{Own}
 use Rattle.pf_script.specs.SeatReplies.{write_reply}
@@ -34,19 +36,19 @@ use Rattle.pf_script.proofs.Flushed.{flush_ends}
 use Rattle.pf_script.proofs.LineUnder.{line_under}
 use Rattle.pf_script.proofs.OfScript.{of_flushed}
 use Rattle.pf_script.proofs.Refusing.{idle_seen, none_taken, same_keeps, first_then}
+use Rattle.pf_script.proofs.SeatCalls.{seen_by}
 use Rattle.pf_script.proofs.Under.{own_under, none_concerned}
 use Rattle.pf_script.proofs.WriteLine.{IsWriteLine, write_asks, write_first, write_replies, written, stepped_reply, unflushed_reply, why_refused, passes}
 
 -- nothing was done, on a seat whose content is known
 pub idle_booked : (key : List ℕ) (line : ScriptLine) (reply : Reply) (old : SessionState) → old.broken ≡ false → (host : HostState) (words : WordsState)
-    → ((standing : Standing) (base : Sheet) → SeatTurn standing key false (Own (seat_on base old)) line idle_seen reply [] (Own (seat_on base old))) → SeatBooked key false line (Ok reply) (Some old) (Some old) host host words words
+    → ((standing : Standing) (base : Sheet) (given : List Answer) → SeatTurn standing key false (Own (seat_on base old)) line (seen_by given [] false false) reply [] (Own (seat_on base old))) → SeatBooked key false line (Ok reply) (Some old) (Some old) host host words words
 idle_booked key line reply old whole host words turn = record {
   seen = idle_seen;
   was_seen = record { answers = told_none host host refl; words = none_taken words; of_host = refl; of_words = refl };
   under = both_same (SeatUnder key false line idle_seen reply (Some old) (Some old)) host.honest host.honest refl
       (λ a. own_under key false line idle_seen reply old whole (Some old) a a (same_keeps (Covers old) (Concerns false line (Some old)) a)
       (λ book seats agrees base on. record {
-        over = ?;
         acts = [];
         left = seats;
         after = Own (seat_on base old);
@@ -54,7 +56,8 @@ idle_booked key line reply old whole host words turn = record {
         shows = of_book base old whole on.seated on.kept refl refl;
         spares = λ s has apart. has;
         concerned = none_concerned false line (Some old);
-        turn = λ _. turn _ base;
+        turn = λ _. turn (stands_on key (reading a.now)) base [];
+        over = λ _ calm. record { turn = turn (stands_on key (reading a.now)) base (answers_of (reading a.now) line); files = λ name. refl };
       }));
 }
 
@@ -72,18 +75,18 @@ module _ (key : List ℕ) (at : ℕ) (bytes : List ℕ) (line : ScriptLine) (cou
       let by = why_refused key at bytes line count is_line old seated whole fault why in
       subst (λ (r : Result Reply Memory). SeatBooked key false line r (Some old) (Some old) host host words words) (sym by.reply_is)
       (idle_booked key line (replies.Refused by.why) old whole host words
-      (λ standing base.
+      (λ standing base given.
       refuses by.why
-      (write_first at bytes line count is_line key (Own (seat_on base old)) [] by.why (first_then (writing_rules (Own (seat_on base old)) at count) by.why (Own (seat_on base old)) (seat_on base old) refl whole (by.first base)))
+      (write_first at bytes line count is_line key (Own (seat_on base old)) given by.why (first_then (writing_rules (Own (seat_on base old)) at count) by.why (Own (seat_on base old)) (seat_on base old) refl whole (by.first base)))
       (record { host = refl; random = refl }) refl refl refl refl))
 
   module _ (free : (fault : WriteFault) → ¬ (WriteRefused at (length bytes) old.tree.size fault)) where
     empty_under : bytes ≡ [] → (host : HostState) (words : WordsState) → SeatBooked key false line (Ok (replies.Written count false)) (Some old) (Some old) host host words words
     empty_under none host words =
         idle_booked key line (replies.Written count false) old whole host words
-        (λ standing base.
+        (λ standing base given.
         let own = seat_on base old in
-        accepted (passes key at bytes line count is_line old seated whole free base []) (record { host = refl; random = refl })
+        accepted (passes key at bytes line count is_line old seated whole free base given) (record { host = refl; random = refl })
         (changes own own line (replies.Written count false) [] [] (write_asks at bytes line count is_line (length (now base old.tree)) [] (nothing none refl)) (none_left own) (write_replies at bytes line count is_line [])))
 
     some_under : bytes ≢ [] → (new : SessionState) (before after : HostState) (random random' : WordsState) → OnDisk before after (KeepsUnder (Covers old) (Covers new) (λ name. name ≡ old.name)) → Aside old.name before after → ReadsAsImage after

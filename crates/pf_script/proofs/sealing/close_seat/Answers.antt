@@ -68,7 +68,7 @@ returns-in-Ok-clause-booked g c key k seated =
     some_booked key false (lines.Close k) (Ok (replies.Closed c.broken-lost.result)) c.args.seat.now s c.take.new.self before after random random2 is
     (subst (λ (o : Option SessionState). SeatBooked key false (lines.Close k) (Ok (replies.Closed c.broken-lost.result)) (Some s) o before after random random2) (sym c.take.ensures.after)
     (subst (λ (b : Bool). SeatBooked key false (lines.Close k) (Ok (replies.Closed b)) (Some s) None before after random random2) (sym c.broken-lost.ensures)
-    (close_under key k s (Ok tt) before after random random2 (subst (λ (o : Option SessionState). IsSeatOf key o) is seated) c.in-Ok.ensures.goes c.in-Ok.ensures.aside (g.met.H.Host.reads_as_image c.close.new.host))))
+    (close_under key k s (Ok tt) before after random random2 (subst (λ (o : Option SessionState). IsSeatOf key o) is seated) c.in-Ok.ensures.goes c.in-Ok.ensures.undamaged c.in-Ok.ensures.aside (g.met.H.Host.reads_as_image c.close.new.host))))
 
 pub returns-in-Err-clause-booked : goal.returns-in-Err-clause-booked
 returns-in-Err-clause-booked g c key k seated =
@@ -81,4 +81,4 @@ returns-in-Err-clause-booked g c key k seated =
     some_booked key false (lines.Close k) (Ok c.flush_fault.result) c.args.seat.now s c.take.new.self before after random random2 is
     (subst (λ (o : Option SessionState). SeatBooked key false (lines.Close k) (Ok c.flush_fault.result) (Some s) o before after random random2) (sym c.take.ensures.after)
     (subst (λ (r : Reply). SeatBooked key false (lines.Close k) (Ok r) (Some s) None before after random random2) (sym c.flush_fault.ensures)
-    (close_under key k s (Err c.in-Err.fault) before after random random2 (subst (λ (o : Option SessionState). IsSeatOf key o) is seated) c.in-Err.ensures.goes c.in-Err.ensures.aside (g.met.H.Host.reads_as_image c.close.new.host))))
+    (close_under key k s (Err c.in-Err.fault) before after random random2 (subst (λ (o : Option SessionState). IsSeatOf key o) is seated) c.in-Err.ensures.goes c.in-Err.ensures.undamaged c.in-Err.ensures.aside (g.met.H.Host.reads_as_image c.close.new.host))))

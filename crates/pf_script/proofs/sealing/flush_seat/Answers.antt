@@ -70,7 +70,7 @@ returns-in-Ok-clause-booked g c key k seated =
     let after = g.H.Host.state c.flush.new.host in
     let random2 = g.R.Words.state c.flush.new.random in
     some_booked key false (lines.Flush k) (Ok replies.Flushed) c.args.seat.now s (Some c.flush.new.self) before after random random2 c.in-Some.is
-    (flush_under key k s c.flush.new.self (Ok tt) before after random random2 (subst (λ (o : Option SessionState). IsSeatOf key o) c.in-Some.is seated) (sym c.broken.ensures ∙ c.if-broken.false) c.in-Ok.ensures.goes c.in-Ok.ensures.aside (g.met.H.Host.reads_as_image c.flush.new.host))
+    (flush_under key k s c.flush.new.self (Ok tt) before after random random2 (subst (λ (o : Option SessionState). IsSeatOf key o) c.in-Some.is seated) (sym c.broken.ensures ∙ c.if-broken.false) c.in-Ok.ensures.goes c.in-Ok.ensures.undamaged c.in-Ok.ensures.aside (g.met.H.Host.reads_as_image c.flush.new.host))
 
 pub returns-in-Err-clause-booked : goal.returns-in-Err-clause-booked
 returns-in-Err-clause-booked g c key k seated =
@@ -81,4 +81,4 @@ returns-in-Err-clause-booked g c key k seated =
     let random2 = g.R.Words.state c.flush.new.random in
     some_booked key false (lines.Flush k) (Ok c.flush_fault.result) c.args.seat.now s (Some c.flush.new.self) before after random random2 c.in-Some.is
     (subst (λ (r : Reply). SeatAgrees key false (lines.Flush k) r (Some s) (Some c.flush.new.self) before after random random2) (sym c.flush_fault.ensures)
-    (flush_under key k s c.flush.new.self (Err c.in-Err.fault) before after random random2 (subst (λ (o : Option SessionState). IsSeatOf key o) c.in-Some.is seated) (sym c.broken.ensures ∙ c.if-broken.false) c.in-Err.ensures.goes c.in-Err.ensures.aside (g.met.H.Host.reads_as_image c.flush.new.host)))
+    (flush_under key k s c.flush.new.self (Err c.in-Err.fault) before after random random2 (subst (λ (o : Option SessionState). IsSeatOf key o) c.in-Some.is seated) (sym c.broken.ensures ∙ c.if-broken.false) c.in-Err.ensures.goes c.in-Err.ensures.undamaged c.in-Err.ensures.aside (g.met.H.Host.reads_as_image c.flush.new.host)))
