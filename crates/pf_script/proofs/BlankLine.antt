@@ -13,7 +13,7 @@ use Rattle.pf_script.proofs.Refusing.{idle_seen, none_taken, same_keeps, at_last
 use Rattle.pf_script.proofs.Sparing.{spares_none}
 
 pub blank_goes : (desk : DeskState) (host : HostState) (words : WordsState) → DeskGoes lines.Blank (Ok replies.None) desk desk host host words words
-blank_goes desk host words = record { 
+blank_goes desk host words = record {
   key_is = refl;
   asks = told_by (λ given. Asks lines.Blank replies.None desk desk given host host words words) [] host host (told_none host host refl)
       (record {

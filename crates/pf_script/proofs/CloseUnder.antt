@@ -109,8 +109,8 @@ module _ (key : List ℕ) (k : ℕ) (old : SessionState) (seated : IsSeated key 
               let own = seat_on base old in
               let left = seats_after (Flush (seat_of old.key old.name next.0)) true seats in
               let did : DidAll book seats (flush_act old next.0 true ∷ []) left a b =
-                  flush_did book seats true old.key old.name base next.0 a b on.entry seated.of_script.is_target ran (read_image after.honest b is2 reads) on.was on.seated
-                  (record { path_is = next.1.next.path_is; sealed = at_both (Where (Stood old.key old.name base) (Ran (AsEither old.key old.name base next.0) (StoodIf true old.key old.name next.0))) before.honest after.honest a b is is2 next.2.1 }) in
+              flush_did book seats true old.key old.name base next.0 a b on.entry seated.of_script.is_target ran (read_image after.honest b is2 reads) on.was on.seated
+              (record { path_is = next.1.next.path_is; sealed = at_both (Where (Stood old.key old.name base) (Ran (AsEither old.key old.name base next.0) (StoodIf true old.key old.name next.0))) before.honest after.honest a b is is2 next.2.1 }) in
               record {
                 acts = flush_act old next.0 true ∷ [];
                 left = left;

@@ -212,7 +212,7 @@ module _ (old : DeskState) (desk : IsDesk old) (k : ℕ) (below : k < SEATS) (ta
         (λ apart. inr (j, subst (λ (o : Option SessionState). HasItsName o name) (there j apart) has)) (same_or_not j k)
 
     pub desk_goes : DeskGoes line result old new before after random random'
-    desk_goes = record { 
+    desk_goes = record {
       key_is = refl;
       asks = all_asks result goes.asks;
       books = both_weaker (KeepsUnder (CoversSome (session_at old k)) (CoversSome left) (Concerns taken line (session_at old k))) (KeepsUnder (CoversDesk old) (CoversDesk new) AnyName) before.honest after.honest goes.books books_on;

@@ -1,14 +1,13 @@
 -- What acts leave of the files as they read, where the book speaks of what they are done to.
-use Rattle.std.proofs.Common.{◌≡◌, Bool, true, List, [], ◌∷◌, ◌++◌, refl, sym, ◌∙◌, ap, subst, Option, Some, None}
+use Rattle.std.proofs.Common.{◌≡◌, Bool, true, List, [], ◌∷◌, ◌++◌, refl, sym, ap, subst, Option, Some, None}
 use Rattle.std.specs.Prelude.{IsSome, IsSomeAnd, is_some}
-use Rattle.pf_io.specs.Disk.{Name, Disk, IsImage, reading, read_of}
+use Rattle.pf_io.specs.Disk.{File, Disk, IsImage, reading, read_of}
 use Rattle.pf_io.specs.Moments.{Honest}
 use Rattle.node_tree.specs.Sheet.{Sheet}
-use Rattle.pf_io.specs.Disk.{File}
 use Rattle.pf_session.specs.Reopening.{Stood}
 use Rattle.pf_script.specs.Book.{Book, Entry, Alone, Partner, Seal, Agrees}
 use Rattle.pf_script.specs.BookActs.{Deed, Opening, Creation, Flush, Move, Act, booked, booked_all, flushed, sealed_entry, speaks}
-use Rattle.pf_script.specs.BookDebts.{Unchanged, Did, DidAll, Owes, seal_of, seat_of}
+use Rattle.pf_script.specs.BookDebts.{Did, DidAll, Owes, seal_of, seat_of}
 use Rattle.pf_script.specs.FileTurns.{IsAway, FilesLeft, FilesAfter}
 use Rattle.pf_script.specs.Script.{OwnSeat}
 use Rattle.pf_script.specs.Turns.{flushes}

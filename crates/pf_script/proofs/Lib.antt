@@ -42,6 +42,7 @@ pub mod Under
 pub mod FlushUnder
 pub mod CloseUnder
 pub mod DrawUnder
+pub mod LastBlock
 pub mod OnEmpty
 pub mod CreateLine
 pub mod OpenRules
@@ -80,3 +81,14 @@ pub mod Unpaired
 pub mod KnownSeats
 pub mod RunningOver
 pub mod RunsOver
+pub mod OneRules
+pub mod OneLike
+pub mod OneWords
+pub mod OneSteps
+pub mod OneAccepts
+pub mod OneOpening
+pub mod OneFiles
+pub mod OneLines
+pub mod OneEnds
+pub mod OneTurns
+pub mod OneScript

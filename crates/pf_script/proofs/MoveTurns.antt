@@ -44,7 +44,8 @@ use Rattle.pf_script.proofs.FilesLeft.{files_after, moved_booked}
 use Rattle.pf_script.proofs.Flushed.{FlushEnds, not_begun, not_ended, was_ended, seal_ends, host_blamed, fault_of}
 use Rattle.pf_script.proofs.FlushLine.{flush_act}
 use Rattle.pf_script.proofs.MoveLine.{move_rules, not_busy, move_passes, never_lacks, blamed_reply, short_more, taken_then, CarryBlamed, carry_blamed}
-use Rattle.pf_script.proofs.MoveOver.{looked_length, by_length, not_calm}
+use Rattle.pf_script.proofs.MoveOver.{looked_answers, not_calm}
+use Rattle.pf_script.proofs.OverGiven.{same_over, over_idle}
 use Rattle.pf_script.proofs.Ruling.{never}
 use Rattle.pf_script.proofs.Seats.{seats_after}
 use Rattle.pf_script.proofs.MoveCallKeeping.{move_keeps}
@@ -78,8 +79,8 @@ module _ (key : List ℕ) (k : ℕ) (to : Name) (old : SessionState) (seated : I
   idle : (reply : Reply) (these : List Answer) (words : List (List ℕ)) (of_host of_words : Bool) → new ≡ old → OnDisk before after Unchanged → Both before.given after.given (IsMore these) → Both random.left random'.left (AreTaken words)
       → CountsFault of_host before.faults after.faults → CountsFault of_words random.faults random'.faults
       → ((standing : Standing) (base : Sheet) → SeatTurn standing key false (Own (seat_on base old)) line (seen_by these words of_host of_words) reply [] (Own (seat_on base old)))
-      → ((standing : Standing) (base : Sheet) (a : Honest) → before.honest ≡ Some a → Failed (seen_by these words of_host of_words) false false
-      → SeatTurn standing key false (Own (seat_on base old)) line (seen_over (reading a.now) line words) reply [] (Own (seat_on base old))) → SeatAgrees key false line reply (Some old) (Some new) before after random random'
+      → ((base : Sheet) (a : Honest) → before.honest ≡ Some a → Failed (seen_by these words of_host of_words) false false
+      → SeatTurn (stands_on key (reading a.now)) key false (Own (seat_on base old)) line (seen_over (reading a.now) line words) reply [] (Own (seat_on base old))) → SeatAgrees key false line reply (Some old) (Some new) before after random random'
   idle reply these words of_host of_words same only told taken on_host on_words turn over = record {
     seen = seen_by these words of_host of_words;
     was_seen = record { answers = told; words = taken; of_host = on_host; of_words = on_words };
@@ -93,7 +94,7 @@ module _ (key : List ℕ) (k : ℕ) (to : Name) (old : SessionState) (seated : I
           spares = λ s has apart. has;
           concerned = none_concerned false line (Some old);
           turn = λ _. turn _ base;
-          over = λ _ calm. record { turn = over _ base a is calm; files = λ name. ap (λ (d : Disk). reading d name) only_ab.ends };
+          over = λ _ calm. over_idle key false (Own (seat_on base old)) line words reply (Own (seat_on base old)) a b only_ab (over base a is calm);
         });
   }
 
@@ -108,7 +109,7 @@ module _ (key : List ℕ) (k : ℕ) (to : Name) (old : SessionState) (seated : I
   misnamed_under bad same stays words =
       idle (replies.Refused whys.BadName) [] [] false false same (stays_so stays) (told_none before after (ap (λ (h : HostState). h.given) stays)) (none_taken_now words) (ap (λ (h : HostState). h.faults) stays) (ap (λ (w : WordsState). w.faults) words)
       (λ standing base. refused whys.BadName (first base []) (record { host = refl; random = refl }) refl refl refl refl)
-      (λ standing base a is calm. refused whys.BadName (first base (answers_of (reading a.now) line)) (record { host = refl; random = refl }) refl refl refl refl)
+      (λ base a is calm. refused whys.BadName (first base (answers_of (reading a.now) line)) (record { host = refl; random = refl }) refl refl refl refl)
     where
       first : (base : Sheet) (given : List Answer) → IsFirst (rules key false (Own (seat_on base old)) line given) whys.BadName
       first base given = let own = seat_on base old in first_then (move_rules key k to old seated whole given) whys.BadName (Own own) own refl whole (inr (not_busy key k to old seated whole, inl (refl, bad)))
@@ -116,9 +117,10 @@ module _ (key : List ℕ) (k : ℕ) (to : Name) (old : SessionState) (seated : I
   looks_under : (size : ℕ) → IsTarget to → LooksUp to (Some size) before after → new ≡ old → random' ≡ random → SeatAgrees key false line (replies.Refused whys.TargetExists) (Some old) (Some new) before after random random'
   looks_under size good looks same words =
       idle (replies.Refused whys.TargetExists) (LengthWas to (Some size) ∷ []) [] false false same looks.disk looks.asked.asked.told (none_taken_now words) looks.asked.asked.faults (ap (λ (w : WordsState). w.faults) words) there
-      (λ standing base a is calm.
+      (λ base a is calm.
       let own = Own (seat_on base old) in
-      by_length standing key k to (reading a.now) (Some size) [] own (replies.Refused whys.TargetExists) [] own (looked_length to (Some size) before after a is looks) (there standing base))
+      let files = reading a.now in
+      same_over key files false own line (LengthWas to (Some size) ∷ []) [] (replies.Refused whys.TargetExists) [] own (looked_answers k to (Some size) before after a is looks) (there (stands_on key files) base))
     where
       there : (standing : Standing) (base : Sheet) → SeatTurn standing key false (Own (seat_on base old)) line (seen_by (LengthWas to (Some size) ∷ []) [] false false) (replies.Refused whys.TargetExists) [] (Own (seat_on base old))
       there standing base =
@@ -313,7 +315,7 @@ module _ (key : List ℕ) (k : ℕ) (to : Name) (old : SessionState) (seated : I
                   both_concerned n (only_move key old seated whole book seats m.0 agrees_m image_m base on.entry on.was on.seated on.kept stood_m to free.is_target true mid new f.words t.0 b t.2 nonce between after t.1 is_b absent moves.carries well n among);
               turn = λ _. turn (f.these ++ more);
               over = λ _ _. record {
-                turn = by_length (stands_on key (reading a.now)) key k to (reading a.now) None all_words (Own own) replies.Moved acts then (looked_length to None before start a is_a free.looks) (turn []);
+                turn = same_over key (reading a.now) false (Own own) line (LengthWas to None ∷ []) all_words replies.Moved acts then (looked_answers k to None before start a is_a free.looks) (turn []);
                 files = files_after book seats left acts a b agrees on.image did (moved_booked own t.2.sheets (seat_of old.key to next.next) book (ap (λ (o : Option Entry). is_some o) on.was));
               };
             });
@@ -325,12 +327,12 @@ module _ (key : List ℕ) (k : ℕ) (to : Name) (old : SessionState) (seated : I
     by_case result undamaged (look_up_failed good fails same words said) =
         subst (λ (r : Result (Unit {0}) MoveFault). SeatBooked key false line (move_reply r) (Some old) (Some new) before after random random') (sym said)
         (idle replies.HostFault [] [] true false same fails.disk fails.asked.asked.told (none_taken_now words) fails.asked.asked.faults (ap (λ (w : WordsState). w.faults) words)
-        (λ standing base. host_failed (record { host = refl; random = refl }) (not_looked_up k to (seat_on base old) refl) refl) (λ standing base a is calm. absurd (false_true true refl calm.host)))
+        (λ standing base. host_failed (record { host = refl; random = refl }) (not_looked_up k to (seat_on base old) refl) refl) (λ base a is calm. absurd (false_true true refl calm.host)))
     by_case result undamaged (was_there size good looks same words said) = subst (λ (r : Result (Unit {0}) MoveFault). SeatBooked key false line (move_reply r) (Some old) (Some new) before after random random') (sym said) (looks_under size good looks same words)
     by_case result undamaged (no_words free fewer same said) =
         subst (λ (r : Result (Unit {0}) MoveFault). SeatBooked key false line (move_reply r) (Some old) (Some new) before after random random') (sym said)
         (idle replies.WordsFault (LengthWas to None ∷ []) fewer.words false true same free.looks.disk free.looks.asked.asked.told fewer.told free.looks.asked.asked.faults fewer.once
-        (λ standing base. words_failed (record { host = refl; random = refl }) (no_move k to (seat_on base old)) refl) (λ standing base a is calm. absurd (false_true true refl calm.random)))
+        (λ standing base. words_failed (record { host = refl; random = refl }) (no_move k to (seat_on base old)) refl) (λ base a is calm. absurd (false_true true refl calm.random)))
     by_case result undamaged (not_flushed start fault free fails said) =
         subst (λ (r : Result (Unit {0}) MoveFault). SeatBooked key false line (move_reply r) (Some old) (Some new) before after random random') (sym said)
         (unflushed start fault free fails (seal_ends old seated.of_script new start after random fails.between (Err fault) fails.sealed fails.keys fails.came fails.goes) (subst (λ (r : Result (Unit {0}) MoveFault). UndamagedMove r old before) said undamaged))

@@ -1,4 +1,4 @@
-//! A line has one reading; what the calls of a step keep of a book; the definitions on examples.
+//! A line has one reading; what the calls of a step keep of a book; what a script comes to over files; the definitions on examples.
 ghost use Rattle.std.specs.Prelude.{◌≡◌, ◌∷◌, [], ℕ, true, false, List, Some, None, codes, replicate};
 ghost use Rattle.pf_script.specs.declared.line.ScriptLine.{ScriptLine};
 ghost use Rattle.pf_script.specs.declared.line.ScriptLine.TheVariants.{Read};
@@ -10,6 +10,7 @@ ghost use Rattle.pf_io.specs.Disk.{Disk};
 ghost use Rattle.pf_script.specs.Book.{Book, Agrees, Alone, Partner};
 ghost use Rattle.pf_script.specs.BookExamples.{book_of_flushes, book_of_a_move, book_after_it};
 ghost use Rattle.pf_script.specs.BookLaws.{KeepsBook, StartsWith};
+ghost use Rattle.pf_script.specs.FileRuns.{OneRun};
 
 /// Bytes are one line at most.
 pub fn text_has_one_reading()
@@ -32,4 +33,9 @@ pub fn definitions_on_examples()
 pub fn steps_keep_the_book()
     ensures steps { KeepsBook }
     ensures start { (book : Book) (disk : Disk) → StartsWith book disk → Agrees book [] disk }
+{}
+
+/// Files, lines and random words have one run of a script from empty seats.
+pub fn scripts_have_one_run()
+    ensures { OneRun }
 {}

@@ -24,7 +24,9 @@ mod words;
 
 pub use desk::Desk;
 pub use fault::LineFault;
-pub use laws::{definitions_on_examples, steps_keep_the_book, text_has_one_reading};
+pub use laws::{
+    definitions_on_examples, scripts_have_one_run, steps_keep_the_book, text_has_one_reading,
+};
 pub use line::ScriptLine;
 pub use line_reader::LineReader;
 pub use next_line::NextLine;
