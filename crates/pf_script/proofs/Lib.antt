@@ -42,7 +42,6 @@ pub mod Under
 pub mod FlushUnder
 pub mod CloseUnder
 pub mod DrawUnder
-pub mod LastBlock
 pub mod OnEmpty
 pub mod CreateLine
 pub mod OpenRules
@@ -77,10 +76,6 @@ pub mod DeskLine
 pub mod BlankLine
 pub mod MoveLine
 pub mod BookRunning
-pub mod Unpaired
-pub mod KnownSeats
-pub mod RunningOver
-pub mod RunsOver
 pub mod OneRules
 pub mod OneLike
 pub mod OneWords

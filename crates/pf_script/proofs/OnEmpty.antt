@@ -28,7 +28,6 @@ use Rattle.pf_script.specs.declared.line.ScriptLine.{ScriptLine}
 use Rattle.pf_script.specs.declared.reply.Reply.{Reply}
 use Rattle.pf_script.specs.declared.reply.Why.{Why}
 use Rattle.pf_script.specs.declared.reply.Why.TheVariants as whys
-pub use Rattle.pf_script.proofs.LastBlock.{not_of}
 use Rattle.pf_script.proofs.ActKeeping.{only_reads, unchanged_now}
 use Rattle.pf_script.proofs.CallKeeping.{both_with}
 use Rattle.pf_script.proofs.FlushUnder.{seen_in}
@@ -47,6 +46,11 @@ seat_first rest why first = inr ((λ other refuses. refuses.1 refl), inr ((λ ot
 
 pub seat_none : (rest : List Rule) → NoneRefuses rest → NoneRefuses (seating_rules false Empty ++ rest)
 seat_none rest none = ((λ other refuses. refuses.1 refl), ((λ other refuses. let e : false ≡ true = refuses.1 in absurd (cc)), none))
+
+-- an answer that is another one than the first
+pub not_of : (answer other : Answer) (rest : List Answer) → answer ≢ other → ¬ (Contains rest other) → ¬ (Contains (answer ∷ rest) other)
+not_of answer other rest apart not_in is =
+    ⊎_elim (λ here. apart (⊎_elim (λ none. absurd (omega (arith, none.1))) (λ same. same) (Contains-push_cases [] answer other here))) (λ there. not_in there) (Contains-append_cases (answer ∷ []) rest other is)
 
 -- the seat after a call that was to open or to make a session
 abbrev pub made_seat : {E : Type 0} → Result SessionState E → Option SessionState

@@ -1,19 +1,19 @@
 -- What an accepted line comes to on seats that are alike, by the same words.
-use Rattle.std.proofs.Common.{◌≡◌, ◌⊎◌, inl, inr, ℕ, Bool, true, false, List, [], ◌∷◌, ◌++◌, length, take, drop, refl, ap, ◌∙◌, sym, subst, append_assoc, Option, Some, None}
+use Rattle.std.proofs.Common.{◌≡◌, ◌⊎◌, inl, inr, ℕ, true, false, List, [], ◌∷◌, ◌++◌, length, take, drop, refl, ap, ◌∙◌, sym, subst, append_assoc, Some, None}
 use Rattle.std.proofs.lemmas.Option.{same_Some}
 use Rattle.node_tree.specs.Applying.{Step}
 use Rattle.node_tree.specs.Sheet.{Sheet}
 use Rattle.pf_io.specs.Disk.{Name}
-use Rattle.pf_script.specs.BookActs.{Deed, Creation, Flush, Move, Act}
+use Rattle.pf_script.specs.BookActs.{Move, Act}
 use Rattle.pf_script.specs.BookDebts.{seat_of}
-use Rattle.pf_script.specs.Script.{OwnSeat, Seat, Empty, Own}
-use Rattle.pf_script.specs.SeatSteps.{Seals, SealsMoved, resealed, renamed, MakesAll, AsksFor}
+use Rattle.pf_script.specs.Script.{OwnSeat, Seat, Own}
+use Rattle.pf_script.specs.SeatSteps.{resealed, renamed, MakesAll, AsksFor}
 use Rattle.pf_script.specs.Turns.{Seen, Standing, Accepts, created, read, changed, flushed, moved, drawn_again, drawn_now, let_go, flushed_last, new_seat, flushes, FlushedToMove, as_it_was, was_changed, some_sheet, IsChangeReply, to_write, to_fill, to_size}
 use Rattle.pf_script.specs.declared.line.ScriptLine.{ScriptLine}
 use Rattle.pf_script.specs.declared.line.ScriptLine.TheVariants as lines
 use Rattle.pf_script.specs.declared.reply.Reply.{Reply}
 use Rattle.pf_script.specs.declared.reply.Reply.TheVariants as replies
-use Rattle.pf_script.proofs.OneLike.{LikeOwn, LikeSeat, both_empty, both_own, LikeSeal, LikeSheet, LikeSheets, LikeDeed, creations, flushes as flush_deeds, moves, LikeActs, LikeEnds}
+use Rattle.pf_script.proofs.OneLike.{LikeOwn, LikeSeat, both_empty, both_own, LikeSeal, LikeSheet, LikeSheets, creations, flushes as flush_deeds, moves, LikeActs, LikeEnds}
 use Rattle.pf_script.proofs.OneWords.{front_one, rest_one, seals_words, seals_sheet, moved_words, moved_sheet, empty_words, empty_like}
 use Rattle.pf_script.proofs.OneSteps.{LikeSteps, steps_one, asked_one, resealed_like}
 

@@ -1,5 +1,5 @@
 -- How a line ends over files in which nothing fails: by a rule, as accepted, or by the damage of a file that was to be opened.
-use Rattle.std.proofs.Common.{◌≡◌, ◌⊎◌, inl, inr, ℕ, zero, suc, ◌*◌, Bool, true, false, List, [], ◌∷◌, ◌++◌, length, refl, ap, ◌∙◌, sym, arith, subst}
+use Rattle.std.proofs.Common.{◌≡◌, inl, inr, ℕ, zero, suc, ◌*◌, Bool, true, false, List, [], ◌∷◌, ◌++◌, length, arith}
 use Rattle.std.specs.Prelude.{Contains}
 use Rattle.node_layout.specs.declared.damage.Damage.{Damage}
 use Rattle.node_tree.specs.Sheet.{Sheet}
@@ -8,37 +8,10 @@ use Rattle.pf_io.specs.Host.{Answer, LengthWas, Gave}
 use Rattle.pf_script.specs.BookActs.{Act}
 use Rattle.pf_script.specs.FileTurns.{stands_on, opening_answers, answers_of, seen_over}
 use Rattle.pf_script.specs.Rules.{IsFirst, NoneRefuses, rules}
-use Rattle.pf_script.specs.Script.{Seat, Empty, Own}
+use Rattle.pf_script.specs.Script.{Seat, Empty}
 use Rattle.pf_script.specs.SeatSteps.{AsksFor}
 use Rattle.node_tree.specs.Applying.{Step}
-use Rattle.pf_script.specs.Turns.{
-  Seen,
-  Accepts,
-  IsShort,
-  IsOther,
-  IsOpeningDamage,
-  ByDamage,
-  BlamesFlush,
-  BlamesFetch,
-  of_flush,
-  of_close,
-  IsSealLine,
-  Fails,
-  not_opened,
-  not_read,
-  not_fetched,
-  not_fetched_after,
-  not_flushed_before,
-  not_sealed,
-  not_flushed_to_move,
-  not_moved,
-  SeatTurn,
-  refused,
-  accepted,
-  host_failed,
-  was_damaged,
-  words_failed,
-}
+use Rattle.pf_script.specs.Turns.{Accepts, IsOpeningDamage, ByDamage, BlamesFlush, BlamesFetch, of_flush, of_close, Fails, not_opened, not_read, not_fetched, not_fetched_after, not_flushed_before, not_sealed, not_flushed_to_move, not_moved, SeatTurn, refused, accepted, host_failed, was_damaged, words_failed}
 use Rattle.pf_script.specs.declared.line.ScriptLine.{ScriptLine}
 use Rattle.pf_script.specs.declared.line.ScriptLine.TheVariants as lines
 use Rattle.pf_script.specs.declared.reply.Reply.{Reply}

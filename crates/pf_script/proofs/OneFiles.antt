@@ -1,28 +1,26 @@
 -- What alike acts leave of alike files, and openings of these.
-use Rattle.std.proofs.Common.{◌≡◌, ◌≢◌, ◌⊎◌, inl, inr, ℕ, List, [], ◌∷◌, length, refl, ap, ◌∙◌, sym, subst, Option, Some, None}
-use Rattle.std.specs.Prelude.{Contains, take}
-use Rattle.std.proofs.lemmas.Option.{same_Some, none-some}
+use Rattle.std.proofs.Common.{◌≡◌, ◌≢◌, inl, inr, ℕ, List, [], ◌∷◌, length, refl, ap, ◌∙◌, sym, subst, Option, Some}
+use Rattle.std.specs.Prelude.{take}
+use Rattle.std.proofs.lemmas.Option.{same_Some}
 use Rattle.node_tree.specs.Sheet.{Sheet, Stands}
 use Rattle.node_tree.proofs.Standing.{stands_for_one}
 use Rattle.node_layout.specs.declared.damage.Damage.{Damage}
 use Rattle.pf_io.specs.Disk.{Name, Files}
-use Rattle.pf_io.specs.Host.{LengthWas}
-use Rattle.pf_io.specs.Names.{IsTarget, recovery_of}
+use Rattle.pf_io.specs.Names.{recovery_of}
 use Rattle.pf_session.specs.Aside.{Apart}
 use Rattle.pf_session.specs.Reopening.{ReopensAs}
 use Rattle.pf_session.proofs.Apartness.{apart_name}
 use Rattle.pf_script.specs.Book.{Seal}
-use Rattle.pf_script.specs.BookActs.{Deed, Opening, Creation, Flush, Move, Act}
-use Rattle.pf_script.specs.BookDebts.{IsApart, seal_of}
+use Rattle.pf_script.specs.BookActs.{Deed, Act}
 use Rattle.pf_script.specs.FileTurns.{opening_answers, FilesLeft, FilesAfter}
 use Rattle.pf_script.specs.Rules.{opening_rules}
 use Rattle.pf_script.specs.Turns.{IsOpeningDamage}
-use Rattle.pf_script.specs.declared.reply.Why.{Why}
 use Rattle.pf_script.specs.declared.reply.Why.TheVariants as whys
 use Rattle.pf_script.proofs.NameMaps.{name_or}
-use Rattle.pf_script.proofs.OneRules.{OneRule, AreOne, one_refusal, none_refused}
+use Rattle.pf_script.proofs.OpenRules.{was_there, magic_is, no_flag, no_version}
+use Rattle.pf_script.proofs.OneRules.{AreOne, one_refusal, none_refused}
 use Rattle.pf_script.proofs.OneLike.{LikeSheet, LikeSeal, LikeDeed, openings, creations, flushes, moves, LikeActs, LikeFile, same_bytes, both_stand, MayBeTarget, LikeFiles}
-use Rattle.pf_script.proofs.OneOpening.{told_rules, told_same, damage_same, is_there, has_magic, is_built, is_version, path_is, path_refused, undamaged}
+use Rattle.pf_script.proofs.OneOpening.{told_rules, told_same, damage_same, openable, path_is, path_refused, undamaged}
 
 -- what reopens is there
 stands_here : (key : List ℕ) (sheet : Sheet) (here log : Option (List ℕ)) → (reopens : ReopensAs key sheet here log) → here ≡ Some reopens.file
@@ -43,26 +41,28 @@ sheet_one key here there log more sheet base key_length (both_stand file other s
 
 module _ (key : List ℕ) (key_length : length key ≡ 16) (name : Name) where
   both_told : (file other : List ℕ) (sheet base : Sheet) → Stands file key sheet → Stands other key base → LikeSheet sheet base → AreOne (told_rules key name (opening_answers name (Some file))) (told_rules key name (opening_answers name (Some other)))
-  both_told file other sheet base stands stands' like = (
-    none_refused _ _ (is_there key key_length name file sheet stands) (is_there key key_length name other base stands'),
-    λ no_first. (
-      none_refused _ _ (has_magic key key_length name file sheet stands) (has_magic key key_length name other base stands'),
-      λ no_second. (
-        none_refused _ _ (is_built key key_length name file sheet stands) (is_built key key_length name other base stands'),
-        λ no_third. (
-          none_refused _ _ (is_version key key_length name file sheet stands) (is_version key key_length name other base stands'),
-          λ no_fourth. (
-            record {
-              one = λ why say a b. (path_is key key_length name file sheet stands why a).0 ∙ ap whys.WrongPath like.path ∙ sym (path_is key key_length name other base stands' say b).0;
-              forth = λ why a. path_refused key key_length name other base stands' (λ is. (path_is key key_length name file sheet stands why a).1 (is ∙ sym like.path));
-              back = λ say b. path_refused key key_length name file sheet stands (λ is. (path_is key key_length name other base stands' say b).1 (is ∙ like.path));
-            },
-            λ no_fifth. tt,
+  both_told file other sheet base stands stands' like =
+      let here = openable key key_length name file sheet stands in
+      let there = openable key key_length name other base stands' in (
+        none_refused _ _ (was_there name (length file) (take 4096 file)) (was_there name (length other) (take 4096 other)),
+        λ no_first. (
+          none_refused _ _ (magic_is name (length file) (take 4096 file) here.plain.magic_is) (magic_is name (length other) (take 4096 other) there.plain.magic_is),
+          λ no_second. (
+            none_refused _ _ (no_flag name (length file) (take 4096 file) here.flag) (no_flag name (length other) (take 4096 other) there.flag),
+            λ no_third. (
+              none_refused _ _ (no_version name (length file) (take 4096 file) here) (no_version name (length other) (take 4096 other) there),
+              λ no_fourth. (
+                record {
+                  one = λ why say a b. (path_is key key_length name file sheet stands why a).0 ∙ ap whys.WrongPath like.path ∙ sym (path_is key key_length name other base stands' say b).0;
+                  forth = λ why a. path_refused key key_length name other base stands' (λ is. (path_is key key_length name file sheet stands why a).1 (is ∙ sym like.path));
+                  back = λ say b. path_refused key key_length name file sheet stands (λ is. (path_is key key_length name other base stands' say b).1 (is ∙ like.path));
+                },
+                λ no_fifth. tt,
+              ),
+            ),
           ),
         ),
-      ),
-    ),
-  )
+      )
 
   told_alike : (here there : Option (List ℕ)) → LikeFile key here there → AreOne (told_rules key name (opening_answers name here)) (told_rules key name (opening_answers name there))
   told_alike here there (same_bytes is) = subst (λ (o : Option (List ℕ)). AreOne (told_rules key name (opening_answers name here)) (told_rules key name (opening_answers name o))) is (told_same key name here)

@@ -1,5 +1,5 @@
 -- Two runs side by side: what of their seats, acts and files is alike.
-use Rattle.std.proofs.Common.{◌≡◌, ℕ, Bool, List, [], ◌∷◌, ◌++◌, length, Option, Some}
+use Rattle.std.proofs.Common.{◌≡◌, ℕ, List, [], ◌∷◌, length, Option, Some}
 use Rattle.node_tree.specs.Sheet.{Sheet, Stands}
 use Rattle.pf_io.specs.Disk.{Name, Files}
 use Rattle.pf_io.specs.Names.{IsTarget}

@@ -1,20 +1,19 @@
 -- The rules of each line refuse alike over files and seats that are alike.
-use Rattle.std.proofs.Common.{◌≡◌, ◌≢◌, ◌⊎◌, inl, inr, ◌↔◌, ℕ, ◌<◌, ◌+◌, Bool, true, false, List, [], ◌∷◌, ◌++◌, length, refl, ap, ◌∙◌, sym, arith, subst, Option, Some, None, IfSome, zero, suc}
+use Rattle.std.proofs.Common.{◌≡◌, ◌≢◌, ℕ, ◌<◌, Bool, true, List, [], ◌∷◌, ◌++◌, length, refl, ap, ◌∙◌, sym, arith, Option, Some, None, IfSome, zero, suc}
 use Rattle.std.specs.Prelude.{Contains}
-use Rattle.std.proofs.lemmas.Option.{same_Some, none-some}
+use Rattle.std.proofs.lemmas.Option.{none-some}
 use Rattle.pf_io.specs.Disk.{Name, Files}
 use Rattle.pf_io.specs.Host.{Answer, LengthWas, length_of}
 use Rattle.pf_io.specs.Names.{IsTarget}
 use Rattle.pf_script.specs.FileTurns.{answers_of, opening_answers}
-use Rattle.pf_script.specs.Rules.{Rule, refuses, IsBroken, passes_end, seating_rules, seated_rules, writing_rules, opening_rules, rules}
+use Rattle.pf_script.specs.Rules.{Rule, refuses, passes_end, seating_rules, seated_rules, writing_rules, opening_rules, rules}
 use Rattle.pf_script.specs.Script.{OwnSeat, Seat, Empty, Own, name_of_line}
 use Rattle.pf_script.specs.SeatSteps.{PIECE, LARGEST}
 use Rattle.pf_script.specs.declared.line.ScriptLine.{ScriptLine}
 use Rattle.pf_script.specs.declared.line.ScriptLine.TheVariants as lines
-use Rattle.pf_script.specs.declared.reply.Why.{Why}
 use Rattle.pf_script.specs.declared.reply.Why.TheVariants as whys
 use Rattle.pf_script.proofs.OneRules.{OneRule, AreOne, one_refusal, none_refused}
-use Rattle.pf_script.proofs.OneLike.{LikeOwn, LikeSeat, both_empty, both_own, LikeFile, MayBeTarget, LikeFiles}
+use Rattle.pf_script.proofs.OneLike.{LikeSeat, both_empty, both_own, LikeFile, MayBeTarget, LikeFiles}
 use Rattle.pf_script.proofs.OneFiles.{like_sym, there_too, opening_alike}
 
 not_empty : (own : OwnSeat) → Own own ≡ Empty → ⊥

@@ -1,39 +1,31 @@
 -- The rules and the damage of an opening over files that are alike.
-use Rattle.std.proofs.Common.{◌≡◌, ◌≢◌, ℕ, ◌<◌, List, [], ◌∷◌, ◌++◌, length, length-append, take, refl, ap, ◌∙◌, sym, arith, subst, Option, Some, None}
+use Rattle.std.proofs.Common.{◌≡◌, ◌≢◌, ℕ, List, [], ◌∷◌, ◌++◌, length, length-append, take, refl, ap, ◌∙◌, sym, arith, subst, Option, Some, None}
 use Rattle.std.specs.Prelude.{Contains, slice_index}
-use Rattle.std.proofs.lemmas.Option.{same_Some, none-some}
-use Rattle.node_layout.specs.Faults.{IsPlainFault, IsSomeMetaText}
-use Rattle.node_layout.specs.Metadata.{magic, flag_at, meta_opens}
+use Rattle.std.proofs.lemmas.Option.{none-some}
+use Rattle.node_layout.specs.Metadata.{magic, flag_at}
 use Rattle.node_layout.specs.Opening.{OpensTo, IsOpenFault}
 use Rattle.node_layout.specs.declared.damage.Damage.{Damage}
 use Rattle.node_layout.specs.declared.damage.Kind.{Kind}
 use Rattle.node_layout.specs.declared.damage.Kind.TheVariants as kinds
 use Rattle.node_layout.specs.declared.metadata.MetaSecret.{MetaSecret}
-use Rattle.node_layout.specs.declared.metadata.PlainFault.TheVariants.{BadVersion}
 use Rattle.node_layout.proofs.Secrets.{opens_to_one}
-use Rattle.node_tree.specs.Opened.{block_of}
-use Rattle.node_tree.specs.Sheet.{Sheet, Stands, meta_of}
+use Rattle.node_tree.specs.Sheet.{Sheet, Stands}
 use Rattle.node_tree.specs.Standing.{StandingFile}
 use Rattle.node_tree.specs.Unforged.{Carries}
 use Rattle.node_tree.proofs.FileParts.{standing_file}
-use Rattle.node_tree.proofs.Standing.{meta_is_text, stands_for_one}
 use Rattle.pf_io.specs.Disk.{Name}
 use Rattle.pf_io.specs.Host.{Answer, LengthWas, Gave}
-use Rattle.pf_io.specs.Names.{IsTarget}
 use Rattle.pf_session.specs.Carries.{IsLast}
-use Rattle.pf_session.specs.Opening.{IsOpenable, BlockRefused, other_version as version_refused, node_answers}
-use Rattle.pf_session.specs.Reopening.{ReopensAs}
-use Rattle.pf_session.specs.declared.open_fault.OpenFault.TheVariants as faults
+use Rattle.pf_session.specs.Opening.{IsOpenable}
 use Rattle.pf_session.proofs.Backed.{last_there, path_same}
-use Rattle.pf_session.proofs.OpenStanding.{not_block, is_carried}
+use Rattle.pf_session.proofs.OpenStanding.{is_carried}
 use Rattle.pf_script.specs.FileTurns.{opening_answers}
-use Rattle.pf_script.specs.Rules.{Rule, refuses, other_version, other_path, opening_rules}
+use Rattle.pf_script.specs.Rules.{Rule, refuses, other_version, other_path}
 use Rattle.pf_script.specs.Turns.{IsOpeningDamage, short_zero, closed_zero}
 use Rattle.pf_script.specs.declared.reply.Why.{Why}
 use Rattle.pf_script.specs.declared.reply.Why.TheVariants as whys
-use Rattle.pf_script.proofs.LastBlock.{not_of, last_one}
-use Rattle.pf_script.proofs.OneRules.{OneRule, AreOne, one_refusal, none_refused}
-use Rattle.pf_script.proofs.OneLike.{LikeSheet, LikeFile, same_bytes, both_stand, MayBeTarget}
+use Rattle.pf_script.proofs.OpenRules.{last_one, never_opens}
+use Rattle.pf_script.proofs.OneRules.{OneRule, AreOne, one_refusal}
 
 no_last : (name : Name) (block : List ℕ) → IsLast name (opening_answers name None) block → ⊥
 no_last name block last = by_front last.before last.split
@@ -125,7 +117,7 @@ module _ (key : List ℕ) (key_length : length key ≡ 16) (name : Name) (file :
   read : StandingFile file key sheet
   read = standing_file file key sheet key_length stands
 
-  openable : IsOpenable block
+  pub openable : IsOpenable block
   openable = record { whole = read.whole; flag = read.flag; plain = read.plain }
 
   carried : Carries key block sheet
@@ -133,21 +125,6 @@ module _ (key : List ℕ) (key_length : length key ≡ 16) (name : Name) (file :
 
   block_is : (other : List ℕ) → IsLast name told other → other ≡ block
   block_is other last = last_one name (length file) block other last
-
-  pub is_there : (why : Why) → ¬ (refuses (whys.NotFound name) (Contains told (LengthWas name None)) why)
-  is_there why r =
-      not_of (LengthWas name (Some (length file))) (LengthWas name None) (Gave name 0 4096 block ∷ []) (λ same. absurd (cc))
-      (not_of (Gave name 0 4096 block) (LengthWas name None) [] (λ same. absurd (cc)) (λ none. absurd (omega (arith, none.1)))) r.1
-
-  pub has_magic : (why : Why) → ¬ (refuses whys.NotProtected ((b : List ℕ) × IsLast name told b × (take 8 b ≢ magic)) why)
-  has_magic why r = r.1.2 (subst (λ (b : List ℕ). take 8 b ≡ magic) (sym (block_is r.1.0 r.1.1)) openable.plain.magic_is)
-
-  pub is_built : (why : Why) → ¬ (refuses whys.Unbuilt ((b : List ℕ) × IsLast name told b × (length b ≡ 4096) × (flag_at b ≢ 0)) why)
-  is_built why r = r.1.3 (subst (λ (b : List ℕ). flag_at b ≡ 0) (sym (block_is r.1.0 r.1.1)) openable.flag)
-
-  pub is_version : (why : Why) → ¬ (other_version name told why)
-  is_version why r =
-      not_block block openable (faults.BadVersion r.1 r.2) (version_refused r.1 r.2 openable.whole openable.flag (subst (λ (b : List ℕ). IsPlainFault b (BadVersion r.1 r.2)) (block_is r.0 r.3) r.6) refl)
 
   -- the path that is refused is the sheet's
   pub path_is : (why : Why) → other_path key name told why → (why ≡ whys.WrongPath sheet.path) × (name ≢ sheet.path)
@@ -160,12 +137,6 @@ module _ (key : List ℕ) (key_length : length key ≡ 16) (name : Name) (file :
       let same = path_same key name block read.secret read.opens_to sheet stands.linked carried in
       (whys.WrongPath read.secret.path, (block, read.secret, last_there name (length file) block, openable.whole, read.opens_to, (λ is. other (is ∙ sym same)), refl))
 
-  not_closed : (kind : Kind) → IsOpenFault key block kind → ⊥
-  not_closed kinds.Short why = why
-  not_closed kinds.Tag why = none-some (meta_of sheet) (sym why ∙ carried.metadata)
-  not_closed kinds.Text why = why.2 (subst IsSomeMetaText (same_Some (meta_of sheet) why.0 (sym carried.metadata ∙ why.1)) (_, (_, (_, (_, (_, meta_is_text sheet stands.linked))))))
-  not_closed kinds.Log why = why
-
   pub undamaged : (damage : Damage) → IsOpeningDamage key name told damage → ⊥
   undamaged damage (short_zero b last short is) = let e = ap (λ (l : List ℕ). length l) (block_is b last) in let whole = openable.whole in omega arith
-  undamaged damage (closed_zero b kind last whole fault is) = not_closed kind (subst (λ (l : List ℕ). IsOpenFault key l kind) (block_is b last) fault)
+  undamaged damage (closed_zero b kind last whole fault is) = never_opens key block kind read.secret (subst (λ (l : List ℕ). IsOpenFault key l kind) (block_is b last) fault) read.opens_to

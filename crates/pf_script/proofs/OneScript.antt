@@ -1,23 +1,21 @@
 -- Files, lines and words have one run from empty seats.
-use Rattle.std.proofs.Common.{◌≡◌, ◌≢◌, ◌⊎◌, inl, inr, ◌↔◌, IsTrue, ℕ, ◌<◌, ◌≤◌, Bool, true, false, List, [], ◌∷◌, ◌++◌, length, map, refl, ap, ◌∙◌, sym, arith, subst, Option, Some, None, IfSome, append_assoc}
+use Rattle.std.proofs.Common.{◌≡◌, inl, inr, ◌↔◌, IsTrue, ℕ, ◌≤◌, Bool, true, false, List, [], ◌∷◌, ◌++◌, length, map, refl, ap, ◌∙◌, sym, arith, subst, Option, Some, None, IfSome, append_assoc}
 use Rattle.std.specs.Prelude.{set, get_or}
 use Rattle.std.specs.List.{flat_map}
 use Rattle.std.proofs.lemmas.Bool.{cases_lt, cases_eq}
 use Rattle.std.proofs.lemmas.List.{get_or-set_same, get_or-set_other, length-set}
-use Rattle.std.proofs.lemmas.List.Concat.{flat_map-cons}
 use Rattle.std.proofs.Math.ListN.{get_or-eq_default}
 use Rattle.std.proofs.lemmas.Option.{same_Some, none-some}
 use Rattle.pf_io.specs.Disk.{Name, Files}
 use Rattle.pf_script.specs.BookActs.{Act}
-use Rattle.pf_script.specs.FileRuns.{RunsOver, TakesWords, OneRun}
+use Rattle.pf_script.specs.FileRuns.{RunsOver, OneRun}
 use Rattle.pf_script.specs.FileTurns.{stands_on, seen_over, TurnOver}
-use Rattle.pf_script.specs.Script.{Seat, Empty, Own, ScriptState, seat_at, HasThisName, IsTaken, state_with, seat_of_line, name_of_line}
+use Rattle.pf_script.specs.Script.{Seat, Empty, ScriptState, seat_at, HasThisName, IsTaken, state_with, seat_of_line, name_of_line}
 use Rattle.pf_script.specs.ScriptRuns.{Exchange}
 use Rattle.pf_script.specs.Turns.{SeatTurn, SaysTaken, Turn, silent, on_seat}
 use Rattle.pf_script.specs.declared.line.ScriptLine.{ScriptLine}
-use Rattle.pf_script.specs.declared.line.ScriptLine.TheVariants as lines
 use Rattle.pf_script.specs.declared.reply.Reply.{Reply}
-use Rattle.pf_script.proofs.OneLike.{LikeSeat, both_empty, both_own, LikeState, LikeActs, LikeFiles, same_bytes, LikeEnds}
+use Rattle.pf_script.proofs.OneLike.{LikeSeat, both_empty, both_own, LikeState, LikeActs, LikeFiles, same_bytes}
 use Rattle.pf_script.proofs.OneWords.{rest_one}
 use Rattle.pf_script.proofs.OneFiles.{acts_leave}
 use Rattle.pf_script.proofs.OneEnds.{line_ends}

@@ -1,18 +1,15 @@
 -- The steps of a line, made on seats that are alike.
-use Rattle.std.proofs.Common.{◌≡◌, ◌≢◌, ◌⊎◌, inl, inr, ◌↔◌, ℕ, ◌+◌, ◌<◌, ◌≤◌, true, List, [], ◌∷◌, ◌++◌, length, length-append, refl, ap, ◌∙◌, sym, arith, subst, append_assoc, None}
-use Rattle.std.specs.Prelude.{Contains, replicate}
-use Rattle.std.specs.List.Sorted.{IsStrictlyIncreasing}
-use Rattle.node_layout.specs.Places.{node_count}
-use Rattle.node_tree.specs.Applying.{Step, Write, Size, applied, size_after, from_of, to_of, Touches}
-use Rattle.node_tree.specs.Marks.{AreChanged, IsChangedCount, MayChange}
+use Rattle.std.proofs.Common.{◌≡◌, ℕ, ◌+◌, List, [], ◌∷◌, ◌++◌, length, refl, ap, ◌∙◌, sym, arith, subst, append_assoc}
+use Rattle.std.specs.Prelude.{replicate}
+use Rattle.node_tree.specs.Applying.{Step, Size, applied}
 use Rattle.node_tree.specs.Sheet.{Sheet}
 use Rattle.node_tree.proofs.Order.{same_rising}
 use Rattle.pf_script.specs.Script.{OwnSeat}
-use Rattle.pf_script.specs.SeatSteps.{PIECE, FlushesFirst, Fits, AreDirtyAfter, IsStepped, Seals, resealed, Makes, at_once, once_flushed, MakesAll, none_left, one_more, IsWrite, nothing, at_place, IsResize, same, last, piece, AsksFor}
+use Rattle.pf_script.specs.SeatSteps.{PIECE, FlushesFirst, Fits, AreDirtyAfter, IsStepped, resealed, Makes, at_once, once_flushed, MakesAll, none_left, one_more, IsWrite, nothing, at_place, IsResize, same, last, piece, AsksFor}
 use Rattle.pf_script.specs.declared.line.ScriptLine.{ScriptLine}
 use Rattle.pf_script.specs.declared.line.ScriptLine.TheVariants as lines
 use Rattle.pf_script.proofs.OneLike.{LikeOwn, LikeSheet, LikeSheets}
-use Rattle.pf_script.proofs.OneWords.{front_one, rest_one, seals_words, seals_sheet}
+use Rattle.pf_script.proofs.OneWords.{rest_one, seals_words, seals_sheet}
 
 -- the dirty nodes after a step are one list
 dirty_one : (size more : ℕ) (dirty other : List ℕ) (step : Step) (after left : List ℕ) → size ≡ more → dirty ≡ other → AreDirtyAfter size dirty step after → AreDirtyAfter more other step left → after ≡ left

@@ -1,5 +1,5 @@
 -- A line over alike files and on alike seats, with the same words to come, is answered alike.
-use Rattle.std.proofs.Common.{◌≡◌, ℕ, Bool, List, [], ◌∷◌, ◌++◌, length, refl, ap, ◌∙◌, sym, subst, IfSome}
+use Rattle.std.proofs.Common.{◌≡◌, ℕ, Bool, List, [], ◌++◌, length, refl, ap, ◌∙◌, sym, subst, IfSome}
 use Rattle.node_layout.specs.declared.damage.Damage.{Damage}
 use Rattle.pf_io.specs.Disk.{Name, Files}
 use Rattle.pf_io.specs.Names.{recovery_of}
@@ -19,7 +19,7 @@ use Rattle.pf_script.proofs.OneLike.{LikeSeat, both_empty, both_own, openings, L
 use Rattle.pf_script.proofs.OneAccepts.{new_like, create_one, read_one, write_one, fill_one, size_one, flush_one, move_one, draw_one, close_one}
 use Rattle.pf_script.proofs.OneFiles.{sheet_one, damage_alike, open_undamaged, like_sym}
 use Rattle.pf_script.proofs.OneLines.{rules_alike}
-use Rattle.pf_script.proofs.OneEnds.{LineEnds, by_rule, by_line, by_damage, line_ends}
+use Rattle.pf_script.proofs.OneEnds.{LineEnds, by_rule, by_line, by_damage}
 
 -- where no rule refuses an opening, its name may be one of a protected file
 may_open : (key : List ℕ) (taken : Bool) (files : Files) (seat : Seat) (k : ℕ) (name : Name) → NoneRefuses (rules key taken seat (lines.Open k name) (opening_answers name (files name))) → MayBeTarget name

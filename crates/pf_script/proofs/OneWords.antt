@@ -1,8 +1,7 @@
 -- The words of a step are the first of a stream: as many of two as one step takes are the same.
-use Rattle.std.proofs.Common.{◌≡◌, ℕ, ◌+◌, List, [], ◌∷◌, ◌++◌, length, length-append, take, refl, ap, ◌∙◌, sym, arith, subst, Option, Some, None, append_assoc}
+use Rattle.std.proofs.Common.{◌≡◌, ℕ, List, ◌++◌, length, length-append, take, ap, ◌∙◌, sym, arith, Option, Some, None}
 use Rattle.std.proofs.lemmas.List.{append_cancel_left}
 use Rattle.std.proofs.Math.Seq.{take-append_seam}
-use Rattle.std.proofs.lemmas.Option.{same_Some}
 use Rattle.node_tree.specs.Sheet.{Sheet}
 use Rattle.pf_session.specs.Drawing.{IsNonce, was_drawn, of_words}
 use Rattle.pf_script.specs.Script.{OwnSeat}

@@ -42,7 +42,7 @@ node_given name size block None is gave = absurd (cc)
 node_given name size block (Some file) is gave = let same : size ≡ length file = cc in rw same (rw gave refl)
 
 -- what does not open does not open to fields
-never_opens : (key block : List ℕ) (kind : Kind) (secret : MetaSecret) → IsOpenFault key block kind → OpensTo key block secret → ⊥
+pub never_opens : (key block : List ℕ) (kind : Kind) (secret : MetaSecret) → IsOpenFault key block kind → OpensTo key block secret → ⊥
 never_opens key block kinds.Short secret why opens = why
 never_opens key block kinds.Tag secret why opens = let e : None ≡ Some opens.0 = sym why ∙ opens.1 in absurd (cc)
 never_opens key block kinds.Text secret why opens =
@@ -51,6 +51,27 @@ never_opens key block kinds.Text secret why opens =
     why.2 (subst (λ (t : List ℕ). IsSomeMetaText t) same (secret.path, (secret.size, (secret.root_key, (secret.root_tag, (secret.first, opens.2))))))
 never_opens key block kinds.Log secret why opens = why
 
+-- rules that do not refuse such a node 0
+module _ (name : Name) (size : ℕ) (block : List ℕ) where
+  abbrev answers : List Answer
+  answers = node_answers name size block
+
+  pub was_there : (why : Why) → (why ≡ whys.NotFound name) × Contains answers (LengthWas name None) → ⊥
+  was_there why refuses =
+      not_of (LengthWas name (Some size)) (LengthWas name None) (Gave name 0 4096 block ∷ []) (λ same. absurd (cc))
+      (not_of (Gave name 0 4096 block) (LengthWas name None) [] (λ same. absurd (cc)) (λ none. absurd (omega (arith, none.1)))) refuses.1
+
+  pub magic_is : take 8 block ≡ magic → (why : Why) → (why ≡ whys.NotProtected) × ((b : List ℕ) × IsLast name answers b × (take 8 b ≢ magic)) → ⊥
+  magic_is is why refuses = refuses.1.2 (subst (λ (b : List ℕ). take 8 b ≡ magic) (sym (last_one name size block refuses.1.0 refuses.1.1)) is)
+
+  pub no_flag : flag_at block ≡ 0 → (why : Why) → (why ≡ whys.Unbuilt) × ((b : List ℕ) × IsLast name answers b × (length b ≡ 4096) × (flag_at b ≢ 0)) → ⊥
+  no_flag is why refuses = refuses.1.3 (subst (λ (b : List ℕ). flag_at b ≡ 0) (sym (last_one name size block refuses.1.0 refuses.1.1)) is)
+
+  pub no_version : IsOpenable block → (why : Why) → other_version_rule name answers why → ⊥
+  no_version openable why refuses =
+      not_block block openable (faults.BadVersion refuses.1 refuses.2)
+      (other_version refuses.1 refuses.2 openable.whole openable.flag (subst (λ (b : List ℕ). IsPlainFault b (BadVersion refuses.1 refuses.2)) (last_one name size block refuses.0 refuses.3) refuses.6) refl)
+
 module _ (key : List ℕ) (name : Name) (target : IsTarget name) (size : ℕ) (block : List ℕ) where
   abbrev given : List Answer
   given = node_answers name size block
@@ -58,39 +79,23 @@ module _ (key : List ℕ) (name : Name) (target : IsTarget name) (size : ℕ) (b
   last : IsLast name given block
   last = last_there name size block
 
-  was_there : (why : Why) → (why ≡ whys.NotFound name) × Contains given (LengthWas name None) → ⊥
-  was_there why refuses =
-      not_of (LengthWas name (Some size)) (LengthWas name None) (Gave name 0 4096 block ∷ []) (λ same. absurd (cc))
-      (not_of (Gave name 0 4096 block) (LengthWas name None) [] (λ same. absurd (cc)) (λ none. absurd (omega (arith, none.1)))) refuses.1
-
   pub not_protected_first : take 8 block ≢ magic → IsFirstRule (opening_rules key name given) whys.NotProtected
-  not_protected_first other = inr ((λ why refuses. refuses.1 target), inr (was_there, inl (refl, (block, last, other))))
-
-  magic_is : take 8 block ≡ magic → (why : Why) → (why ≡ whys.NotProtected) × ((b : List ℕ) × IsLast name given b × (take 8 b ≢ magic)) → ⊥
-  magic_is is why refuses = refuses.1.2 (subst (λ (b : List ℕ). take 8 b ≡ magic) (sym (last_one name size block refuses.1.0 refuses.1.1)) is)
+  not_protected_first other = inr ((λ why refuses. refuses.1 target), inr (was_there name size block, inl (refl, (block, last, other))))
 
   pub unbuilt_first : take 8 block ≡ magic → length block ≡ 4096 → flag_at block ≢ 0 → IsFirstRule (opening_rules key name given) whys.Unbuilt
-  unbuilt_first is whole flag = inr ((λ why refuses. refuses.1 target), inr (was_there, inr (magic_is is, inl (refl, (block, last, whole, flag)))))
-
-  no_flag : flag_at block ≡ 0 → (why : Why) → (why ≡ whys.Unbuilt) × ((b : List ℕ) × IsLast name given b × (length b ≡ 4096) × (flag_at b ≢ 0)) → ⊥
-  no_flag is why refuses = refuses.1.3 (subst (λ (b : List ℕ). flag_at b ≡ 0) (sym (last_one name size block refuses.1.0 refuses.1.1)) is)
+  unbuilt_first is whole flag = inr ((λ why refuses. refuses.1 target), inr (was_there name size block, inr (magic_is name size block is, inl (refl, (block, last, whole, flag)))))
 
   pub version_first : (major minor : ℕ) → length block ≡ 4096 → flag_at block ≡ 0 → IsPlainFault block (BadVersion major minor) → IsFirstRule (opening_rules key name given) (whys.BadVersion major minor)
   version_first major minor whole flag other =
-      inr ((λ why refuses. refuses.1 target), inr (was_there, inr (magic_is other.0, inr (no_flag flag, inl (block, major, minor, last, whole, flag, other, refl)))))
-
-  no_version : IsOpenable block → (why : Why) → other_version_rule name given why → ⊥
-  no_version openable why refuses =
-      not_block block openable (faults.BadVersion refuses.1 refuses.2)
-      (other_version refuses.1 refuses.2 openable.whole openable.flag (subst (λ (b : List ℕ). IsPlainFault b (BadVersion refuses.1 refuses.2)) (last_one name size block refuses.0 refuses.3) refuses.6) refl)
+      inr ((λ why refuses. refuses.1 target), inr (was_there name size block, inr (magic_is name size block other.0, inr (no_flag name size block flag, inl (block, major, minor, last, whole, flag, other, refl)))))
 
   pub path_first : IsOpenable block → (secret : MetaSecret) → OpensTo key block secret → name ≢ secret.path → IsFirstRule (opening_rules key name given) (whys.WrongPath secret.path)
   path_first openable secret opens other =
-      inr ((λ why refuses. refuses.1 target), inr (was_there, inr (magic_is openable.plain.magic_is, inr (no_flag openable.flag, inr (no_version openable, inl (block, secret, last, openable.whole, opens, other, refl))))))
+      inr ((λ why refuses. refuses.1 target), inr (was_there name size block, inr (magic_is name size block openable.plain.magic_is, inr (no_flag name size block openable.flag, inr (no_version name size block openable, inl (block, secret, last, openable.whole, opens, other, refl))))))
 
   -- a node 0 that is whole and of version 1.0 is refused only by its path
   none_but : IsOpenable block → ((why : Why) → ¬ (other_path_rule key name given why)) → NoneRefuses (opening_rules key name given)
-  none_but openable no_path = ((λ why refuses. refuses.1 target), (was_there, (magic_is openable.plain.magic_is, (no_flag openable.flag, (no_version openable, (no_path, tt))))))
+  none_but openable no_path = ((λ why refuses. refuses.1 target), (was_there name size block, (magic_is name size block openable.plain.magic_is, (no_flag name size block openable.flag, (no_version name size block openable, (no_path, tt))))))
 
   pub none_refuses : IsOpenable block → (secret : MetaSecret) → OpensTo key block secret → name ≡ secret.path → NoneRefuses (opening_rules key name given)
   none_refuses openable secret opens same =
@@ -111,9 +116,9 @@ module _ (key : List ℕ) (name : Name) (target : IsTarget name) (size : ℕ) (b
   none_short is short = (
     λ why refuses. refuses.1 target,
     (
-      was_there,
+      was_there name size block,
       (
-        magic_is is,
+        magic_is name size block is,
         (λ why refuses. not_whole short refuses.1.0 refuses.1.1 refuses.1.2, (λ why refuses. not_whole short refuses.0 refuses.3 refuses.4, (λ why refuses. not_whole short refuses.0 refuses.2 refuses.3, tt))),
       ),
     ),

@@ -18,9 +18,9 @@ use Rattle.pf_script.specs.BookActs.{Deed, Opening, Creation, Flush, Move, Act, 
 abbrev pub Unchanged : Honest → Honest → Type 0
 Unchanged old new = Ran IsImage Stays old new
 
--- a name that the deed leaves alone
+-- a name that the deed leaves alone; an opening changes nothing
 abbrev pub IsApart : Deed → Name → Type 0
-IsApart (Opening seal) other = Apart seal.name other
+IsApart (Opening seal) other = Unit {0}
 IsApart (Creation seal) other = Apart seal.name other
 IsApart (Flush seal) other = Apart seal.name other
 IsApart (Move from seal) other = Apart seal.name other × Apart from other
@@ -37,6 +37,10 @@ AreTargets (Opening seal) = IsTarget seal.name
 AreTargets (Creation seal) = IsTarget seal.name
 AreTargets (Flush seal) = IsTarget seal.name
 AreTargets (Move from seal) = IsTarget seal.name × IsTarget from
+
+-- a name that each of some deeds leaves alone
+abbrev pub AreApart : List Act → Name → Type 0
+AreApart acts other = (act : Act) → Contains acts act → IsApart act.deed other
 
 -- Whatever stands at its names, a call leaves all others alone; and the disk reads as one of its images, as that of each honest host.
 pub record SparesOthers (deed : Deed) (old new : Honest) : Type 0 where

@@ -1,22 +1,36 @@
 -- A run of a script under a book, on an honest disk.
-use Rattle.std.specs.Prelude.{◌≡◌, false, List, [], ◌∷◌}
-use Rattle.pf_io.specs.Disk.{reading}
-use Rattle.pf_io.specs.Moments.{Honest, LeavesOnly}
+use Rattle.std.specs.Prelude.{◌≡◌, ◌⊎◌, ℕ, false, List, [], ◌∷◌, Contains, Some, IsSome}
+use Rattle.pf_io.specs.Disk.{Name, reading}
+use Rattle.pf_io.specs.Moments.{Honest, LeavesOnly, Ran}
 use Rattle.pf_script.specs.Book.{Book, Seal, ImageFits, Agrees}
 use Rattle.pf_script.specs.BookActs.{Act, booked_all, FitsDuring}
-use Rattle.pf_script.specs.BookTurns.{KnowsLine}
-use Rattle.pf_script.specs.FileTurns.{stands_on, TurnOver}
-use Rattle.pf_script.specs.Script.{ScriptState}
+use Rattle.pf_script.specs.BookDebts.{seat_of, AreApart, LeavesOthers, KeepsOthers}
+use Rattle.pf_script.specs.BookTurns.{KnowsLine, OnItsSeat}
+use Rattle.pf_script.specs.FileTurns.{stands_on}
+use Rattle.pf_script.specs.Script.{OwnSeat, Own, ScriptState, HasThisName, seat_at, seat_of_line, name_of_line}
 use Rattle.pf_script.specs.ScriptRuns.{Exchange}
-use Rattle.pf_script.specs.Turns.{Failed, Turn}
+use Rattle.pf_script.specs.Turns.{Turn}
+use Rattle.pf_script.specs.declared.line.ScriptLine.{ScriptLine}
 
--- An exchange did these acts: at every moment an image is as the book says at some point of them, and in the end the book after them agrees with the disk. Where the book tells what the line
--- comes to, they are those of its turn, on the files as they read before it; and where nothing failed, it is the turn that these files give.
+-- each seat has the name that it had, and the line's seat that or the one that the line gives
+abbrev pub NamesStay : ScriptLine → ScriptState → ScriptState → Type 0
+NamesStay line state after =
+    (k : ℕ) (name : Name) → HasThisName name (seat_at after k) → HasThisName name (seat_at state k) ⊎ ((seat_of_line line ≡ Some k) × (name_of_line line ≡ Some name))
+
+-- the seats that are whole and on names of the book are among these
+abbrev pub AreSeated : Book → ScriptState → List Seal → Type 0
+AreSeated book state seats = (k : ℕ) (own : OwnSeat) → seat_at state k ≡ Own own → own.broken ≡ false → IsSome (book own.name) → Contains seats (seat_of own.key own.name own.sheet)
+
+-- An exchange did these acts, of its own seat: at every moment an image is as the book says at some point of them, and each name that they leave alone is as before; in the end the book after them
+-- agrees with the disk and the seats. Where the book tells what the line comes to, they are those of its turn, on the files as they read before it.
 pub record ActsIn (exchange : Exchange) (book : Book) (state after : ScriptState) (acts : List Act) (left : List Seal) (old new : Honest) : Type 0 where
   pub leaves : LeavesOnly (FitsDuring book acts) old new
+  pub spares : Ran (LeavesOthers (AreApart acts)) (KeepsOthers (AreApart acts)) old new
   pub agrees : Agrees (booked_all acts book) left new.now
+  pub seated : AreSeated (booked_all acts book) after left
+  pub on_seat : OnItsSeat exchange.line exchange.reply state after acts
+  pub named : NamesStay exchange.line state after
   pub turn : KnowsLine book state exchange.line exchange.reply → Turn (stands_on state.key (reading old.now)) state exchange.line exchange.seen exchange.reply acts after
-  pub over : KnowsLine book state exchange.line exchange.reply → Failed exchange.seen false false → TurnOver state exchange.line exchange.seen.words exchange.reply acts after (reading old.now) (reading new.now)
 
 -- The exchanges come one after the other, each from the book, the state and the disk that the one before left. In the end they have E.
 abbrev pub FollowsUnder : Book → ScriptState → List Exchange → Honest → (Book → ScriptState → Honest → Type 0) → Type 0

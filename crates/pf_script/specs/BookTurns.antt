@@ -1,5 +1,5 @@
 -- What a line does under a book: the book goes on beside the state of the script.
-use Rattle.std.specs.Prelude.{⊤, ◌≡◌, ◌⊎◌, ℕ, Bool, true, false, List, length, Contains, Option, Some, None, IfSome, IsSome, IsSomeAnd, Result, Ok}
+use Rattle.std.specs.Prelude.{⊤, ◌≡◌, ◌≢◌, ◌⊎◌, ℕ, Bool, true, false, List, [], length, Contains, Option, Some, None, IfSome, IsSome, IsSomeAnd, Result, Ok}
 use Rattle.node_tree.specs.Sheet.{Sheet}
 use Rattle.pf_io.specs.Disk.{Name, IsImage, reading}
 use Rattle.pf_io.specs.Host.{HostState, Both, IsMore, OnDisk}
@@ -15,9 +15,9 @@ use Rattle.pf_script.specs.BookDebts.{DidAll, seat_of}
 use Rattle.pf_script.specs.BookSeats.{SparesSeats}
 use Rattle.pf_script.specs.Desk.{DeskState, session_at, seat_on}
 use Rattle.pf_script.specs.DeskSteps.{CountsFault, Concerns, WhereReplied}
-use Rattle.pf_script.specs.Script.{OwnSeat, Seat, Empty, Own, ScriptState, seat_at, seat_of_line}
-use Rattle.pf_script.specs.FileTurns.{stands_on, SeatOver, TurnOver}
-use Rattle.pf_script.specs.Turns.{Seen, Failed, SeatTurn, Turn}
+use Rattle.pf_script.specs.Script.{OwnSeat, Seat, Empty, Own, ScriptState, seat_at, HasThisName, seat_of_line, name_of_line}
+use Rattle.pf_script.specs.FileTurns.{stands_on, SeatFiles, DeskFiles}
+use Rattle.pf_script.specs.Turns.{Seen, SeatTurn, Turn}
 use Rattle.pf_script.specs.Words.{SEATS}
 use Rattle.pf_script.specs.declared.line.ScriptLine.{ScriptLine}
 use Rattle.pf_script.specs.declared.line.ScriptLine.TheVariants as lines
@@ -31,15 +31,11 @@ pub data ShowsUnder (book : Book) (seats : List Seal) (seat : Seat) (session : O
   other_file : (shown : OwnSeat) (own : SessionState) → (own.broken ≡ true) ⊎ (book own.name ≡ None) → shown.key ≡ own.key → shown.name ≡ own.name → shown.broken ≡ own.broken → seat ≡ Own shown → session ≡ Some own
       → ShowsUnder book seats seat session
 
--- an opening that is accepted is of a name of which the book goes on to speak
-abbrev pub SpeaksOfOpened : Book → List ℕ → ScriptLine → Reply → Type 0
-SpeaksOfOpened book key (lines.Open k name) (replies.Opened size) = IsSomeAnd (book name) (λ entry. speaks key entry ≡ true)
-SpeaksOfOpened book key line reply = ⊤
-
--- The book tells what a line comes to on a seat: it speaks of the seat's name, or of the name that is opened.
+-- The book tells what a line comes to on a seat: it speaks of the seat's name, or an opening that is accepted is of a name that it goes on to speak of.
 abbrev pub Knows : Book → List ℕ → Seat → ScriptLine → Reply → Type 0
 Knows book key (Own own) line reply = (own.broken ≡ true) ⊎ IsSome (book own.name)
-Knows book key Empty line reply = SpeaksOfOpened book key line reply
+Knows book key Empty (lines.Open k name) (replies.Opened size) = IsSomeAnd (book name) (λ entry. speaks key entry ≡ true)
+Knows book key Empty line reply = ⊤
 
 -- what was seen in a step, also of a host that does not tell its answers
 pub record SeenIn (seen : Seen) (before after : HostState) (random random' : WordsState) : Type 0 where
@@ -48,7 +44,12 @@ pub record SeenIn (seen : Seen) (before after : HostState) (random random' : Wor
   pub of_host : CountsFault seen.host_failed before.faults after.faults
   pub of_words : CountsFault seen.words_failed random.faults random'.faults
 
--- A line on a seat: what was done to names owes what it has to, and is that of the line's turn, where the book tells it. Where nothing failed, this is the turn that the files give.
+-- what is refused does nothing
+abbrev pub IdleIfRefused : Reply → List Act → Type 0
+IdleIfRefused (replies.Refused why) acts = acts ≡ []
+IdleIfRefused other acts = ⊤
+
+-- A line on a seat: what was done to names owes what it has to, and is that of the line's turn, where the book tells it.
 pub record LineUnder (key : List ℕ) (taken : Bool) (line : ScriptLine) (seen : Seen) (reply : Reply) (old new : Option SessionState) (book : Book) (seats : List Seal) (seat : Seat) (a b : Honest) : Type 0 where
   pub acts : List Act
   pub left : List Seal
@@ -57,8 +58,8 @@ pub record LineUnder (key : List ℕ) (taken : Bool) (line : ScriptLine) (seen :
   pub shows : ShowsUnder (booked_all acts book) left after new
   pub spares : SparesSeats acts seats left
   pub concerned : (name : Name) → Among acts name → Concerns taken line old name
+  pub idle : IdleIfRefused reply acts
   pub turn : Knows book key seat line reply → SeatTurn (stands_on key (reading a.now)) key taken seat line seen reply acts after
-  pub over : Knows book key seat line reply → Failed seen false false → SeatOver key taken seat line seen.words reply acts after (reading a.now) (reading b.now)
 
 -- so under each book that agrees with the disk before, on each seat that shows the session
 abbrev pub SeatUnder : List ℕ → Bool → ScriptLine → Seen → Reply → Option SessionState → Option SessionState → Honest → Honest → Type 0
@@ -69,6 +70,7 @@ pub record SeatAgrees (key : List ℕ) (taken : Bool) (line : ScriptLine) (reply
   pub seen : Seen
   pub was_seen : SeenIn seen before after random random'
   pub under : OnDisk before after (SeatUnder key taken line seen reply old new)
+  pub over : OnDisk before after (SeatFiles key taken line seen reply old new)
 
 -- a line on one seat that was replied to
 abbrev pub SeatBooked : List ℕ → Bool → ScriptLine → Result Reply Memory → Option SessionState → Option SessionState → HostState → HostState → WordsState → WordsState → Type 0
@@ -83,6 +85,17 @@ pub record IsStateUnder (book : Book) (seats : List Seal) (state : ScriptState) 
 abbrev pub KnowsLine : Book → ScriptState → ScriptLine → Reply → Type 0
 KnowsLine book state line reply = IfSome (seat_of_line line) (λ k. Knows book state.key (seat_at state k) line reply)
 
+-- the names that a line may change: that of its seat, and the one that it gives
+abbrev pub ConcernsLine : ScriptLine → ScriptState → Name → Type 0
+ConcernsLine line state name = (name_of_line line ≡ Some name) ⊎ ((k : ℕ) × (seat_of_line line ≡ Some k) × HasThisName name (seat_at state k))
+
+-- Of each line, also of one that the book does not know: its acts are of these names alone, a refusal does nothing, and no other seat changes.
+pub record OnItsSeat (line : ScriptLine) (reply : Reply) (state after : ScriptState) (acts : List Act) : Type 0 where
+  pub key_is : after.key ≡ state.key
+  pub concerned : (name : Name) → Among acts name → ConcernsLine line state name
+  pub idle : IdleIfRefused reply acts
+  pub others : (j : ℕ) → seat_of_line line ≢ Some j → seat_at after j ≡ seat_at state j
+
 -- A line on a desk.
 pub record TurnUnder (line : ScriptLine) (seen : Seen) (reply : Reply) (new : DeskState) (book : Book) (seats : List Seal) (state : ScriptState) (a b : Honest) : Type 0 where
   pub acts : List Act
@@ -90,8 +103,8 @@ pub record TurnUnder (line : ScriptLine) (seen : Seen) (reply : Reply) (new : De
   pub after : ScriptState
   pub did : DidAll book seats acts left a b
   pub is_state : IsStateUnder (booked_all acts book) left after new
+  pub on_seat : OnItsSeat line reply state after acts
   pub turn : KnowsLine book state line reply → Turn (stands_on state.key (reading a.now)) state line seen reply acts after
-  pub over : KnowsLine book state line reply → Failed seen false false → TurnOver state line seen.words reply acts after (reading a.now) (reading b.now)
 
 abbrev pub DeskUnder : ScriptLine → Seen → Reply → DeskState → DeskState → Honest → Honest → Type 0
 DeskUnder line seen reply old new a b =
@@ -101,6 +114,7 @@ pub record DeskAgrees (line : ScriptLine) (reply : Reply) (old new : DeskState) 
   pub seen : Seen
   pub was_seen : SeenIn seen before after random random'
   pub under : OnDisk before after (DeskUnder line seen reply old new)
+  pub over : OnDisk before after (DeskFiles line seen reply old new)
 
 -- a line on a desk that was replied to
 abbrev pub DeskBooked : ScriptLine → Result Reply Memory → DeskState → DeskState → HostState → HostState → WordsState → WordsState → Type 0

@@ -78,9 +78,14 @@ ApartFrom concerned other = (name : Name) → concerned name → Apart name othe
 abbrev pub Spares : (Name → Type 0) → HostState → HostState → Type 0
 Spares concerned before after = OnDisk before after (Ran (LeavesOthers (ApartFrom concerned)) (KeepsOthers (ApartFrom concerned)))
 
--- So for a desk: the names of its seats, and the one that the line gives.
+-- So for a desk: the name of the line's seat, and the one that the line gives.
 abbrev pub ConcernsDesk : ScriptLine → DeskState → Name → Type 0
-ConcernsDesk line desk name = (name_of_line line ≡ Some name) ⊎ ((k : ℕ) × HasItsName (session_at desk k) name)
+ConcernsDesk line desk name = (name_of_line line ≡ Some name) ⊎ ((k : ℕ) × (seat_of_line line ≡ Some k) × HasItsName (session_at desk k) name)
+
+-- each seat has the name that it had, and the line's seat that or the one that the line gives
+abbrev pub KeepsNames : ScriptLine → DeskState → DeskState → Type 0
+KeepsNames line old new =
+    (k : ℕ) (name : Name) → HasItsName (session_at new k) name → HasItsName (session_at old k) name ⊎ ((seat_of_line line ≡ Some k) × (name_of_line line ≡ Some name))
 
 -- What was asked of a desk.
 pub record Asks (line : ScriptLine) (reply : Reply) (old new : DeskState) (given : List Answer) (before after : HostState) (random random' : WordsState) : Type 0 where
@@ -98,12 +103,9 @@ CoversSome (Some session) = Covers session
 abbrev pub CoversDesk : DeskState → Covering
 CoversDesk desk book seats = (k : ℕ) (session : SessionState) → session_at desk k ≡ Some session → Covers session book seats
 
-abbrev pub AnyName : Name → Type 0
-AnyName name = Unit {0}
-
 -- what a step keeps of each book, at every moment and in the end
-abbrev pub KeepsBooks : DeskState → DeskState → HostState → HostState → Type 0
-KeepsBooks old new before after = OnDisk before after (KeepsUnder (CoversDesk old) (CoversDesk new) AnyName)
+abbrev pub KeepsBooks : ScriptLine → DeskState → DeskState → HostState → HostState → Type 0
+KeepsBooks line old new before after = OnDisk before after (KeepsUnder (CoversDesk old) (CoversDesk new) (ConcernsDesk line old))
 
 -- a reply, of which only a fault of the host counts as a fault; and one of which only a fault of the random words does
 abbrev pub is_host_fault : Reply → Bool
@@ -191,8 +193,8 @@ pub record SeatGoes (key : List ℕ) (taken : Bool) (line : ScriptLine) (result 
 pub record DeskGoes (line : ScriptLine) (result : Result Reply Memory) (old new : DeskState) (before after : HostState) (random random' : WordsState) : Type 0 where
   pub key_is : new.key ≡ old.key
   pub asks : WhereReplied result (λ reply. WhereTold before after (λ given. Asks line reply old new given before after random random'))
-  pub books : KeepsBooks old new before after
-  pub named : (k : ℕ) (name : Name) → HasItsName (session_at new k) name → ConcernsDesk line old name
+  pub books : KeepsBooks line old new before after
+  pub named : KeepsNames line old new
   pub spares : Spares (ConcernsDesk line old) before after
   pub counts : CountsReply result before after random random'
   pub wants : WhereWanting result (Wants line old new before after random random')

@@ -2,10 +2,8 @@
 use Rattle.std.specs.Prelude.{◌≡◌, ℕ, List, [], ◌∷◌, ◌++◌, length, map}
 use Rattle.std.specs.List.{flat_map}
 use Rattle.pf_io.specs.Disk.{Files}
-use Rattle.pf_script.specs.Book.{Book}
-use Rattle.pf_script.specs.BookActs.{Act, booked_all}
-use Rattle.pf_script.specs.BookTurns.{SpeaksOfOpened}
-use Rattle.pf_script.specs.FileTurns.{TurnOver}
+use Rattle.pf_script.specs.BookActs.{Act}
+use Rattle.pf_script.specs.FileTurns.{TurnOver, ReopensOpened}
 use Rattle.pf_script.specs.Script.{ScriptState, Empty, seat_at}
 use Rattle.pf_script.specs.ScriptRuns.{Exchange}
 
@@ -15,12 +13,12 @@ RunsOver state [] files after new = (after ≡ state) × (new ≡ files)
 RunsOver state (exchange ∷ exchanges) files after new =
     (acts : List Act) × (mid : ScriptState) × (between : Files) × TurnOver state exchange.line exchange.seen.words exchange.reply acts mid files between × RunsOver mid exchanges between after new
 
--- So it is as long as each file that is opened is one of which the book speaks. In the end book, state and files have E.
-abbrev pub FollowsOver : Book → ScriptState → List Exchange → Files → (Book → ScriptState → Files → Type 0) → Type 0
-FollowsOver book state [] files E = E book state files
-FollowsOver book state (exchange ∷ exchanges) files E =
-    SpeaksOfOpened book state.key exchange.line exchange.reply
-    → (acts : List Act) × (after : ScriptState) × (next : Files) × TurnOver state exchange.line exchange.seen.words exchange.reply acts after files next × FollowsOver (booked_all acts book) after exchanges next E
+-- So it is as long as each file that is opened reopens under the key. In the end state and files have E.
+abbrev pub FollowsOver : ScriptState → List Exchange → Files → (ScriptState → Files → Type 0) → Type 0
+FollowsOver state [] files E = E state files
+FollowsOver state (exchange ∷ exchanges) files E =
+    ReopensOpened state.key files exchange.line exchange.reply
+    → (acts : List Act) × (after : ScriptState) × (next : Files) × TurnOver state exchange.line exchange.seen.words exchange.reply acts after files next × FollowsOver after exchanges next E
 
 -- the words that some exchanges took are the first of these
 pub record TakesWords (exchanges : List Exchange) (words : List (List ℕ)) : Type 0 where

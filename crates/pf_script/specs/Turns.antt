@@ -165,14 +165,15 @@ pub data Loses (key : List ℕ) (seen : Seen) : Seat → ScriptLine → List Act
   no_flush_before : (own mid : OwnSeat) (line : ScriptLine) (next : Step) (words lost : List (List ℕ)) (sheets : List Sheet) → MadeSome line own next words sheets mid → FlushesFirst (length mid.content) mid.dirty next
       → seen.words ≡ words ++ lost → Loses key seen (Own own) line (flushes own sheets) (Own mid)
 
--- What a line may be answered on its seat, with what was done to names and the seat after it. `taken` says whether another seat has the name that the line gives.
+-- What a line may be answered on its seat, with what was done to names and the seat after it. `taken` says whether another seat has the name that the line gives. A fault of the host comes only
+-- where no rule refuses before the host is asked.
 pub data SeatTurn (standing : Standing) (key : List ℕ) (taken : Bool) (seat : Seat) (line : ScriptLine) (seen : Seen) (reply : Reply) (acts : List Act) (after : Seat) : Type 0 where
   refused : (why : Why) → IsFirst (rules key taken seat line seen.given) why → Failed seen false false → seen.words ≡ [] → reply ≡ replies.Refused why → acts ≡ [] → after ≡ seat
       → SeatTurn standing key taken seat line seen reply acts after
   accepted : NoneRefuses (rules key taken seat line seen.given) → Failed seen false false → Accepts standing key seen seat line reply acts after → SeatTurn standing key taken seat line seen reply acts after
-  host_failed : Failed seen true false → Fails key seen ByHost seat line acts after → reply ≡ replies.HostFault → SeatTurn standing key taken seat line seen reply acts after
+  host_failed : NoneRefuses (rules key taken seat line []) → Failed seen true false → Fails key seen ByHost seat line acts after → reply ≡ replies.HostFault → SeatTurn standing key taken seat line seen reply acts after
   was_damaged : (damage : Damage) → NoneRefuses (rules key taken seat line seen.given) → Failed seen false false → Fails key seen (ByDamage damage) seat line acts after → reply ≡ replies.DamagedNode damage → SeatTurn standing key taken seat line seen reply acts after
-  words_failed : Failed seen false true → Loses key seen seat line acts after → reply ≡ replies.WordsFault → SeatTurn standing key taken seat line seen reply acts after
+  words_failed : NoneRefuses (rules key taken seat line seen.given) → Failed seen false true → Loses key seen seat line acts after → reply ≡ replies.WordsFault → SeatTurn standing key taken seat line seen reply acts after
 
 -- whether another seat has the name that a line gives
 abbrev pub SaysTaken : ScriptState → ℕ → Option Name → Bool → Type 0

@@ -1,5 +1,5 @@
 // The desk of a script: its seats, and a step of it.
-ghost use Rattle.std.specs.Prelude.{◌≡◌, ◌<◌, ◌↔◌, ℕ, List, IsTrue, IfSome, Ok, None, replicate};
+ghost use Rattle.std.specs.Prelude.{◌≡◌, ◌≢◌, ◌<◌, ◌↔◌, ℕ, List, IsTrue, IfSome, Ok, None, replicate};
 ghost use Rattle.pf_io.specs.Host.{HostState};
 ghost use Rattle.pf_io.specs.Words.{WordsState};
 ghost use Rattle.pf_script.specs.BookTurns.{DeskBooked, EndBooked};
@@ -225,6 +225,7 @@ impl Desk {
         ensures goes { DeskGoes (lines.Close seat) (Ok result) self.old self.new (H.state host.old) (H.state host.new) (R.state random.old) (R.state random.new) }
         ensures booked { DeskBooked (lines.Close seat) (Ok result) self.old self.new (H.state host.old) (H.state host.new) (R.state random.old) (R.state random.new) }
         ensures empty { session_at self.new seat ≡ None }
+        ensures others { (other : ℕ) → other ≢ seat → session_at self.new other ≡ session_at self.old other }
     {
         close_seat(host, random, &mut self.seats[seat as usize])
     }
@@ -278,6 +279,7 @@ impl Desk {
         requires { seat < SEAT_COUNT }
         ensures none { (result ≡ None) ↔ (session_at self.old seat ≡ None) }
         ensures empty { session_at self.new seat ≡ None }
+        ensures others { (other : ℕ) → other ≢ seat → session_at self.new other ≡ session_at self.old other }
         ensures goes { EndGoes seat result self.old self.new (H.state host.old) (H.state host.new) (R.state random.old) (R.state random.new) }
         ensures booked { EndBooked seat result self.old self.new (H.state host.old) (H.state host.new) (R.state random.old) (R.state random.new) }
     {

@@ -1,6 +1,6 @@
-use Rattle.std.proofs.Common.{◌<◌, false, refl, sym, ◌∙◌, subst, None, Ok}
-use Rattle.std.proofs.lemmas.List.{get_or-set_same}
-use Rattle.pf_script.specs.Desk.{DeskState}
+use Rattle.std.proofs.Common.{◌<◌, false, refl, sym, ◌∙◌, ap, subst, None, Ok}
+use Rattle.std.proofs.lemmas.List.{get_or-set_same, get_or-set_other}
+use Rattle.pf_script.specs.Desk.{DeskState, session_at}
 use Rattle.pf_script.specs.declared.line.ScriptLine.TheVariants as lines
 use Rattle.pf_script.proofs.DeskLine.{line_made}
 use Rattle.pf_script.proofs.desk.Desk.close.Goals as goal
@@ -26,3 +26,7 @@ returns-clause-booked g c =
 pub returns-clause-empty : goal.returns-clause-empty
 returns-clause-empty g c =
     get_or-set_same c.self.inside.seats c.args.seat c.close_seat.new.seat None (subst (λ n. c.args.seat < n) (sym c.self.invariant.eight) c.requires) ∙ c.close_seat.ensures.empty
+
+pub returns-clause-others : goal.returns-clause-others
+returns-clause-others g c =
+    λ other apart. get_or-set_other c.self.inside.seats c.args.seat other c.close_seat.new.seat None apart ∙ ap (λ (d : DeskState). session_at d other) c.self.view_is
