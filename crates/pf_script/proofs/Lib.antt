@@ -49,6 +49,7 @@ pub mod OpenLine
 pub mod ReadUnder
 pub mod ChangeLeft
 pub mod ChangeUnder
+pub mod ChangeOver
 pub mod LineUnder
 pub mod WriteUnder
 pub mod SizeLeft
