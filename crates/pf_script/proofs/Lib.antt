@@ -38,6 +38,7 @@ pub mod Flushed
 pub mod SeatCalls
 pub mod FlushLine
 pub mod OverGiven
+pub mod OverFiles
 pub mod Under
 pub mod FlushUnder
 pub mod CloseUnder
