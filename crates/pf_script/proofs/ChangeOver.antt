@@ -9,7 +9,7 @@ use Rattle.node_tree.specs.Stepping.{StandingStep}
 use Rattle.node_tree.specs.declared.fault.TreeFault.{TreeFault}
 use Rattle.node_tree.specs.declared.fault.TreeFault.TheVariants as trees
 use Rattle.pf_io.specs.Disk.{Name, Disk, IsImage, Files, reading}
-use Rattle.pf_io.specs.Host.{Answer, HostState, contents}
+use Rattle.pf_io.specs.Host.{Answer, HostState, OnDisk, contents}
 use Rattle.pf_io.specs.Moments.{Honest, Ran, Ends, Where}
 use Rattle.pf_io.specs.Names.{recovery_of}
 use Rattle.pf_io.specs.Steps.{Stays}
@@ -24,20 +24,20 @@ use Rattle.pf_script.specs.BookActs.{Act}
 use Rattle.pf_script.specs.BookDebts.{Unchanged, seat_of}
 use Rattle.pf_script.specs.BookSeats.{IsOfScript}
 use Rattle.pf_script.specs.Desk.{seat_on}
-use Rattle.pf_script.specs.FileTurns.{answers_of, FilesAfter, LineOver}
+use Rattle.pf_script.specs.FileTurns.{answers_of, FilesAfter, LineOver, SeatFiles}
 use Rattle.pf_script.specs.Rules.{NoneRefuses, rules}
 use Rattle.pf_script.specs.Script.{OwnSeat, Own}
 use Rattle.pf_script.specs.SeatSteps.{AsksFor, Seals}
 use Rattle.pf_script.specs.Turns.{Seen, ByHost, ByDamage, IsChangeReply, accepted, changed, flushes}
 use Rattle.pf_script.specs.declared.line.ScriptLine.{ScriptLine}
 use Rattle.pf_script.specs.declared.reply.Reply.{Reply}
-use Rattle.pf_script.proofs.CallKeeping.{at_both, back_to}
+use Rattle.pf_script.proofs.CallKeeping.{at_both, back_to, both_with}
 use Rattle.pf_script.proofs.ChangeLeft.{ChangeLeft, left_once, left_lacked, left_unflushed, left_after}
 use Rattle.pf_script.proofs.ChangeLine.{none_made}
 use Rattle.pf_script.proofs.ChangeTold.{Outcome, Went, Broke, Lacked, Wanted, outcome_of, Grew}
 use Rattle.pf_script.proofs.Flushed.{SealsWith, host_blamed, fault_of}
 use Rattle.pf_script.proofs.OfScript.{file_named}
-use Rattle.pf_script.proofs.OverFiles.{OnFile, reopens_stands, reopens_reads, has_reopens, left_flush, files_flush, files_join, shows_whole}
+use Rattle.pf_script.proofs.OverFiles.{OnFile, KnownOver, own_over, reopens_stands, reopens_reads, has_reopens, left_flush, files_flush, files_join, shows_whole}
 use Rattle.pf_script.proofs.OverGiven.{on_reading}
 use Rattle.pf_script.proofs.SeatCalls.{seen_by}
 use Rattle.pf_script.proofs.StepFacts.{flushes_first, fits_at, stepped_is}
@@ -205,3 +205,9 @@ ends_over key line these reply own first new a b made words sheets base so_far p
   };
   shows = shows_whole (reading b.now) base new own.key own.name so_far.was.key_is so_far.was.name_is so_far.was.whole so_far.path_is so_far.reopens so_far.was.kept;
 }
+
+-- so of a call on a host
+pub on_files : (P : Honest → Honest → Type 0) (key : List ℕ) (line : ScriptLine) (seen : Seen) (reply : Reply) (old : SessionState) (whole : old.broken ≡ false) (new : SessionState) (before after : HostState) → OnDisk before after P
+    → ((a b : Honest) → before.honest ≡ Some a → after.honest ≡ Some b → P a b → KnownOver key false line seen reply old whole (Some new) a b) → OnDisk before after (SeatFiles key false line seen reply (Some old) (Some new))
+on_files P key line seen reply old whole new before after holds known =
+    both_with P (SeatFiles key false line seen reply (Some old) (Some new)) before.honest after.honest holds (λ a b is is2 p. own_over key false line seen reply old whole (Some new) a b (known a b is is2 p))

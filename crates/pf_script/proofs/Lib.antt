@@ -54,6 +54,7 @@ pub mod ChangeOver
 pub mod LineUnder
 pub mod WriteUnder
 pub mod SizeLeft
+pub mod SizeOver
 pub mod SizeUnder
 pub mod MoveUnder
 pub mod MoveOver
