@@ -16,12 +16,12 @@ use Rattle.pf_io.specs.Steps.{Stays}
 use Rattle.pf_session.specs.Aside.{LeavesApart, KeepsApart}
 use Rattle.pf_session.specs.Backing.{IsBacked, StandsOn}
 use Rattle.pf_session.specs.Changing.{IsFlushedFirst, IsRoomy, StepGoes}
-use Rattle.pf_session.specs.Flushing.{UndamagedFlush, IsUndamaged}
+use Rattle.pf_session.specs.Flushing.{IsUndamaged}
 use Rattle.pf_session.specs.Reopening.{ReopensAs, ReadsAs, HasSheet}
 use Rattle.pf_session.specs.Sealing.{Replaces, StandsNext}
 use Rattle.pf_session.specs.State.{SessionState, file_of}
 use Rattle.pf_script.specs.BookActs.{Act}
-use Rattle.pf_script.specs.BookDebts.{Unchanged, seat_of}
+use Rattle.pf_script.specs.BookDebts.{Unchanged}
 use Rattle.pf_script.specs.BookSeats.{IsOfScript}
 use Rattle.pf_script.specs.Desk.{seat_on}
 use Rattle.pf_script.specs.FileTurns.{answers_of, FilesAfter, LineOver, SeatFiles}
