@@ -1,10 +1,10 @@
 -- Lines over files, without a book: files that reopen, what acts leave of them, and which seat shows a session.
-use Rattle.std.proofs.Common.{◌≡◌, Bool, true, false, List, [], ◌∷◌, ◌++◌, ℕ, refl, sym, ◌∙◌, ap, subst, cond, Option, Some, None}
+use Rattle.std.proofs.Common.{◌≡◌, Bool, true, false, List, [], ◌∷◌, ◌++◌, ℕ, refl, sym, ◌∙◌, ap, subst, Option, Some, None}
 use Rattle.node_tree.specs.Sheet.{Sheet, Stands}
 use Rattle.pf_io.specs.Disk.{Name, File, Disk, Files, reading, read_of}
-use Rattle.pf_io.specs.Host.{contents}
+use Rattle.pf_io.specs.Host.{HostState, OnDisk, contents}
 use Rattle.pf_io.specs.Moments.{Honest, Ran}
-use Rattle.pf_io.specs.Names.{side_of, recovery_of}
+use Rattle.pf_io.specs.Names.{recovery_of}
 use Rattle.pf_session.specs.Aside.{LeavesApart, KeepsApart}
 use Rattle.pf_session.specs.Moving.{IsKeptOn}
 use Rattle.pf_session.specs.Reopening.{ReopensAs, Stood, ReadsAs, HasSheet}
@@ -21,6 +21,8 @@ use Rattle.pf_script.specs.declared.line.ScriptLine.{ScriptLine}
 use Rattle.pf_script.specs.declared.reply.Reply.{Reply}
 use Rattle.pf_script.specs.declared.reply.Reply.TheVariants as replies
 use Rattle.pf_script.specs.declared.reply.Why.{Why}
+use Rattle.pf_script.proofs.CallKeeping.{both_with}
+use Rattle.pf_script.proofs.OfScript.{file_named}
 use Rattle.pf_script.proofs.OverGiven.{first_unasked, same_files, over_idle}
 use Rattle.pf_script.proofs.Showing.{ShowsSome, same_session}
 
@@ -43,10 +45,6 @@ pub reopens_still : (key : List ℕ) (sheet : Sheet) (name : Name) (files files'
     → ReopensAs key sheet (files' name) (files' (recovery_of name))
 reopens_still key sheet name files files' same same_log reopens =
     subst (λ (o : Option (List ℕ)). ReopensAs key sheet o (files' (recovery_of name))) (sym same) (subst (λ (o : Option (List ℕ)). ReopensAs key sheet (files name) o) (sym same_log) reopens)
-
--- the file of a session of a script has its name
-pub file_is_name : (old : SessionState) → IsOfScript old → file_of old ≡ old.name
-file_is_name old mine = ap (λ (b : Bool). cond b (side_of old.name) old.name) mine.named
 
 -- What one act leaves, of the calls that changed no other names.
 pub left_flush : (key : List ℕ) (name : Name) (sheet : Sheet) (a b : Honest) → ReopensAs key sheet (reading b.now name) (reading b.now (recovery_of name)) → Ran (LeavesApart name) (KeepsApart name) a b
@@ -147,7 +145,7 @@ module _ (key : List ℕ) (taken : Bool) (line : ScriptLine) (seen : Seen) (repl
     -- the file stands where the session's calls look for it
     pub file_stands : IsOfScript old → (base : Sheet) → OnFile base → Stands (contents (reading a.now (file_of old))) old.key base
     file_stands mine base on =
-        subst (λ (n : Name). Stands (contents (reading a.now n)) old.key base) (sym (file_is_name old mine)) (reopens_stands old.key base (reading a.now old.name) (reading a.now (recovery_of old.name)) on.reopens)
+        subst (λ (n : Name). Stands (contents (reading a.now n)) old.key base) (sym (file_named old mine)) (reopens_stands old.key base (reading a.now old.name) (reading a.now (recovery_of old.name)) on.reopens)
 
   -- Nothing was done, and the session is kept.
   pub still_over : (old new : SessionState) (a b : Honest) → Unchanged a b → (base : Sheet) (whole : old.broken ≡ false) → OnFile old whole (Some new) a b base → new.key ≡ old.key → new.name ≡ old.name → new.broken ≡ false → IsKeptOn base new
@@ -169,3 +167,9 @@ module _ (key : List ℕ) (taken : Bool) (line : ScriptLine) (seen : Seen) (repl
         (refused why (first_unasked key taken seat line (answers_of (reading a.now) line) why (first (reading a.now) seat shows)) (record { host = refl; random = refl }) none said refl refl);
     shows = shows_all (reading a.now) (reading b.now) seat old (same_files a b only) shows;
   }
+
+-- so of a call on a host
+pub over_on_disk : (P : Honest → Honest → Type 0) (key : List ℕ) (taken : Bool) (line : ScriptLine) (seen : Seen) (reply : Reply) (old : SessionState) (whole : old.broken ≡ false) (new : Option SessionState) (before after : HostState) → OnDisk before after P
+    → ((a b : Honest) → before.honest ≡ Some a → after.honest ≡ Some b → P a b → KnownOver key taken line seen reply old whole new a b) → OnDisk before after (SeatFiles key taken line seen reply (Some old) new)
+over_on_disk P key taken line seen reply old whole new before after holds known =
+    both_with P (SeatFiles key taken line seen reply (Some old) new) before.honest after.honest holds (λ a b is is2 p. own_over key taken line seen reply old whole new a b (known a b is is2 p))
