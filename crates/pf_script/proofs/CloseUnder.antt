@@ -31,14 +31,14 @@ use Rattle.pf_script.proofs.ActKeeping.{one_spares}
 use Rattle.pf_script.proofs.CallKeeping.{at_both, both_with, read_image, same_disk, close_keeps}
 use Rattle.pf_script.proofs.CloseLine.{close_result, none_to_close}
 use Rattle.pf_script.proofs.FlushLine.{flush_act}
-use Rattle.pf_script.proofs.FlushUnder.{seen_in, fault_idle, failed_over, lacked_over, flush_left}
+use Rattle.pf_script.proofs.FlushUnder.{seen_in, failed_over, lacked_over, flush_left}
 use Rattle.pf_script.proofs.Flushed.{FlushEnds, not_begun, not_ended, was_ended, flush_ends, host_blamed, fault_of}
-use Rattle.pf_script.proofs.OverFiles.{shows_own, over_on_disk}
+use Rattle.pf_script.proofs.OverFiles.{over_on_disk}
 use Rattle.pf_script.proofs.OverGiven.{over_idle}
 use Rattle.pf_script.proofs.Refusing.{none_taken}
 use Rattle.pf_script.proofs.SeatCalls.{seen_by, false_true}
 use Rattle.pf_script.proofs.Seats.{seats_after}
-use Rattle.pf_script.proofs.Under.{looks_like, KnownUnder, on_disk, none_concerned, one_concerned, flush_did}
+use Rattle.pf_script.proofs.Under.{looks_like, looks_over, IsAnswered, blame_answered, idle_answered, KnownUnder, on_disk, none_concerned, one_concerned, flush_did}
 
 -- a turn of a closing that failed in its flush
 failed_turn : (standing : Standing) (key : List ℕ) (k : ℕ) (own : OwnSeat) (next : Sheet) (these : List Answer) (words : List (List ℕ)) (blame : Blame) → own.changed ≡ true → own.broken ≡ false → SealsOwn own words next → BlamesFlush own.name these blame
@@ -51,9 +51,9 @@ module _ (key : List ℕ) (k : ℕ) (old : SessionState) (seated : IsSeated key 
     (keeps : OnDisk before after (KeepsUnder (Covers old) CoversNone (λ name. name ≡ old.name))) (aside : Aside old.name before after) (reads : ReadsAsImage after) where
   -- a session that is flushed
   module _ (whole : old.broken ≡ false) (was_changed : old.changed ≡ true) (mid : SessionState) where
-    abbrev line_under : (seen : Seen) (reply : Reply) → ((a b : Honest) → before.honest ≡ Some a → after.honest ≡ Some b → Ran (LeavesApart old.name) (KeepsApart old.name) a b → KnownUnder key false (lines.Close k) seen reply old whole None a b)
+    abbrev line_under : (seen : Seen) (reply : Reply) → IsAnswered reply → ((a b : Honest) → before.honest ≡ Some a → after.honest ≡ Some b → Ran (LeavesApart old.name) (KeepsApart old.name) a b → KnownUnder key false (lines.Close k) seen reply old whole None a b)
         → OnDisk before after (SeatUnder key false (lines.Close k) seen reply (Some old) None)
-    line_under seen reply known = on_disk key false (lines.Close k) seen reply old whole None before after keeps aside known
+    line_under seen reply answered known = on_disk key false (lines.Close k) seen reply old whole None before after answered keeps aside known
 
     by_end : (result : Result (Unit {0}) FlushFault) → UndamagedFlush result old before → FlushEnds result old mid before after random random' → SeatAgrees key false (lines.Close k) (close_result false result) (Some old) None before after random random'
     by_end result undamaged (not_begun words seen same stays said) =
@@ -61,7 +61,7 @@ module _ (key : List ℕ) (k : ℕ) (old : SessionState) (seated : IsSeated key 
         (record {
           seen = seen_by [] words false true;
           was_seen = seen_in [] words false true before after random random' seen;
-          under = line_under (seen_by [] words false true) replies.WordsFault
+          under = line_under (seen_by [] words false true) replies.WordsFault tt
               (λ a b is is2 ran book seats agrees base on. record {
                 acts = [];
                 left = seats;
@@ -80,7 +80,7 @@ module _ (key : List ℕ) (k : ℕ) (old : SessionState) (seated : IsSeated key 
         (record {
           seen = seen_by these words (host_blamed blame) false;
           was_seen = seen_in these words (host_blamed blame) false before after random random' seen;
-          under = line_under (seen_by these words (host_blamed blame) false) (flush_reply (fault_of blame))
+          under = line_under (seen_by these words (host_blamed blame) false) (flush_reply (fault_of blame)) (blame_answered blame)
               (λ a b is is2 ran book seats agrees base on.
               let next = seals base on.stood.as_sheet.stands.linked on.kept.backed in record {
                 acts = flush_act old next.0 false ∷ [];
@@ -92,7 +92,7 @@ module _ (key : List ℕ) (k : ℕ) (old : SessionState) (seated : IsSeated key 
                 spares = one_spares seats (Flush (seat_of old.key old.name next.0)) false;
                 concerned = one_concerned false (lines.Close k) old false next.0;
                 turn = λ _. failed_turn (stands_on key (reading a.now)) key k (seat_on base old) next.0 these words blame was_changed whole next.1 blames;
-                idle = fault_idle blame (flush_act old next.0 false ∷ []);
+                idle = idle_answered (flush_reply (fault_of blame)) (blame_answered blame) (flush_act old next.0 false ∷ []);
               });
           over = failed_over key (lines.Close k) these words blame (flush_reply (fault_of blame)) old seated.of_script whole None result before after undamaged said aside;
         })
@@ -101,7 +101,7 @@ module _ (key : List ℕ) (k : ℕ) (old : SessionState) (seated : IsSeated key 
         (record {
           seen = seen_by these words false false;
           was_seen = seen_in these words false false before after random random' seen;
-          under = line_under (seen_by these words false false) (replies.Closed false)
+          under = line_under (seen_by these words false false) (replies.Closed false) tt
               (λ a b is is2 ran book seats agrees base on.
               let next = seals base on.stood.as_sheet.stands.linked on.kept.backed in
               let own = seat_on base old in
@@ -158,7 +158,7 @@ module _ (key : List ℕ) (k : ℕ) (old : SessionState) (seated : IsSeated key 
         idle = tt;
       })
   let_under false is (inl clean) stays =
-      on_disk key false (lines.Close k) (seen_by [] [] false false) (replies.Closed old.broken) old is None before after keeps aside
+      on_disk key false (lines.Close k) (seen_by [] [] false false) (replies.Closed old.broken) old is None before after tt keeps aside
       (λ a b is_a is_b ran book seats agrees base on. record {
         acts = [];
         left = seats;
@@ -177,7 +177,7 @@ module _ (key : List ℕ) (k : ℕ) (old : SessionState) (seated : IsSeated key 
   let_over true is why stays =
       both_with (Ran (LeavesApart old.name) (KeepsApart old.name)) (SeatFiles key false (lines.Close k) (seen_by [] [] false false) (replies.Closed old.broken) (Some old) None) before.honest after.honest aside
       (λ a b is_a is_b ran seat calm shows opened.
-      let looks = shows_own (reading a.now) seat old shows in record {
+      let looks = looks_over (reading a.now) seat (Some old) shows in record {
         acts = [];
         after = Empty;
         over = over_idle key false seat (lines.Close k) [] (replies.Closed old.broken) Empty a b (same_disk before after a b is_a is_b stays)

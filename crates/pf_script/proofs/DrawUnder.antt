@@ -10,7 +10,7 @@ use Rattle.pf_session.specs.Asking.{IsTaken as AreTaken}
 use Rattle.pf_session.specs.Drawing.{DrawGoes, drawn_before, drawn_now, not_drawn}
 use Rattle.pf_session.specs.State.{SessionState}
 use Rattle.pf_script.specs.BookSeats.{Covers}
-use Rattle.pf_script.specs.BookTurns.{IdleIfRefused, ShowsUnder, of_book, SeatUnder, SeatAgrees}
+use Rattle.pf_script.specs.BookTurns.{ShowsUnder, of_book, SeatUnder, SeatAgrees}
 use Rattle.pf_script.specs.FileTurns.{stands_on, SeatFiles}
 use Rattle.pf_script.specs.Desk.{IsSeated, seat_on}
 use Rattle.pf_script.specs.DeskSteps.{Concerns}
@@ -28,17 +28,17 @@ use Rattle.pf_script.proofs.ReadKeeping.{draw_keeps}
 use Rattle.pf_script.proofs.Refusing.{none_then, none_taken}
 use Rattle.pf_script.proofs.SeatCalls.{seen_by}
 use Rattle.pf_script.proofs.StepKeeping.{keeps_more}
-use Rattle.pf_script.proofs.Under.{own_under, none_concerned}
+use Rattle.pf_script.proofs.Under.{IsAnswered, idle_answered, own_under, none_concerned}
 
 module _ (key : List ℕ) (k : ℕ) (old : SessionState) (seated : IsSeated key old) (whole : old.broken ≡ false) (new : SessionState) (host : HostState) (random random' : WordsState) (result : Result (List ℕ) WordsFault) (goes : DrawGoes result old new random random') where
   -- on each sheet the session shows the seat that the turn leaves
   drawn_under : (words : List (List ℕ)) (of_words : Bool) (reply : Reply) (drawn : Option (List ℕ)) → new ≡ record old { drawn = drawn }
-      → ((standing : Standing) (base : Sheet) → SeatTurn standing key false (Own (seat_on base old)) (lines.Draw k) (seen_by [] words false of_words) reply [] (Own (record (seat_on base old) { drawn = drawn }))) → IdleIfRefused reply []
+      → ((standing : Standing) (base : Sheet) → SeatTurn standing key false (Own (seat_on base old)) (lines.Draw k) (seen_by [] words false of_words) reply [] (Own (record (seat_on base old) { drawn = drawn }))) → IsAnswered reply
       → OnDisk host host (SeatUnder key false (lines.Draw k) (seen_by [] words false of_words) reply (Some old) (Some new))
-  drawn_under words of_words reply drawn same turns idle =
+  drawn_under words of_words reply drawn same turns answered =
       let seen = seen_by [] words false of_words in
       both_same (SeatUnder key false (lines.Draw k) seen reply (Some old) (Some new)) host.honest host.honest refl
-      (λ a. own_under key false (lines.Draw k) seen reply old whole (Some new) a a
+      (λ a. own_under key false (lines.Draw k) seen reply old whole (Some new) a a answered
       (keeps_more (Covers old) (Covers new) (λ name. name ≡ old.name) (Concerns false (lines.Draw k) (Some old)) a a (λ name is. inl is) (draw_keeps old seated.of_script new result random random' a goes))
       (λ book seats agrees base on. record {
         acts = [];
@@ -49,7 +49,7 @@ module _ (key : List ℕ) (k : ℕ) (old : SessionState) (seated : IsSeated key 
         spares = λ s has apart. has;
         concerned = none_concerned false (lines.Draw k) (Some old);
         turn = λ _. turns (stands_on key (reading a.now)) base;
-        idle = idle;
+        idle = idle_answered reply answered [];
       }))
 
   drawn_over : (words : List (List ℕ)) (of_words : Bool) (reply : Reply) (drawn : Option (List ℕ)) → new ≡ record old { drawn = drawn }

@@ -13,10 +13,10 @@ use Rattle.pf_session.specs.Reopening.{AsEither, ReopensAs, Stood, ReadsAs, HasS
 use Rattle.pf_session.specs.Sealing.{StoodIf, StandsNext}
 use Rattle.pf_session.specs.State.{SessionState, file_of}
 use Rattle.pf_session.specs.declared.fault.FlushFault.{FlushFault}
-use Rattle.pf_script.specs.BookActs.{Flush, Act}
+use Rattle.pf_script.specs.BookActs.{Flush}
 use Rattle.pf_script.specs.BookDebts.{DidAll, seat_of}
 use Rattle.pf_script.specs.BookSeats.{IsOfScript, Covers, KeepsUnder}
-use Rattle.pf_script.specs.BookTurns.{IdleIfRefused, ShowsUnder, of_book, other_file, SeatUnder, SeatAgrees, SeenIn}
+use Rattle.pf_script.specs.BookTurns.{ShowsUnder, of_book, other_file, SeatUnder, SeatAgrees, SeenIn}
 use Rattle.pf_script.specs.FileTurns.{stands_on, FilesAfter, ShowsOver, SeatFiles}
 use Rattle.pf_script.specs.Desk.{IsSeated, seat_on}
 use Rattle.pf_script.specs.Script.{OwnSeat, Own}
@@ -36,7 +36,7 @@ use Rattle.pf_script.proofs.OverGiven.{on_reading}
 use Rattle.pf_script.proofs.Refusing.{none_then}
 use Rattle.pf_script.proofs.SeatCalls.{seen_by, false_true}
 use Rattle.pf_script.proofs.Seats.{seats_after}
-use Rattle.pf_script.proofs.Under.{KnownUnder, on_disk, none_concerned, one_concerned, flush_did, left_seat}
+use Rattle.pf_script.proofs.Under.{IsAnswered, blame_answered, idle_answered, KnownUnder, on_disk, none_concerned, one_concerned, flush_did, left_seat}
 
 -- what was seen, whether the host tells it or not
 pub seen_in : (these : List Answer) (words : List (List ℕ)) (of_host of_words : Bool) (before after : HostState) (random random' : WordsState) → SeenOf these words of_host of_words before after random random' → SeenIn (seen_by these words of_host of_words) before after random random'
@@ -50,11 +50,6 @@ flush_counts old (ByDamage damage) result before a is undamaged said base backed
     absurd
     (on_reading (λ files. (sheet : Sheet) → IsBacked sheet old → Stands (contents (files (file_of old))) old.key sheet → IsUndamaged (Err (fault_of (ByDamage damage)))) before.honest a is
     (subst (λ (r : Result (Unit {0}) FlushFault). UndamagedFlush r old before) said undamaged) base backed stands)
-
--- a fault is no refusal
-pub fault_idle : (blame : Blame) (acts : List Act) → IdleIfRefused (flush_reply (fault_of blame)) acts
-fault_idle ByHost acts = tt
-fault_idle (ByDamage damage) acts = tt
 
 -- over files
 pub failed_over : (key : List ℕ) (line : ScriptLine) (these : List Answer) (words : List (List ℕ)) (blame : Blame) (reply : Reply) (old : SessionState) (mine : IsOfScript old) (whole : old.broken ≡ false) (new : Option SessionState) (result : Result (Unit {0}) FlushFault) (before after : HostState)
@@ -91,9 +86,9 @@ failed_turn standing key k own next these words (ByDamage damage) whole seals bl
 
 module _ (key : List ℕ) (k : ℕ) (old : SessionState) (seated : IsSeated key old) (whole : old.broken ≡ false) (new : SessionState) (before after : HostState) (random random' : WordsState)
     (keeps : OnDisk before after (KeepsUnder (Covers old) (Covers new) (λ name. name ≡ old.name))) (aside : Aside old.name before after) (reads : ReadsAsImage after) where
-  abbrev line_under : (seen : Seen) (reply : Reply) → ((a b : Honest) → before.honest ≡ Some a → after.honest ≡ Some b → Ran (LeavesApart old.name) (KeepsApart old.name) a b → KnownUnder key false (lines.Flush k) seen reply old whole (Some new) a b)
+  abbrev line_under : (seen : Seen) (reply : Reply) → IsAnswered reply → ((a b : Honest) → before.honest ≡ Some a → after.honest ≡ Some b → Ran (LeavesApart old.name) (KeepsApart old.name) a b → KnownUnder key false (lines.Flush k) seen reply old whole (Some new) a b)
       → OnDisk before after (SeatUnder key false (lines.Flush k) seen reply (Some old) (Some new))
-  line_under seen reply known = on_disk key false (lines.Flush k) seen reply old whole (Some new) before after keeps aside known
+  line_under seen reply answered known = on_disk key false (lines.Flush k) seen reply old whole (Some new) before after answered keeps aside known
 
   by_end : (result : Result (Unit {0}) FlushFault) → UndamagedFlush result old before → FlushEnds result old new before after random random' → SeatAgrees key false (lines.Flush k) (flush_result result) (Some old) (Some new) before after random random'
   by_end result undamaged (not_begun words seen same stays said) =
@@ -101,7 +96,7 @@ module _ (key : List ℕ) (k : ℕ) (old : SessionState) (seated : IsSeated key 
       (record {
         seen = seen_by [] words false true;
         was_seen = seen_in [] words false true before after random random' seen;
-        under = line_under (seen_by [] words false true) replies.WordsFault
+        under = line_under (seen_by [] words false true) replies.WordsFault tt
             (λ a b is is2 ran book seats agrees base on. record {
               acts = [];
               left = seats;
@@ -120,7 +115,7 @@ module _ (key : List ℕ) (k : ℕ) (old : SessionState) (seated : IsSeated key 
       (record {
         seen = seen_by these words (host_blamed blame) false;
         was_seen = seen_in these words (host_blamed blame) false before after random random' seen;
-        under = line_under (seen_by these words (host_blamed blame) false) (flush_reply (fault_of blame))
+        under = line_under (seen_by these words (host_blamed blame) false) (flush_reply (fault_of blame)) (blame_answered blame)
             (λ a b is is2 ran book seats agrees base on.
             let next = seals base on.stood.as_sheet.stands.linked on.kept.backed in record {
               acts = flush_act old next.0 false ∷ [];
@@ -132,7 +127,7 @@ module _ (key : List ℕ) (k : ℕ) (old : SessionState) (seated : IsSeated key 
               spares = one_spares seats (Flush (seat_of old.key old.name next.0)) false;
               concerned = one_concerned false (lines.Flush k) old false next.0;
               turn = λ _. failed_turn (stands_on key (reading a.now)) key k (seat_on base old) next.0 these words blame whole next.1 blames;
-              idle = fault_idle blame (flush_act old next.0 false ∷ []);
+              idle = idle_answered (flush_reply (fault_of blame)) (blame_answered blame) (flush_act old next.0 false ∷ []);
             });
         over = failed_over key (lines.Flush k) these words blame (flush_reply (fault_of blame)) old seated.of_script whole (Some new) result before after undamaged said aside;
       })
@@ -141,7 +136,7 @@ module _ (key : List ℕ) (k : ℕ) (old : SessionState) (seated : IsSeated key 
       (record {
         seen = seen_by these words false false;
         was_seen = seen_in these words false false before after random random' seen;
-        under = line_under (seen_by these words false false) replies.Flushed
+        under = line_under (seen_by these words false false) replies.Flushed tt
             (λ a b is is2 ran book seats agrees base on.
             let next = seals base on.stood.as_sheet.stands.linked on.kept.backed in
             let own = seat_on base old in

@@ -1,5 +1,5 @@
 -- The line `read` under a book, from the contract of a read.
-use Rattle.std.proofs.Common.{◌≡◌, Bool, true, false, List, [], ◌∷◌, ℕ, ◌-◌, ◌≤◌, ◌<◌, refl, sym, ap, subst, Some, Result, Ok, Err, arith, length, min}
+use Rattle.std.proofs.Common.{◌≡◌, Bool, true, false, List, [], ℕ, ◌-◌, ◌≤◌, refl, sym, ap, subst, Some, Result, Ok, Err, length, min}
 use Rattle.std.specs.Prelude.{Contains, IfOk}
 use Rattle.node_tree.specs.Fetching.{host_part}
 use Rattle.node_tree.specs.Opened.{Given}
@@ -18,7 +18,7 @@ use Rattle.pf_session.specs.Reading.{KeepsFields, ReadsStanding, StandingRead}
 use Rattle.pf_session.specs.State.{SessionState, file_of}
 use Rattle.pf_script.specs.BookDebts.{Unchanged, seat_of}
 use Rattle.pf_script.specs.BookSeats.{Covers, KeepsUnder}
-use Rattle.pf_script.specs.BookTurns.{IdleIfRefused, of_book, SeatAgrees, SeatBooked}
+use Rattle.pf_script.specs.BookTurns.{of_book, SeatAgrees, SeatBooked}
 use Rattle.pf_script.specs.Desk.{IsSeated, seat_on}
 use Rattle.pf_script.specs.DeskSteps.{CountsFault}
 use Rattle.pf_script.specs.FileTurns.{stands_on}
@@ -35,7 +35,7 @@ use Rattle.pf_script.proofs.ReadKeeping.{read_keeps, stood_read}
 use Rattle.pf_script.proofs.ReadLine.{read_passes, slice_is, same_seat, whole_new, kept_new, ends_count}
 use Rattle.pf_script.proofs.Refusing.{none_taken}
 use Rattle.pf_script.proofs.SeatCalls.{seen_by}
-use Rattle.pf_script.proofs.Under.{on_disk_by, none_concerned}
+use Rattle.pf_script.proofs.Under.{IsAnswered, idle_answered, on_disk_by, none_concerned}
 
 module _ (key : List ℕ) (k at count : ℕ) (old : SessionState) (seated : IsSeated key old) (whole : old.broken ≡ false) (new : SessionState) (fields : KeepsFields old new) (result : Result ℕ TreeFault) (buffer : List ℕ)
     (room : length buffer ≡ min count (old.tree.size - at)) (before after : HostState) (reads : Reads result (file_of old) at buffer old.tree new.tree before after) (words : WordsState) (few : count ≤ 32768)
@@ -44,13 +44,13 @@ module _ (key : List ℕ) (k at count : ℕ) (old : SessionState) (seated : IsSe
   line = lines.Read k at count
 
   -- the seat stays, and the line has this turn on each sheet that the file stands for
-  by_turn : (r : Result ℕ TreeFault) (of_host : Bool) (reply : Reply) → ReadsStanding r at buffer old new before → CountsFault of_host before.faults after.faults → IdleIfRefused reply []
+  by_turn : (r : Result ℕ TreeFault) (of_host : Bool) (reply : Reply) → ReadsStanding r at buffer old new before → CountsFault of_host before.faults after.faults → IsAnswered reply
       → ((standing : Standing) (base : Sheet) (given : List Answer) → StandingRead r base at buffer old new → SeatTurn standing key false (Own (seat_on base old)) line (seen_by given [] of_host false) reply [] (Own (seat_on base old)))
       → SeatAgrees key false line reply (Some old) (Some new) before after words words
-  by_turn r of_host reply standing counts idle turn = record {
+  by_turn r of_host reply standing counts answered turn = record {
     seen = seen_by reads.these [] of_host false;
     was_seen = record { answers = reads.answered.told; words = none_taken words; of_host = counts; of_words = refl };
-    under = on_disk_by Unchanged key false line (seen_by reads.these [] of_host false) reply old whole (Some new) before after keeps disk
+    under = on_disk_by Unchanged key false line (seen_by reads.these [] of_host false) reply old whole (Some new) before after answered keeps disk
         (λ a b is_a is_b only book seats agrees base on.
         let stands = stood_read old seated.of_script new r at buffer before a is_a standing base on.stood on.kept.backed in record {
           acts = [];
@@ -64,7 +64,7 @@ module _ (key : List ℕ) (k at count : ℕ) (old : SessionState) (seated : IsSe
           spares = λ s has apart. has;
           concerned = none_concerned false line (Some old);
           turn = λ _. turn (stands_on key (reading a.now)) base reads.these stands;
-          idle = idle;
+          idle = idle_answered reply answered [];
         });
     over = over_on_disk Unchanged key false line (seen_by reads.these [] of_host false) reply old whole (Some new) before after disk
         (λ a b is_a is_b only calm base on.
