@@ -18,6 +18,7 @@ pub mod Deeds
 pub mod Moving
 pub mod Composing
 pub mod FilesLeft
+pub mod SparesAll
 pub mod Starting
 pub mod Seats
 pub mod ActKeeping
@@ -38,6 +39,7 @@ pub mod Flushed
 pub mod SeatCalls
 pub mod FlushLine
 pub mod OverGiven
+pub mod OverFiles
 pub mod Under
 pub mod FlushUnder
 pub mod CloseUnder
@@ -49,9 +51,11 @@ pub mod OpenLine
 pub mod ReadUnder
 pub mod ChangeLeft
 pub mod ChangeUnder
+pub mod ChangeOver
 pub mod LineUnder
 pub mod WriteUnder
 pub mod SizeLeft
+pub mod SizeOver
 pub mod SizeUnder
 pub mod MoveUnder
 pub mod MoveOver
