@@ -1,4 +1,4 @@
--- The line `close` under a book, from the contract of a closing.
+-- The line `close` under a book and over files, from the contract of a closing.
 use Rattle.std.proofs.Common.{◌≡◌, ◌⊎◌, inl, inr, Bool, true, false, List, [], ◌∷◌, ℕ, refl, sym, ◌∙◌, ap, subst, Some, None, Result}
 use Rattle.node_tree.specs.Sheet.{Sheet}
 use Rattle.pf_io.specs.Disk.{reading}

@@ -1,4 +1,4 @@
--- The line `draw` under a book, from the contract of a drawing.
+-- The line `draw` under a book and over files, from the contract of a drawing.
 use Rattle.std.proofs.Common.{◌≡◌, inl, Bool, true, false, List, [], ◌∷◌, ◌++◌, ℕ, refl, sym, ap, subst, Option, Some, None, Result}
 use Rattle.node_tree.specs.Sheet.{Sheet}
 use Rattle.pf_io.specs.Disk.{reading}

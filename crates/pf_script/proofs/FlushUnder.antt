@@ -1,4 +1,4 @@
--- The line `flush` under a book, from the contract of a flush.
+-- The line `flush` under a book and over files, from the contract of a flush.
 use Rattle.std.proofs.Common.{◌≡◌, inl, Bool, true, false, List, [], ◌∷◌, ℕ, refl, sym, ◌∙◌, ap, subst, Option, Some, Result, Err}
 use Rattle.node_tree.specs.Sheet.{Sheet, Stands}
 use Rattle.pf_io.specs.Disk.{reading}

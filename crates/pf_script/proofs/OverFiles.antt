@@ -9,7 +9,7 @@ use Rattle.pf_session.specs.Aside.{LeavesApart, KeepsApart}
 use Rattle.pf_session.specs.Moving.{IsKeptOn}
 use Rattle.pf_session.specs.Reopening.{ReopensAs, ReadsAs, HasSheet}
 use Rattle.pf_session.specs.State.{SessionState, file_of}
-use Rattle.pf_script.specs.BookActs.{Creation, Flush, Act}
+use Rattle.pf_script.specs.BookActs.{Flush, Act}
 use Rattle.pf_script.specs.BookDebts.{Unchanged, seat_of}
 use Rattle.pf_script.specs.BookSeats.{IsOfScript}
 use Rattle.pf_script.specs.Desk.{seat_on}
@@ -22,10 +22,6 @@ use Rattle.pf_script.proofs.CallKeeping.{both_with}
 use Rattle.pf_script.proofs.OfScript.{file_named}
 use Rattle.pf_script.proofs.OverGiven.{same_files, over_idle}
 use Rattle.pf_script.proofs.Showing.{same_session}
-
--- A file that is there and stands for a sheet reopens as it.
-pub reopens_of : (key : List ℕ) (sheet : Sheet) (file : List ℕ) (here log : Option (List ℕ)) → here ≡ Some file → Stands (contents here) key sheet → ReopensAs key sheet here log
-reopens_of key sheet file here log there stands = record { file = file; whole = there; stands = subst (λ (o : Option (List ℕ)). Stands (contents o) key sheet) there stands }
 
 -- what reopens stands, as it reads
 pub reopens_stands : (key : List ℕ) (sheet : Sheet) (here log : Option (List ℕ)) → ReopensAs key sheet here log → Stands (contents here) key sheet
@@ -43,14 +39,10 @@ pub reopens_still : (key : List ℕ) (sheet : Sheet) (name : Name) (files files'
 reopens_still key sheet name files files' same same_log reopens =
     subst (λ (o : Option (List ℕ)). ReopensAs key sheet o (files' (recovery_of name))) (sym same) (subst (λ (o : Option (List ℕ)). ReopensAs key sheet (files name) o) (sym same_log) reopens)
 
--- What one act leaves, of the calls that changed no other names.
+-- what a flush leaves, of calls that changed no other names
 pub left_flush : (key : List ℕ) (name : Name) (sheet : Sheet) (a b : Honest) → ReopensAs key sheet (reading b.now name) (reading b.now (recovery_of name)) → Ran (LeavesApart name) (KeepsApart name) a b
     → FilesLeft (Flush (seat_of key name sheet)) (reading a.now) (reading b.now)
 left_flush key name sheet a b stands ran = record { stands = stands; away = tt; others = λ other apart. ap (λ (o : Option File). read_of o) (ran.ends other apart) }
-
-pub left_creation : (key : List ℕ) (name : Name) (sheet : Sheet) (a b : Honest) → ReopensAs key sheet (reading b.now name) (reading b.now (recovery_of name)) → Ran (LeavesApart name) (KeepsApart name) a b
-    → FilesLeft (Creation (seat_of key name sheet)) (reading a.now) (reading b.now)
-left_creation key name sheet a b stands ran = record { stands = stands; away = tt; others = λ other apart. ap (λ (o : Option File). read_of o) (ran.ends other apart) }
 
 -- one flush, and acts after others
 pub files_one : (act : Act) (old new : Files) → act.done ≡ true → FilesLeft act.deed old new → FilesAfter (act ∷ []) old new

@@ -1,4 +1,4 @@
--- The line `read` under a book, from the contract of a read.
+-- The line `read` under a book and over files, from the contract of a read.
 use Rattle.std.proofs.Common.{◌≡◌, Bool, true, false, List, [], ℕ, ◌-◌, ◌≤◌, refl, sym, ap, subst, Some, Result, Ok, Err, length, min}
 use Rattle.std.specs.Prelude.{Contains, IfOk}
 use Rattle.node_tree.specs.Fetching.{host_part}
