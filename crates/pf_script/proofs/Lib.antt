@@ -59,6 +59,9 @@ pub mod MoveTurns
 pub mod CloseLine
 pub mod Sparing
 pub mod Desking
+pub mod ShowingOver
+pub mod DeskLooks
+pub mod DeskOver
 pub mod DeskUnder
 pub mod DrawLine
 pub mod StepFacts
