@@ -1,11 +1,11 @@
 -- A blank line on a desk.
-use Rattle.std.proofs.Common.{refl, inr, [], Ok}
+use Rattle.std.proofs.Common.{refl, inl, [], Ok}
 use Rattle.pf_io.specs.Host.{HostState}
 use Rattle.pf_io.specs.Words.{WordsState}
 use Rattle.pf_io.proofs.Telling.{told_by, told_none, both_same}
 use Rattle.pf_script.specs.BookSeats.{KeepsUnder}
 use Rattle.pf_script.specs.Desk.{DeskState}
-use Rattle.pf_script.specs.DeskSteps.{Asks, CoversDesk, AnyName, ConcernsDesk, DeskGoes}
+use Rattle.pf_script.specs.DeskSteps.{Asks, CoversDesk, ConcernsDesk, DeskGoes}
 use Rattle.pf_script.specs.Turns.{silent}
 use Rattle.pf_script.specs.declared.line.ScriptLine.TheVariants as lines
 use Rattle.pf_script.specs.declared.reply.Reply.TheVariants as replies
@@ -21,8 +21,8 @@ blank_goes desk host words = record {
         was_seen = record { answers = refl; words = none_taken words; of_host = refl; of_words = refl };
         turns = λ state is_state. at_last [] (λ unforged. (state, silent refl refl refl refl refl, is_state));
       });
-  books = both_same (KeepsUnder (CoversDesk desk) (CoversDesk desk) AnyName) host.honest host.honest refl (same_keeps (CoversDesk desk) AnyName);
-  named = λ k name has. inr (k, has);
+  books = both_same (KeepsUnder (CoversDesk desk) (CoversDesk desk) (ConcernsDesk lines.Blank desk)) host.honest host.honest refl (same_keeps (CoversDesk desk) (ConcernsDesk lines.Blank desk));
+  named = λ k name has. inl has;
   spares = spares_none (ConcernsDesk lines.Blank desk) host;
   counts = (refl, refl);
   wants = tt;

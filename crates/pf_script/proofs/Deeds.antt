@@ -229,7 +229,7 @@ module _ (book : Book) (before after : List Seal) (old new : Honest) (agrees : A
     tried_fits : (image : Image) → LeavesOthers (IsApart (Opening seal)) old.now image → (old.now seal.name ≡ None → IsImage old.now image)
         → ((entry : Entry) → old.now seal.name ≢ None → book seal.name ≡ Some entry → ReopensEither (key_of entry) seal.name (openings.first_of entry) (openings.second_of entry) old.now image) → ImageFits book image
     tried_fits image far gone either =
-        openings.opens_fits book before old.now agrees reads seal.name (HasAt image) (image_from seal.name old.now image far spares.targets)
+        openings.opens_fits book before old.now agrees reads seal.name (HasAt image) (image_from seal.name old.now image (λ other apart. far other tt) spares.targets)
         (λ none here log has. by_image image (gone none) here log has)
         (λ entry there was here log has.
         of_image image seal.name (λ h l. Reopens (key_of entry) seal.name (openings.first_of entry) h l ⊎ Reopens (key_of entry) seal.name (openings.second_of entry) h l) (either entry there was) here log has)
@@ -255,7 +255,7 @@ module _ (book : Book) (before after : List Seal) (old new : Honest) (agrees : A
 
     now_fits : FitsBook (LeftAt new.now) book
     now_fits =
-        openings.opens_fits book before old.now agrees reads seal.name (LeftAt new.now) (λ n target apart. left_same old.now new.now n (same_at old.now new.now seal.name n spares.others.ends target spares.targets apart))
+        openings.opens_fits book before old.now agrees reads seal.name (LeftAt new.now) (λ n target apart. left_same old.now new.now n (same_at old.now new.now seal.name n (λ other apart. spares.others.ends other tt) target spares.targets apart))
         (λ none here log l. subst (λ (d : Disk). LeftAt d seal.name here log) (opens.absent none).ends l)
         (λ entry there was.
         of_images new.now spares.reads seal.name (λ h l. Reopens (key_of entry) seal.name (openings.first_of entry) h l ⊎ Reopens (key_of entry) seal.name (openings.second_of entry) h l)
@@ -263,7 +263,7 @@ module _ (book : Book) (before after : List Seal) (old new : Honest) (agrees : A
 
     pub tried_agrees : ((seat : Seal) → Contains after seat → (Contains before seat × (seat.name ≢ seal.name)) ⊎ (book seat.name ≡ None)) → Agrees book after new.now
     tried_agrees seated =
-        openings.same_agrees book before old.now agrees reads seal.name new.now after spares.others.ends spares.targets (λ entry is ready. opens.ready ready) now_fits seated
+        openings.same_agrees book before old.now agrees reads seal.name new.now after (λ other apart. spares.others.ends other tt) spares.targets (λ entry is ready. opens.ready ready) now_fits seated
 
     -- accepted, of a name of the book
     module _ (entry : Entry) (was : book seal.name ≡ Some entry) (there : old.now seal.name ≢ None) (is_opened : speaks seal.key entry ≡ true → OpensOn seal old new) where
@@ -278,12 +278,12 @@ module _ (book : Book) (before after : List Seal) (old new : Honest) (agrees : A
       by_speaks : SeatsAfter (Opening seal) true before after → (b : Bool) → speaks seal.key entry ≡ b → Agrees (set_at seal.name (cond b (Some (Alone seal.key (Some seal.sheet.content) None true)) None) (without_partner dropped seal.name book)) after new.now
       by_speaks seats true says =
           one_agrees book before old.now agrees reads seal.name (without_partner dropped seal.name book) (λ n. n ≢ seal.name) (dropped_others book old.now seal.name) (Some (Alone seal.key (Some seal.sheet.content) None true))
-          new.now after (λ n target apart. same_at old.now new.now seal.name n spares.others.ends target spares.targets apart) spares.targets (λ seat has. ⊎_elim (λ was. inl was) (λ is. inr (ap (λ (s : Seal). s.name) is)) (seats seat has))
+          new.now after (λ n target apart. same_at old.now new.now seal.name n (λ other apart. spares.others.ends other tt) target spares.targets apart) spares.targets (λ seat has. ⊎_elim (λ was. inl was) (λ is. inr (ap (λ (s : Seal). s.name) is)) (seats seat has))
           (λ e is. subst (λ (e : Entry). Own after new.now seal.name e) (some_is _ e is)
           (own_done after new.now seal (is_opened says).path_is (opened_stood says) (λ seat has same. seated_by (Opening seal) true before after seats seal.name refl seat has same)))
       by_speaks seats false says =
           one_agrees book before old.now agrees reads seal.name (without_partner dropped seal.name book) (λ n. n ≢ seal.name) (dropped_others book old.now seal.name) None
-          new.now after (λ n target apart. same_at old.now new.now seal.name n spares.others.ends target spares.targets apart) spares.targets (λ seat has. ⊎_elim (λ was. inl was) (λ is. inr (ap (λ (s : Seal). s.name) is)) (seats seat has))
+          new.now after (λ n target apart. same_at old.now new.now seal.name n (λ other apart. spares.others.ends other tt) target spares.targets apart) spares.targets (λ seat has. ⊎_elim (λ was. inl was) (λ is. inr (ap (λ (s : Seal). s.name) is)) (seats seat has))
           (λ e is. absurd (cc))
 
       pub opened_agrees : SeatsAfter (Opening seal) true before after → Agrees (booked (Opening seal) true book) after new.now

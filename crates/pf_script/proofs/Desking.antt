@@ -16,7 +16,7 @@ use Rattle.pf_script.specs.Book.{Book, Seal}
 use Rattle.pf_script.specs.BookActs.{Act}
 use Rattle.pf_script.specs.BookSeats.{Covers, CoversEach, CoversBoth, KeepsUnder}
 use Rattle.pf_script.specs.Desk.{DeskState, session_at, IsSeated, IsSeatOf, IsDesk, Shows, IsStateOf}
-use Rattle.pf_script.specs.DeskSteps.{Unfolds, in_the_end, then_more, SeatAsks, Asks, HasItsName, OtherHas, Concerns, ConcernsDesk, CoversSome, CoversDesk, AnyName, KeepsSession, NothingDone, IsBrokenSession, BreaksSeat, SeatIdle, SeatWants, Wants, WhereWanting, WhereReplied, SeatGoes, DeskGoes}
+use Rattle.pf_script.specs.DeskSteps.{Unfolds, in_the_end, then_more, SeatAsks, Asks, HasItsName, OtherHas, Concerns, ConcernsDesk, CoversSome, CoversDesk, KeepsNames, KeepsSession, NothingDone, IsBrokenSession, BreaksSeat, SeatIdle, SeatWants, Wants, WhereWanting, WhereReplied, SeatGoes, DeskGoes}
 use Rattle.pf_script.specs.Script.{Seat, Empty, ScriptState, seat_at, HasThisName, IsTaken, state_with, seat_of_line, name_of_line}
 use Rattle.pf_script.specs.Turns.{SeatTurn, on_seat, on_carried, SaysTaken}
 use Rattle.pf_script.specs.Words.{SEATS}
@@ -120,9 +120,14 @@ module _ (old : DeskState) (desk : IsDesk old) (k : ℕ) (below : k < SEATS) (ta
     abbrev Of : SessionState → Type 0
     Of s = (j : ℕ) × (j ≢ k) × (session_at old j ≡ Some s)
 
-    books_on : (a b : Honest) → KeepsUnder (CoversSome (session_at old k)) (CoversSome left) (Concerns taken line (session_at old k)) a b → KeepsUnder (CoversDesk old) (CoversDesk new) AnyName a b
+    -- the names that the line is concerned with
+    concern_desk : (name : Name) → Concerns taken line (session_at old k) name → ConcernsDesk line old name
+    concern_desk name (inl has) = inr (k, names, has)
+    concern_desk name (inr gives) = inl gives.0
+
+    books_on : (a b : Honest) → KeepsUnder (CoversSome (session_at old k)) (CoversSome left) (Concerns taken line (session_at old k)) a b → KeepsUnder (CoversDesk old) (CoversDesk new) (ConcernsDesk line old) a b
     books_on a b keeps =
-        keeps_more (CoversDesk old) (CoversDesk new) (Concerns taken line (session_at old k)) AnyName a b (λ name is. tt)
+        keeps_more (CoversDesk old) (CoversDesk new) (Concerns taken line (session_at old k)) (ConcernsDesk line old) a b concern_desk
         (covers_less (CoversBoth (CoversSome (session_at old k)) (CoversEach Of)) (CoversDesk old) (CoversBoth (CoversSome left) (CoversEach Of)) (CoversDesk new) (Concerns taken line (session_at old k)) a b
         (λ book seats covers. (covers_at (session_at old k) book seats (λ s is. covers k s is), λ s of. covers of.0 s of.2))
         (λ book seats covers j s is. ⊎_elim
@@ -201,21 +206,21 @@ module _ (old : DeskState) (desk : IsDesk old) (k : ℕ) (below : k < SEATS) (ta
     all_wants (Ok reply) wants = tt
     all_wants (Err fault) wants = wants_on wants
 
-    -- the names that the line is concerned with
-    concern_desk : (name : Name) → Concerns taken line (session_at old k) name → ConcernsDesk line old name
-    concern_desk name (inl has) = inr (k, has)
-    concern_desk name (inr gives) = inl gives.0
-
-    named_on : (j : ℕ) (name : Name) → HasItsName (session_at new j) name → ConcernsDesk line old name
+    -- the names of the seats after it
+    named_on : KeepsNames line old new
     named_on j name has = ⊎_elim
-        (λ e. concern_desk name (goes.named name (subst (λ (o : Option SessionState). HasItsName o name) (ap (λ (i : ℕ). session_at new i) e ∙ here) has)))
-        (λ apart. inr (j, subst (λ (o : Option SessionState). HasItsName o name) (there j apart) has)) (same_or_not j k)
+        (λ e. on_it e (goes.named name (subst (λ (o : Option SessionState). HasItsName o name) (ap (λ (i : ℕ). session_at new i) e ∙ here) has)))
+        (λ apart. inl (subst (λ (o : Option SessionState). HasItsName o name) (there j apart) has)) (same_or_not j k)
+      where
+        on_it : j ≡ k → Concerns taken line (session_at old k) name → HasItsName (session_at old j) name ⊎ ((seat_of_line line ≡ Some j) × (name_of_line line ≡ Some name))
+        on_it e (inl was) = inl (subst (λ i. HasItsName (session_at old i) name) (sym e) was)
+        on_it e (inr gives) = inr (names ∙ ap (λ (i : ℕ). Some i) (sym e), gives.0)
 
     pub desk_goes : DeskGoes line result old new before after random random'
     desk_goes = record {
       key_is = refl;
       asks = all_asks result goes.asks;
-      books = both_weaker (KeepsUnder (CoversSome (session_at old k)) (CoversSome left) (Concerns taken line (session_at old k))) (KeepsUnder (CoversDesk old) (CoversDesk new) AnyName) before.honest after.honest goes.books books_on;
+      books = both_weaker (KeepsUnder (CoversSome (session_at old k)) (CoversSome left) (Concerns taken line (session_at old k))) (KeepsUnder (CoversDesk old) (CoversDesk new) (ConcernsDesk line old)) before.honest after.honest goes.books books_on;
       named = named_on;
       spares = spares_more (Concerns taken line (session_at old k)) (ConcernsDesk line old) concern_desk before after goes.spares;
       counts = goes.counts;

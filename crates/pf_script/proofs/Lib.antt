@@ -18,6 +18,7 @@ pub mod Deeds
 pub mod Moving
 pub mod Composing
 pub mod FilesLeft
+pub mod SparesAll
 pub mod Starting
 pub mod Seats
 pub mod ActKeeping
