@@ -66,9 +66,9 @@ module _ (key : List ℕ) (files : Files) (taken : Bool) (seat : Seat) (line : S
       → SeatTurn (stands_on key files) key taken seat line over reply acts after
   calm_over reply acts after (refused why first calm none said nothing stays) none_failed same_first same_none undamaged = refused why (same_first why first) (record { host = refl; random = refl }) none said nothing stays
   calm_over reply acts after (accepted none calm accepts) none_failed same_first same_none undamaged = accepted (same_none none) (record { host = refl; random = refl }) (accepts_over key files seen (answers_of files line) seat line reply acts after accepts)
-  calm_over reply acts after (host_failed failed fails said) none_failed same_first same_none undamaged = absurd (not_both (sym failed.host ∙ none_failed.host))
+  calm_over reply acts after (host_failed free failed fails said) none_failed same_first same_none undamaged = absurd (not_both (sym failed.host ∙ none_failed.host))
   calm_over reply acts after (was_damaged damage free calm fails said) none_failed same_first same_none undamaged = absurd (undamaged damage said)
-  calm_over reply acts after (words_failed failed loses said) none_failed same_first same_none undamaged = absurd (not_both (sym failed.random ∙ none_failed.random))
+  calm_over reply acts after (words_failed free failed loses said) none_failed same_first same_none undamaged = absurd (not_both (sym failed.random ∙ none_failed.random))
 
 -- lines whose rules look at no answer
 abbrev pub AsksNone : ScriptLine → Type 0
