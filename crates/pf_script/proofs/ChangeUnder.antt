@@ -18,7 +18,7 @@ use Rattle.pf_session.specs.Backing.{IsBacked, StandsOn}
 use Rattle.pf_session.specs.Changing.{IsFlushedFirst, IsRoomy, StepGoes}
 use Rattle.pf_session.specs.Flushing.{UndamagedFlush, IsUndamaged}
 use Rattle.pf_session.specs.Reopening.{AsEither, Stood}
-use Rattle.pf_session.specs.Sealing.{StoodIf, Replaces}
+use Rattle.pf_session.specs.Sealing.{StoodIf, Replaces, StandsNext}
 use Rattle.pf_session.specs.State.{SessionState, file_of}
 use Rattle.pf_session.specs.declared.fault.FlushFault.{FlushFault}
 use Rattle.pf_script.specs.Book.{Book, Entry, Seal, Agrees}
@@ -257,7 +257,7 @@ module _ (key : List ℕ) (own : OwnSeat) (line : ScriptLine) (book : Book) (sea
         }
 
     -- a step after the flush
-    module _ (mid : SessionState) (between : HostState) (of_mid : IsOfScript mid) (is_first : IsFlushedFirst step old.tree) (seals : SealsWith old more (λ base next. StandsOn next mid × Replaces true old.key old.name base next before between))
+    module _ (mid : SessionState) (between : HostState) (of_mid : IsOfScript mid) (is_first : IsFlushedFirst step old.tree) (seals : SealsWith old more (λ base next. StandsOn next mid × Replaces true old.key old.name base next before between × StandsNext old.key old.name base next before between))
         {nonce : List ℕ} {tree : TreeState} (same : mid ≡ record old { nonce = nonce; drawn = None; tree = tree; changed = false }) (dirty : mid.tree.dirty ≡ []) (t : Honest) (is_t : between.honest ≡ Some t) (only_after : Unchanged t b) where
       abbrev next : Sheet
       next = (seals base was.linked was.kept.backed).0

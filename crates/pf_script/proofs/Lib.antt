@@ -39,6 +39,7 @@ pub mod Flushed
 pub mod SeatCalls
 pub mod FlushLine
 pub mod OverGiven
+pub mod OverFiles
 pub mod Under
 pub mod FlushUnder
 pub mod CloseUnder

@@ -39,7 +39,7 @@ pub data SizeTold (size : ℕ) : SessionState → SessionState → List Answer �
   told_piece : (old mid new : SessionState) (these those : List Answer) (words more : List (List ℕ)) (flushed : Bool) (outcome : Outcome) → old.tree.size + 32768 < size → mid.tree.size ≡ old.tree.size + 32768
       → ChangeTold (Size (old.tree.size + 32768)) old mid these words (Went flushed) → SizeTold size mid new those more outcome → SizeTold size old new (these ++ those) (words ++ more) outcome
 
-module _ (key : List ℕ) (sealed : List Sheet) (own : OwnSeat) (k size : ℕ) (given : List Answer) (all : List (List ℕ)) (P : List Act → Type 0) (passes : NoneRefuses (rules key false (Own own) (lines.Size k size) given)) (new : SessionState) where
+module _ (key : List ℕ) (sealed : List Sheet) (own : OwnSeat) (k size : ℕ) (given : List Answer) (all : List (List ℕ)) (P : List Act → Type 0) (passes : (these : List Answer) → NoneRefuses (rules key false (Own own) (lines.Size k size) these)) (new : SessionState) where
   -- what is to be shown of each way to end
   pub record Finishes (outcome : Outcome) : Type 0 where
     pub went : (flushed : Bool) → outcome ≡ Went flushed → (acts : List Act) → LineEnds key sealed own (lines.Size k size) given all false false (replies.Sized size) new acts → P acts
