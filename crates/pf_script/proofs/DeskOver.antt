@@ -25,12 +25,8 @@ use Rattle.pf_script.proofs.CallKeeping.{both_with, at_both}
 use Rattle.pf_script.proofs.DeskLooks.{looks_says}
 use Rattle.pf_script.proofs.Desking.{SaysOther, same_or_not, others_apart}
 use Rattle.pf_script.proofs.Desking as desking
-use Rattle.pf_script.proofs.ShowingOver.{over_none, over_some, SameFile, over_same}
-use Rattle.pf_script.proofs.Under.{LooksLike}
-
-looks_over : (files : Files) (seat : Seat) (session : Option SessionState) → ShowsOver files seat session → LooksLike session seat
-looks_over files seat None shows = over_none files seat shows
-looks_over files seat (Some s) shows = over_some files seat s shows
+use Rattle.pf_script.proofs.OverFiles.{shows_still}
+use Rattle.pf_script.proofs.Under.{looks_over}
 
 the_same : (own name : Name) → Some own ≡ Some name → own ≡ name
 the_same own name same = cc
@@ -89,11 +85,14 @@ module _ (old : DeskState) (desk : IsDesk old) (k : ℕ) (below : k < SEATS) (ta
     may_target may name (inr gives) = may name gives.0
 
     -- the files of the other seats
-    others_same : ((name : Name) → name_of_line line ≡ Some name → ¬ (¬ (IsTarget name))) → (j : ℕ) (s : SessionState) → j ≢ k → session_at old j ≡ Some s → SameFile (reading a.now) (reading b.now) s
-    others_same may j s apart is = record {
-      file = ap read_of (keeps s.name (λ name with. apart_name s.name name target (not_it name with)));
-      recovery = ap read_of (keeps (recovery_of s.name) (λ name with. recovery_apart s.name name target (may_target may name with) (not_it name with)));
-    }
+    abbrev SameFile : SessionState → Type 0
+    SameFile s = (reading b.now s.name ≡ reading a.now s.name) × (reading b.now (recovery_of s.name) ≡ reading a.now (recovery_of s.name))
+
+    others_same : ((name : Name) → name_of_line line ≡ Some name → ¬ (¬ (IsTarget name))) → (j : ℕ) (s : SessionState) → j ≢ k → session_at old j ≡ Some s → SameFile s
+    others_same may j s apart is = (
+      ap read_of (keeps s.name (λ name with. apart_name s.name name target (not_it name with))),
+      ap read_of (keeps (recovery_of s.name) (λ name with. recovery_apart s.name name target (may_target may name with) (not_it name with))),
+    )
       where
         target : IsTarget s.name
         target = (desk.seated j s is).of_script.is_target
@@ -114,8 +113,8 @@ module _ (old : DeskState) (desk : IsDesk old) (k : ℕ) (below : k < SEATS) (ta
       over : SeatOver state.key taken (seat_at state k) line seen.words reply goes.acts goes.after (reading a.now) (reading b.now)
       over = subst (λ (x : List ℕ). SeatOver x taken (seat_at state k) line seen.words reply goes.acts goes.after (reading a.now) (reading b.now)) (sym is_state.key_is) goes.over
 
-      same_file : (j : ℕ) (s : SessionState) → j ≢ k → session_at old j ≡ Some s → SameFile (reading a.now) (reading b.now) s
-      same_file j s apart is = ⊎_elim (λ all. record { file = all s.name; recovery = all (recovery_of s.name) }) (λ may. others_same may j s apart is)
+      same_file : (j : ℕ) (s : SessionState) → j ≢ k → session_at old j ≡ Some s → SameFile s
+      same_file j s apart is = ⊎_elim (λ all. (all s.name, all (recovery_of s.name))) (λ may. others_same may j s apart is)
           (over_cases state.key taken (seat_at state k) line seen.words reply goes.acts goes.after (reading a.now) (reading b.now) over)
 
       on_it : (j : ℕ) → j ≡ k → ShowsOver (reading b.now) (seat_at then_state j) (session_at new j)
@@ -128,7 +127,7 @@ module _ (old : DeskState) (desk : IsDesk old) (k : ℕ) (below : k < SEATS) (ta
       off_it j apart =
           subst (λ (x : Seat). ShowsOver (reading b.now) x (session_at new j)) (sym (get_or-set_other state.seats k j goes.after Empty apart))
           (subst (λ (o : Option SessionState). ShowsOver (reading b.now) (seat_at state j) o) (sym (desking.there old desk k below taken line names says left j apart))
-          (over_same (reading a.now) (reading b.now) (seat_at state j) (session_at old j) (λ s is. same_file j s apart is) (is_state.shows j)))
+          (shows_still (reading a.now) (reading b.now) (seat_at state j) (session_at old j) (λ s is whole. same_file j s apart is) (is_state.shows j)))
 
       desk_over : DeskOver line seen reply new state a b
       desk_over = record {

@@ -61,7 +61,6 @@ pub mod MoveTurns
 pub mod CloseLine
 pub mod Sparing
 pub mod Desking
-pub mod ShowingOver
 pub mod DeskLooks
 pub mod DeskOver
 pub mod DeskUnder
@@ -81,6 +80,7 @@ pub mod DeskLine
 pub mod BlankLine
 pub mod MoveLine
 pub mod BookRunning
+pub mod FilesRunning
 pub mod OneRules
 pub mod OneLike
 pub mod OneWords
