@@ -63,6 +63,8 @@ pub mod MoveTurns
 pub mod CloseLine
 pub mod Sparing
 pub mod Desking
+pub mod DeskLooks
+pub mod DeskOver
 pub mod DeskUnder
 pub mod DrawLine
 pub mod StepFacts
@@ -80,6 +82,7 @@ pub mod DeskLine
 pub mod BlankLine
 pub mod MoveLine
 pub mod BookRunning
+pub mod FilesRunning
 pub mod OneRules
 pub mod OneLike
 pub mod OneWords
