@@ -179,7 +179,7 @@ module _ (key : List ℕ) (taken : Bool) (line : ScriptLine) (seen : Seen) (repl
         by_case (inr has) = let e : false ≡ true = subst (λ (o : Option Entry). IsSome o) (ap book looks.name_is ∙ none) has in absurd (cc)
 
     by_known : ((book : Book) (seats : List Seal) (seat : Seat) → Agrees book seats a.now → IsImage a.now (reading a.now) → ShowsUnder book seats seat (Some old) → book old.name ≡ None → ¬ (Knows book key seat line reply)
-      → LineUnder key taken line seen reply (Some old) new book seats seat a b)
+        → LineUnder key taken line seen reply (Some old) new book seats seat a b)
         → KnownUnder → SeatUnder key taken line seen reply (Some old) new a b
     by_known free known book seats seat agrees reads shows = by_shows shows
       where
