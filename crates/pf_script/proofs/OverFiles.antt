@@ -1,32 +1,27 @@
 -- Lines over files, without a book: files that reopen, what acts leave of them, and which seat shows a session.
-use Rattle.std.proofs.Common.{◌≡◌, Bool, true, false, List, [], ◌∷◌, ◌++◌, ℕ, refl, sym, ◌∙◌, ap, subst, cond, Option, Some, None}
+use Rattle.std.proofs.Common.{◌≡◌, Bool, true, false, List, [], ◌∷◌, ◌++◌, ℕ, refl, sym, ◌∙◌, ap, subst, Option, Some}
 use Rattle.node_tree.specs.Sheet.{Sheet, Stands}
 use Rattle.pf_io.specs.Disk.{Name, File, Disk, Files, reading, read_of}
-use Rattle.pf_io.specs.Host.{contents}
+use Rattle.pf_io.specs.Host.{HostState, OnDisk, contents}
 use Rattle.pf_io.specs.Moments.{Honest, Ran}
-use Rattle.pf_io.specs.Names.{side_of, recovery_of}
+use Rattle.pf_io.specs.Names.{recovery_of}
 use Rattle.pf_session.specs.Aside.{LeavesApart, KeepsApart}
 use Rattle.pf_session.specs.Moving.{IsKeptOn}
-use Rattle.pf_session.specs.Reopening.{ReopensAs, Stood, ReadsAs, HasSheet}
+use Rattle.pf_session.specs.Reopening.{ReopensAs, ReadsAs, HasSheet}
 use Rattle.pf_session.specs.State.{SessionState, file_of}
-use Rattle.pf_script.specs.BookActs.{Creation, Flush, Act}
+use Rattle.pf_script.specs.BookActs.{Flush, Act}
 use Rattle.pf_script.specs.BookDebts.{Unchanged, seat_of}
 use Rattle.pf_script.specs.BookSeats.{IsOfScript}
 use Rattle.pf_script.specs.Desk.{seat_on}
-use Rattle.pf_script.specs.FileTurns.{stands_on, answers_of, seen_over, FilesLeft, FilesAfter, ShowsOver, no_file, whole_file, broken_file, ReopensOpened, LineOver, SeatFiles}
-use Rattle.pf_script.specs.Rules.{IsFirst, rules}
-use Rattle.pf_script.specs.Script.{OwnSeat, Seat, Empty, Own}
-use Rattle.pf_script.specs.Turns.{Seen, Failed, SeatTurn, refused, flushes}
+use Rattle.pf_script.specs.FileTurns.{stands_on, seen_over, FilesLeft, FilesAfter, ShowsOver, no_file, whole_file, broken_file, LineOver, SeatFiles}
+use Rattle.pf_script.specs.Script.{OwnSeat, Seat, Own}
+use Rattle.pf_script.specs.Turns.{Seen, Failed, SeatTurn, flushes}
 use Rattle.pf_script.specs.declared.line.ScriptLine.{ScriptLine}
 use Rattle.pf_script.specs.declared.reply.Reply.{Reply}
-use Rattle.pf_script.specs.declared.reply.Reply.TheVariants as replies
-use Rattle.pf_script.specs.declared.reply.Why.{Why}
-use Rattle.pf_script.proofs.OverGiven.{first_unasked, same_files, over_idle}
-use Rattle.pf_script.proofs.Showing.{ShowsSome, same_session}
-
--- A file that is there and stands for a sheet reopens as it.
-pub reopens_of : (key : List ℕ) (sheet : Sheet) (file : List ℕ) (here log : Option (List ℕ)) → here ≡ Some file → Stands (contents here) key sheet → ReopensAs key sheet here log
-reopens_of key sheet file here log there stands = record { file = file; whole = there; stands = subst (λ (o : Option (List ℕ)). Stands (contents o) key sheet) there stands }
+use Rattle.pf_script.proofs.CallKeeping.{both_with}
+use Rattle.pf_script.proofs.OfScript.{file_named}
+use Rattle.pf_script.proofs.OverGiven.{same_files, over_idle}
+use Rattle.pf_script.proofs.Showing.{same_session}
 
 -- what reopens stands, as it reads
 pub reopens_stands : (key : List ℕ) (sheet : Sheet) (here log : Option (List ℕ)) → ReopensAs key sheet here log → Stands (contents here) key sheet
@@ -44,18 +39,10 @@ pub reopens_still : (key : List ℕ) (sheet : Sheet) (name : Name) (files files'
 reopens_still key sheet name files files' same same_log reopens =
     subst (λ (o : Option (List ℕ)). ReopensAs key sheet o (files' (recovery_of name))) (sym same) (subst (λ (o : Option (List ℕ)). ReopensAs key sheet (files name) o) (sym same_log) reopens)
 
--- the file of a session of a script has its name
-pub file_is_name : (old : SessionState) → IsOfScript old → file_of old ≡ old.name
-file_is_name old mine = ap (λ (b : Bool). cond b (side_of old.name) old.name) mine.named
-
--- What one act leaves, of the calls that changed no other names.
+-- what a flush leaves, of calls that changed no other names
 pub left_flush : (key : List ℕ) (name : Name) (sheet : Sheet) (a b : Honest) → ReopensAs key sheet (reading b.now name) (reading b.now (recovery_of name)) → Ran (LeavesApart name) (KeepsApart name) a b
     → FilesLeft (Flush (seat_of key name sheet)) (reading a.now) (reading b.now)
 left_flush key name sheet a b stands ran = record { stands = stands; away = tt; others = λ other apart. ap (λ (o : Option File). read_of o) (ran.ends other apart) }
-
-pub left_creation : (key : List ℕ) (name : Name) (sheet : Sheet) (a b : Honest) → ReopensAs key sheet (reading b.now name) (reading b.now (recovery_of name)) → Ran (LeavesApart name) (KeepsApart name) a b
-    → FilesLeft (Creation (seat_of key name sheet)) (reading a.now) (reading b.now)
-left_creation key name sheet a b stands ran = record { stands = stands; away = tt; others = λ other apart. ap (λ (o : Option File). read_of o) (ran.ends other apart) }
 
 -- one flush, and acts after others
 pub files_one : (act : Act) (old new : Files) → act.done ≡ true → FilesLeft act.deed old new → FilesAfter (act ∷ []) old new
@@ -85,27 +72,6 @@ shows_still files files' seat session same (broken_file shown own broken as_brok
 
 pub shows_all : (files files' : Files) (seat : Seat) (session : Option SessionState) → ((name : Name) → files' name ≡ files name) → ShowsOver files seat session → ShowsOver files' seat session
 shows_all files files' seat session same shows = shows_still files files' seat session (λ own some whole. (same own.name, same (recovery_of own.name))) shows
-
--- how a seat looks that shows a session
-pub shows_empty : (files : Files) (seat : Seat) → ShowsOver files seat None → seat ≡ Empty
-shows_empty files seat (no_file is none) = is
-shows_empty files seat (whole_file sheet own whole path reopens kept is some) = absurd (cc)
-shows_empty files seat (broken_file shown own broken as_broken key_is name_is is some) = absurd (cc)
-
-pub shows_own : (files : Files) (seat : Seat) (s : SessionState) → ShowsOver files seat (Some s) → ShowsSome seat s
-shows_own files seat s (no_file is none) = absurd (cc)
-shows_own files seat s (whole_file sheet own whole path reopens kept is some) =
-    let same = same_session s own some in
-    record { shown = seat_on sheet own; key_is = ap (λ (x : SessionState). x.key) same; name_is = ap (λ (x : SessionState). x.name) same; broken_is = ap (λ (x : SessionState). x.broken) same; seat_is = is }
-shows_own files seat s (broken_file shown own broken as_broken key_is name_is is some) =
-    let same = same_session s own some in
-    record {
-      shown = shown;
-      key_is = key_is ∙ ap (λ (x : SessionState). x.key) same;
-      name_is = name_is ∙ ap (λ (x : SessionState). x.name) same;
-      broken_is = as_broken ∙ sym broken ∙ ap (λ (x : SessionState). x.broken) same;
-      seat_is = is;
-    }
 
 -- a session that stands on its file
 pub shows_whole : (files : Files) (base : Sheet) (new : SessionState) (key' : List ℕ) (name : Name) → new.key ≡ key' → new.name ≡ name → new.broken ≡ false → base.path ≡ name → ReopensAs key' base (files name) (files (recovery_of name)) → IsKeptOn base new
@@ -147,7 +113,7 @@ module _ (key : List ℕ) (taken : Bool) (line : ScriptLine) (seen : Seen) (repl
     -- the file stands where the session's calls look for it
     pub file_stands : IsOfScript old → (base : Sheet) → OnFile base → Stands (contents (reading a.now (file_of old))) old.key base
     file_stands mine base on =
-        subst (λ (n : Name). Stands (contents (reading a.now n)) old.key base) (sym (file_is_name old mine)) (reopens_stands old.key base (reading a.now old.name) (reading a.now (recovery_of old.name)) on.reopens)
+        subst (λ (n : Name). Stands (contents (reading a.now n)) old.key base) (sym (file_named old mine)) (reopens_stands old.key base (reading a.now old.name) (reading a.now (recovery_of old.name)) on.reopens)
 
   -- Nothing was done, and the session is kept.
   pub still_over : (old new : SessionState) (a b : Honest) → Unchanged a b → (base : Sheet) (whole : old.broken ≡ false) → OnFile old whole (Some new) a b base → new.key ≡ old.key → new.name ≡ old.name → new.broken ≡ false → IsKeptOn base new
@@ -159,13 +125,8 @@ module _ (key : List ℕ) (taken : Bool) (line : ScriptLine) (seen : Seen) (repl
     shows = shows_all (reading a.now) (reading b.now) (Own (seat_on base new)) (Some new) (same_files a b only) (shows_whole (reading a.now) base new old.key old.name key_is name_is also on.path_is on.reopens kept);
   }
 
-  -- The line is refused before anything is asked, by what the seat is.
-  pub refused_over : (why : Why) (old : Option SessionState) (a b : Honest) → Unchanged a b → seen.words ≡ [] → reply ≡ replies.Refused why → ((files : Files) (seat : Seat) → ShowsOver files seat old → IsFirst (rules key taken seat line []) why)
-      → SeatFiles key taken line seen reply old old a b
-  refused_over why old a b only none said first seat calm shows opened = record {
-    acts = [];
-    after = seat;
-    over = over_idle key taken seat line seen.words reply seat a b only
-        (refused why (first_unasked key taken seat line (answers_of (reading a.now) line) why (first (reading a.now) seat shows)) (record { host = refl; random = refl }) none said refl refl);
-    shows = shows_all (reading a.now) (reading b.now) seat old (same_files a b only) shows;
-  }
+-- so of a call on a host
+pub over_on_disk : (P : Honest → Honest → Type 0) (key : List ℕ) (taken : Bool) (line : ScriptLine) (seen : Seen) (reply : Reply) (old : SessionState) (whole : old.broken ≡ false) (new : Option SessionState) (before after : HostState) → OnDisk before after P
+    → ((a b : Honest) → before.honest ≡ Some a → after.honest ≡ Some b → P a b → KnownOver key taken line seen reply old whole new a b) → OnDisk before after (SeatFiles key taken line seen reply (Some old) new)
+over_on_disk P key taken line seen reply old whole new before after holds known =
+    both_with P (SeatFiles key taken line seen reply (Some old) new) before.honest after.honest holds (λ a b is is2 p. own_over key taken line seen reply old whole new a b (known a b is is2 p))
