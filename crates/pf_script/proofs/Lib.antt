@@ -51,9 +51,11 @@ pub mod OpenLine
 pub mod ReadUnder
 pub mod ChangeLeft
 pub mod ChangeUnder
+pub mod ChangeOver
 pub mod LineUnder
 pub mod WriteUnder
 pub mod SizeLeft
+pub mod SizeOver
 pub mod SizeUnder
 pub mod MoveUnder
 pub mod MoveOver
