@@ -5,7 +5,6 @@ use Rattle.std.proofs.lemmas.List.{append_assoc}
 use Rattle.std.proofs.lemmas.List.Elements.{Contains-push, Contains-append_right}
 use Rattle.node_layout.specs.Places.{node_count}
 use Rattle.node_layout.specs.declared.damage.Damage.{Damage}
-use Rattle.node_tree.specs.Backing.{now}
 use Rattle.node_tree.specs.Sheet.{Sheet, IsLinked}
 use Rattle.pf_io.specs.Disk.{Name}
 use Rattle.pf_io.specs.Host.{Answer, LengthWas, Gave, Made, HostState, Both, IsMore, OnDisk, ReadsAsImage}
@@ -43,6 +42,7 @@ use Rattle.pf_session.specs.declared.fault.MoveFault.{MoveFault}
 use Rattle.pf_session.specs.declared.fault.MoveFault.TheVariants as moves
 use Rattle.pf_io.specs.Names.{IsTarget}
 use Rattle.pf_script.proofs.MoveCallKeeping.{move_keeps}
+use Rattle.pf_script.proofs.MoveUnder.{seals_moved}
 use Rattle.pf_script.proofs.OfScript.{of_moved}
 use Rattle.pf_script.proofs.StepKeeping.{keeps_more}
 use Rattle.pf_script.proofs.Refusing.{none_taken, at_last, refused_goes, nothing_wanting, first_then, none_then}
@@ -51,10 +51,10 @@ use Rattle.pf_script.proofs.Showing.{shows_some}
 use Rattle.pf_script.proofs.Sparing.{spares_both}
 use Rattle.pf_script.proofs.WriteLine.{nothing_goes}
 use Rattle.pf_script.specs.Script.{OwnSeat, Own, Seat, sheet_of, sheets_of}
-use Rattle.pf_script.specs.SeatSteps.{IsNextSheet, SealsMoved, renamed, broken_seat}
+use Rattle.pf_script.specs.SeatSteps.{SealsMoved, renamed, broken_seat}
 use Rattle.pf_script.specs.Turns.{FlushedToMove, as_it_was, was_changed, IsShort, Blame, ByHost, ByDamage, BlamesFlush, SeatTurn, Fails, refused, accepted, host_failed, was_damaged, words_failed, moved as moved_on, not_looked_up, not_flushed_to_move, not_moved as not_carried, no_move, flushes, on_carried}
 use Rattle.pf_script.proofs.FlushLine.{resealed_own}
-use Rattle.pf_script.proofs.Flushed.{SeenOf, next_of, counted_kind, host_blamed, fault_of, seal_ends, FlushEnds, not_begun, not_ended, was_ended}
+use Rattle.pf_script.proofs.Flushed.{SeenOf, counted_kind, host_blamed, fault_of, seal_ends, FlushEnds, not_begun, not_ended, was_ended}
 
 -- the sheets of acts one after the other
 pub sheets_then : (acts more : List Act) → sheets_of (acts ++ more) ≡ sheets_of acts ++ sheets_of more
@@ -214,13 +214,22 @@ module _ (key : List ℕ) (k : ℕ) (to : Name) (old : SessionState) (seated : I
   abbrev pub move_rules : List Answer → List Rule
   move_rules given = refuses whys.NameBusy (false ≡ true) ∷ refuses whys.BadName (¬ (IsTarget to)) ∷ refuses whys.TargetExists ((size : ℕ) × (others : List Answer) × (given ≡ LengthWas to (Some size) ∷ others)) ∷ []
 
-  -- no rule refuses a new name that is free
+  -- no rule refuses a new name that was not found
+  passes_where : IsTarget to → (base : Sheet) (given : List Answer) → ((size : ℕ) (others : List Answer) → given ≡ looked (Some size) ∷ others → ⊥) → NoneRefuses (rules key false (Own (seat_on base old)) line given)
+  passes_where good base given not_there =
+      none_then (move_rules given) (Own (seat_on base old)) (seat_on base old) refl whole (not_busy, ((λ other bad. bad.1 good), ((λ other there. not_there there.1.0 there.1.1 there.1.2), tt)))
+
   pub move_passes : IsTarget to → (base : Sheet) (rest : List Answer) → NoneRefuses (rules key false (Own (seat_on base old)) line (looked None ∷ rest))
-  move_passes good base rest =
-      none_then (move_rules (looked None ∷ rest)) (Own (seat_on base old)) (seat_on base old) refl whole
-      (not_busy, ((λ other bad. bad.1 good), ((λ other there. not_there there.1.0 there.1.1 there.1.2), tt)))
+  move_passes good base rest = passes_where good base (looked None ∷ rest) not_there
     where
       not_there : (size : ℕ) (others : List Answer) → looked None ∷ rest ≡ looked (Some size) ∷ others → ⊥
+      not_there size others is = absurd (cc)
+
+  -- before anything was asked
+  pub move_unasked : IsTarget to → (base : Sheet) → NoneRefuses (rules key false (Own (seat_on base old)) line [])
+  move_unasked good base = passes_where good base [] not_there
+    where
+      not_there : (size : ℕ) (others : List Answer) → [] ≡ looked (Some size) ∷ others → ⊥
       not_there size others is = absurd (cc)
 
   module _ (new : SessionState) (before after : HostState) (random random' : WordsState) (books : OnDisk before after (KeepsUnder (Covers old) (Covers new) (Concerns false line (Some old)))) (spares : Spares (Concerns false line (Some old)) before after) (mine : IsOfScript new) where
@@ -258,20 +267,20 @@ module _ (key : List ℕ) (k : ℕ) (to : Name) (old : SessionState) (seated : I
 
     -- a call failed: the seat is broken
     broken_on : (blame : Blame) (these : List Answer) (words : List (List ℕ)) → SeenOf these words (host_blamed blame) false before after random random' → new.key ≡ old.key → new.name ≡ old.name → new.broken ≡ true
-        → ((base : Sheet) → NoneRefuses (rules key false (Own (seat_on base old)) line these))
+        → IsTarget to → ((base : Sheet) → NoneRefuses (rules key false (Own (seat_on base old)) line these))
         → ((base : Sheet) → IsLinked base → IsKeptOn base old → (acts : List Act) × (left : OwnSeat) × Fails key (seen_by these words (host_blamed blame) false) blame (Own (seat_on base old)) line acts (Own left) × (left.broken ≡ true) × (left.key ≡ old.key) × (left.name ≡ old.name))
         → SeatGoes key false line (Ok (flush_reply (fault_of blame))) (Some old) (Some new) before after random random'
-    broken_on blame these words seen key_is name_is broken passes fails =
+    broken_on blame these words seen key_is name_is broken good passes fails =
         move_on (flush_reply (fault_of blame)) these words (host_blamed blame) false seen (host_reply blame) (words_reply blame)
         (λ sealed base among linked kept.
         let on = fails base linked kept in
-        at_last on.0 (λ unforged. (Own on.1, fault_turn sealed (Own (seat_on base old)) blame on.0 (Own on.1) (passes base) on.2, broken_file on.1 new broken on.3 (on.4 ∙ sym key_is) (on.5 ∙ sym name_is) refl refl)))
+        at_last on.0 (λ unforged. (Own on.1, fault_turn sealed (Own (seat_on base old)) blame on.0 (Own on.1) (move_unasked good base) (passes base) on.2, broken_file on.1 new broken on.3 (on.4 ∙ sym key_is) (on.5 ∙ sym name_is) refl refl)))
         key_is (λ name is. inl (is ∙ name_is)) (λ also. absurd (false_true new.broken broken also))
       where
-        fault_turn : (sealed : List Sheet) (seat : Seat) (blame : Blame) (acts : List Act) (left : Seat) → NoneRefuses (rules key false seat line these) → Fails key (seen_by these words (host_blamed blame) false) blame seat line acts left
+        fault_turn : (sealed : List Sheet) (seat : Seat) (blame : Blame) (acts : List Act) (left : Seat) → NoneRefuses (rules key false seat line []) → NoneRefuses (rules key false seat line these) → Fails key (seen_by these words (host_blamed blame) false) blame seat line acts left
             → SeatTurn (on_carried key sealed) key false seat line (seen_by these words (host_blamed blame) false) (flush_reply (fault_of blame)) acts left
-        fault_turn sealed seat ByHost acts left none fails = host_failed (record { host = refl; random = refl }) fails refl
-        fault_turn sealed seat (ByDamage damage) acts left none fails = was_damaged damage none (record { host = refl; random = refl }) fails refl
+        fault_turn sealed seat ByHost acts left unasked none fails = host_failed unasked (record { host = refl; random = refl }) fails refl
+        fault_turn sealed seat (ByDamage damage) acts left unasked none fails = was_damaged damage none (record { host = refl; random = refl }) fails refl
 
     -- it was not flushed
     unflushed : (start : HostState) (fault : FlushFault) → IsFree to before start → (fails : FlushFails fault old new start after random random') → FlushEnds (Err fault) old new start after random fails.between
@@ -292,7 +301,7 @@ module _ (key : List ℕ) (k : ℕ) (to : Name) (old : SessionState) (seated : I
           taken = taken_then words (first ∷ second ∷ []) random fails.between random' seen.taken fails.drawn.took.told;
           on_host = subst (λ n. CountsFault (host_blamed blame) n after.faults) free.looks.asked.asked.faults seen.on_host;
           on_words = fails.drawn.took.calm ∙ seen.on_words;
-        }) key_is name_is broken (λ base. move_passes free.is_target base these)
+        }) key_is name_is broken free.is_target (λ base. move_passes free.is_target base these)
         (λ base linked kept.
         let on = seals base linked kept.backed in (
           record { deed = Flush (seat_of old.key old.name on.0); done = false } ∷ [],
@@ -320,14 +329,8 @@ module _ (key : List ℕ) (k : ℕ) (to : Name) (old : SessionState) (seated : I
       up_to = f.on_host ∙ free.looks.asked.asked.faults
 
       -- the sheet of a move
-      seals_moved : (ended : Bool) (base' : Sheet) → RestsOn base' mid → (on : MovesOn ended to nonce base' mid between after) → SealsMoved (seat_on base' mid) to (f.first ∷ f.second ∷ []) on.next
-      seals_moved ended base' rests on = record {
-        first = f.first;
-        second = f.second;
-        words_are = refl;
-        next = subst (λ (n : List ℕ). IsNextSheet base' to n (now base' mid.tree) [] [] on.next) f.is_nonce
-            (subst (λ (d : List ℕ). IsNextSheet base' to nonce (now base' mid.tree) d [] on.next) rests.clean (next_of base' mid.tree to nonce [] on.next on.is_next));
-      }
+      sealed_by : (ended : Bool) (base' : Sheet) → RestsOn base' mid → (on : MovesOn ended to nonce base' mid between after) → SealsMoved (seat_on base' mid) to (f.first ∷ f.second ∷ []) on.next
+      sealed_by ended base' rests on = seals_moved ended to nonce base' mid between after rests on f.first f.second f.is_nonce
 
       uncarried : (fault : FlushFault) → CarryBlamed fault mid.name between after → Moves false to nonce mid between after → new ≡ record mid { broken = true } → SeatGoes key false line (move_reply (Err (move_of_flush fault))) (Some old) (Some new) before after random random'
       uncarried fault by carries same =
@@ -335,14 +338,14 @@ module _ (key : List ℕ) (k : ℕ) (to : Name) (old : SessionState) (seated : I
           (subst (λ (r : Result Reply Memory). SeatGoes key false line r (Some old) (Some new) before after random random') (blamed_reply by.blame)
           (broken_on by.blame (all_given by.these) all_words
           (record { told = all_told by.these by.told; taken = f.taken; on_host = subst (λ n. CountsFault (host_blamed by.blame) n after.faults) up_to by.on_host; on_words = f.on_words })
-          (ap (λ (s : SessionState). s.key) same ∙ f.key_is) (ap (λ (s : SessionState). s.name) same ∙ f.name_is) (ap (λ (s : SessionState). s.broken) same) (λ base. move_passes free.is_target base (f.these ++ by.these))
+          (ap (λ (s : SessionState). s.key) same ∙ f.key_is) (ap (λ (s : SessionState). s.name) same ∙ f.name_is) (ap (λ (s : SessionState). s.broken) same) free.is_target (λ base. move_passes free.is_target base (f.these ++ by.these))
           (λ base linked kept.
           let each = f.each base linked kept in
           let base' = each.1 in
           let on = carries.carries.each base' each.4 each.3 in (
             flushes (seat_on base old) each.0 ++ record { deed = Move old.name (seat_of old.key to on.next); done = false } ∷ [],
             broken_seat (seat_on base' mid),
-            not_carried k to (seat_on base old) (seat_on base' mid) f.words (f.first ∷ f.second ∷ []) each.0 on.next by.blame each.2 (seals_moved false base' each.3 on) refl
+            not_carried k to (seat_on base old) (seat_on base' mid) f.words (f.first ∷ f.second ∷ []) each.0 on.next by.blame each.2 (sealed_by false base' each.3 on) refl
                 (short_more (looked None ∷ []) (f.these ++ by.these) old.name by.blame (short_more f.these by.these old.name by.blame (subst (λ (n : Name). BlamesFlush n by.these by.blame) f.name_is by.blames))),
             refl,
             f.key_is,
@@ -370,7 +373,7 @@ module _ (key : List ℕ) (k : ℕ) (to : Name) (old : SessionState) (seated : I
           let acts = before_it ++ act ∷ [] in
           at_last acts (λ unforged. (
             Own (renamed (seat_on base' mid) to on.next),
-            accepted (move_passes free.is_target base (f.these ++ more)) (record { host = refl; random = refl }) (moved_on k to (seat_on base old) (seat_on base' mid) f.words (f.first ∷ f.second ∷ []) each.0 on.next each.2 (seals_moved true base' each.3 on) refl),
+            accepted (move_passes free.is_target base (f.these ++ more)) (record { host = refl; random = refl }) (moved_on k to (seat_on base old) (seat_on base' mid) f.words (f.first ∷ f.second ∷ []) each.0 on.next each.2 (sealed_by true base' each.3 on) refl),
             shows_moved sealed base' acts each.3 on
                 (Contains-append_right sealed (sheets_of acts) on.next (subst (λ (l : List Sheet). Contains l on.next) (sym (sheets_then before_it (act ∷ []))) (Contains-push (sheets_of before_it) on.next))) same,
           )))
@@ -395,7 +398,7 @@ module _ (key : List ℕ) (k : ℕ) (to : Name) (old : SessionState) (seated : I
         subst (λ (x : Result (Unit {0}) MoveFault). SeatGoes key false line (move_reply x) (Some old) (Some new) before after random random') (sym said)
         (as_before replies.HostFault [] [] true false
         (record { told = fails.asked.asked.told; taken = subst (λ (w : WordsState). Both random.left w.left (AreTaken [])) (sym words) (none_taken random); on_host = fails.asked.asked.faults; on_words = ap (λ (w : WordsState). w.faults) words })
-        refl refl same (λ sealed base. host_failed (record { host = refl; random = refl }) (not_looked_up k to (seat_on base old) refl) refl))
+        refl refl same (λ sealed base. host_failed (move_unasked good base) (record { host = refl; random = refl }) (not_looked_up k to (seat_on base old) refl) refl))
     move_cases result (was_there size good looks same words said) =
         subst (λ (x : Result (Unit {0}) MoveFault). SeatGoes key false line (move_reply x) (Some old) (Some new) before after random random') (sym said)
         (as_before (replies.Refused whys.TargetExists) (looked (Some size) ∷ []) [] false false
@@ -409,7 +412,7 @@ module _ (key : List ℕ) (k : ℕ) (to : Name) (old : SessionState) (seated : I
         subst (λ (x : Result (Unit {0}) MoveFault). SeatGoes key false line (move_reply x) (Some old) (Some new) before after random random') (sym said)
         (as_before replies.WordsFault (looked None ∷ []) fewer.words false true
         (record { told = free.looks.asked.asked.told; taken = fewer.told; on_host = free.looks.asked.asked.faults; on_words = fewer.once })
-        refl refl same (λ sealed base. words_failed (record { host = refl; random = refl }) (no_move k to (seat_on base old)) refl))
+        refl refl same (λ sealed base. words_failed (move_passes free.is_target base []) (record { host = refl; random = refl }) (no_move k to (seat_on base old)) refl))
     move_cases result (not_flushed start fault free fails said) =
         subst (λ (x : Result (Unit {0}) MoveFault). SeatGoes key false line (move_reply x) (Some old) (Some new) before after random random') (sym said)
         (unflushed start fault free fails (seal_ends old seated.of_script new start after random fails.between (Err fault) fails.sealed fails.keys fails.came fails.goes))

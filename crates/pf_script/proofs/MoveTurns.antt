@@ -8,11 +8,11 @@ use Rattle.pf_io.specs.Moments.{Honest, Ran, Where}
 use Rattle.pf_io.specs.Names.{IsTarget, recovery_of}
 use Rattle.pf_io.specs.Words.{WordsState}
 use Rattle.pf_io.specs.declared.faults.Memory.{Memory}
-use Rattle.pf_io.proofs.Telling.{told_none, told_on, both_same}
+use Rattle.pf_io.proofs.Telling.{told_none, told_on, both_same, both_weaker}
 use Rattle.pf_session.specs.Aside.{LeavesApart, KeepsApart, LeavesApartBoth, KeepsApartBoth, AsideBoth}
 use Rattle.pf_session.specs.Creating.{LooksUp}
 use Rattle.pf_session.specs.Faults.{move_of_flush}
-use Rattle.pf_session.specs.Reopening.{AsEither, Stood}
+use Rattle.pf_session.specs.Reopening.{AsEither, ReopensAs, Stood}
 use Rattle.pf_session.specs.Sealing.{StoodIf}
 use Rattle.pf_session.specs.Asking.{IsTaken as AreTaken}
 use Rattle.pf_session.specs.Moving.{MoveGoes, misnamed, no_memory, look_up_failed, was_there, no_words, not_flushed, not_moved, moved, IsFree, FlushFails, FlushesFirst, Moves, UndamagedMove, IsKeptOn, renamed}
@@ -26,7 +26,7 @@ use Rattle.pf_script.specs.BookSeats.{Covers, KeepsUnder}
 use Rattle.pf_script.specs.BookTurns.{SeenIn, ShowsUnder, of_book, other_file, SeatUnder, SeatAgrees, SeatBooked}
 use Rattle.pf_script.specs.Desk.{IsSeated, seat_on}
 use Rattle.pf_script.specs.DeskSteps.{CountsFault, Concerns}
-use Rattle.pf_script.specs.FileTurns.{stands_on, answers_of, seen_over}
+use Rattle.pf_script.specs.FileTurns.{stands_on, answers_of, seen_over, SeatFiles}
 use Rattle.pf_script.specs.Rules.{IsFirst, NoneRefuses, rules}
 use Rattle.pf_script.specs.Script.{OwnSeat, Seat, Own}
 use Rattle.pf_script.specs.SeatReplies.{flush_reply, move_reply}
@@ -40,12 +40,12 @@ use Rattle.pf_script.specs.declared.reply.Why.TheVariants as whys
 use Rattle.pf_script.proofs.ActKeeping.{unchanged_now, one_spares}
 use Rattle.pf_script.proofs.CallKeeping.{at_both, both_with, on_to, read_image}
 use Rattle.pf_script.proofs.Composing.{did_on}
-use Rattle.pf_script.proofs.FilesLeft.{files_after, moved_booked}
 use Rattle.pf_script.proofs.Flushed.{FlushEnds, not_begun, not_ended, was_ended, seal_ends, host_blamed, fault_of}
 use Rattle.pf_script.proofs.FlushLine.{flush_act}
-use Rattle.pf_script.proofs.MoveLine.{move_rules, not_busy, move_passes, never_lacks, blamed_reply, short_more, taken_then, CarryBlamed, carry_blamed}
-use Rattle.pf_script.proofs.MoveOver.{looked_answers, not_calm}
-use Rattle.pf_script.proofs.OverGiven.{same_over, over_idle}
+use Rattle.pf_script.proofs.MoveLine.{move_rules, not_busy, move_passes, move_unasked, never_lacks, blamed_reply, short_more, taken_then, CarryBlamed, carry_blamed}
+use Rattle.pf_script.proofs.MoveOver.{looked_answers, not_calm, first_over, moved_files, moved_shows}
+use Rattle.pf_script.proofs.OverFiles.{reopens_stands, files_from, KnownOver, own_over, still_over}
+use Rattle.pf_script.proofs.OverGiven.{same_over, same_files}
 use Rattle.pf_script.proofs.Ruling.{never}
 use Rattle.pf_script.proofs.Seats.{seats_after}
 use Rattle.pf_script.proofs.MoveCallKeeping.{move_keeps}
@@ -53,7 +53,7 @@ use Rattle.pf_script.proofs.MoveUnder.{FirstIn, first_in, FirstKnown, first_know
 use Rattle.pf_script.proofs.Refusing.{none_taken, first_then}
 use Rattle.pf_script.proofs.SeatCalls.{seen_by, false_true}
 use Rattle.pf_script.proofs.StepKeeping.{keeps_more}
-use Rattle.pf_script.proofs.Under.{KnownUnder, own_under, none_concerned, one_concerned, flush_did, left_seat}
+use Rattle.pf_script.proofs.Under.{IsAnswered, KnownUnder, blame_answered, idle_answered, own_under, own_idle, one_concerned, flush_did, left_seat}
 
 module _ (key : List ℕ) (k : ℕ) (to : Name) (old : SessionState) (seated : IsSeated key old) (whole : old.broken ≡ false) (new : SessionState) (before after : HostState) (random random' : WordsState)
     (keeps : OnDisk before after (KeepsUnder (Covers old) (Covers new) (λ name. (name ≡ to) ⊎ (name ≡ old.name)))) where
@@ -65,12 +65,12 @@ module _ (key : List ℕ) (k : ℕ) (to : Name) (old : SessionState) (seated : I
   both_concerned n (inl same) = inr (ap (λ (x : Name). Some x) (sym same), refl)
   both_concerned n (inr same) = inl same
 
-  pub on_move : (P : Honest → Honest → Type 0) (seen : Seen) (reply : Reply) → OnDisk before after P → ((a b : Honest) → before.honest ≡ Some a → after.honest ≡ Some b → P a b → KnownUnder key false line seen reply old whole (Some new) a b)
+  pub on_move : (P : Honest → Honest → Type 0) (seen : Seen) (reply : Reply) → IsAnswered reply → OnDisk before after P → ((a b : Honest) → before.honest ≡ Some a → after.honest ≡ Some b → P a b → KnownUnder key false line seen reply old whole (Some new) a b)
       → OnDisk before after (SeatUnder key false line seen reply (Some old) (Some new))
-  on_move P seen reply holds known =
+  on_move P seen reply answered holds known =
       both_with P (SeatUnder key false line seen reply (Some old) (Some new)) before.honest after.honest holds
       (λ a b is is2 p.
-      own_under key false line seen reply old whole (Some new) a b
+      own_under key false line seen reply old whole (Some new) a b answered
       (keeps_more (Covers old) (Covers new) (λ name. (name ≡ to) ⊎ (name ≡ old.name)) (Concerns false line (Some old)) a b both_concerned
       (at_both (KeepsUnder (Covers old) (Covers new) (λ name. (name ≡ to) ⊎ (name ≡ old.name))) before.honest after.honest a b is is2 keeps))
       (known a b is is2 p))
@@ -84,18 +84,13 @@ module _ (key : List ℕ) (k : ℕ) (to : Name) (old : SessionState) (seated : I
   idle reply these words of_host of_words same only told taken on_host on_words turn over = record {
     seen = seen_by these words of_host of_words;
     was_seen = record { answers = told; words = taken; of_host = on_host; of_words = on_words };
-    under = on_move Unchanged (seen_by these words of_host of_words) reply only
-        (λ a b is is2 only_ab book seats agrees base on. record {
-          acts = [];
-          left = seats;
-          after = Own (seat_on base old);
-          did = (only_ab, λ s has. has);
-          shows = subst (λ (s : SessionState). ShowsUnder book seats (Own (seat_on base old)) (Some s)) (sym same) (of_book base old whole on.seated on.kept refl refl);
-          spares = λ s has apart. has;
-          concerned = none_concerned false line (Some old);
-          turn = λ _. turn _ base;
-          over = λ _ calm. over_idle key false (Own (seat_on base old)) line words reply (Own (seat_on base old)) a b only_ab (over base a is calm);
-        });
+    under = both_weaker Unchanged (SeatUnder key false line (seen_by these words of_host of_words) reply (Some old) (Some new)) before.honest after.honest only
+        (λ a b only_ab. own_idle key false line (seen_by these words of_host of_words) reply old whole (Some new) (ap (λ (s : SessionState). Some s) same) a b only_ab (λ base. turn (stands_on key (reading a.now)) base));
+    over = both_with Unchanged (SeatFiles key false line (seen_by these words of_host of_words) reply (Some old) (Some new)) before.honest after.honest only
+        (λ a b is is2 only_ab.
+        subst (λ (s : SessionState). SeatFiles key false line (seen_by these words of_host of_words) reply (Some old) (Some s) a b) (sym same)
+        (own_over key false line (seen_by these words of_host of_words) reply old whole (Some old) a b
+        (λ calm base on. still_over key false line (seen_by these words of_host of_words) reply old old a b only_ab base whole on refl refl whole on.kept (over base a is calm))));
   }
 
   stays_so : after ≡ before → OnDisk before after Unchanged
@@ -131,12 +126,27 @@ module _ (key : List ℕ) (k : ℕ) (to : Name) (old : SessionState) (seated : I
           (record { host = refl; random = refl }) refl refl refl refl
 
   -- the turn of a line that failed
-  fault_turn : (standing : Standing) (own : OwnSeat) (these : List Answer) (words : List (List ℕ)) (blame : Blame) (acts : List Act) (left : Seat) → NoneRefuses (rules key false (Own own) line these) → Fails key (seen_by these words (host_blamed blame) false) blame (Own own) line acts left
+  fault_turn : (standing : Standing) (own : OwnSeat) (these : List Answer) (words : List (List ℕ)) (blame : Blame) (acts : List Act) (left : Seat) → NoneRefuses (rules key false (Own own) line []) → NoneRefuses (rules key false (Own own) line these) → Fails key (seen_by these words (host_blamed blame) false) blame (Own own) line acts left
       → SeatTurn standing key false (Own own) line (seen_by these words (host_blamed blame) false) (flush_reply (fault_of blame)) acts left
-  fault_turn standing own these words ByHost acts left none fails = host_failed (record { host = refl; random = refl }) fails refl
-  fault_turn standing own these words (ByDamage damage) acts left none fails = was_damaged damage none (record { host = refl; random = refl }) fails refl
+  fault_turn standing own these words ByHost acts left unasked none fails = host_failed unasked (record { host = refl; random = refl }) fails refl
+  fault_turn standing own these words (ByDamage damage) acts left unasked none fails = was_damaged damage none (record { host = refl; random = refl }) fails refl
 
   module _ (aside : AsideBoth old.name to before after) (reads : ReadsAsImage after) where
+    abbrev OnBoth : Honest → Honest → Type 0
+    OnBoth = Ran (LeavesApartBoth old.name to) (KeepsApartBoth old.name to)
+
+    -- over files: from each sheet that the file stands for
+    over_move : (seen : Seen) (reply : Reply) → ((a b : Honest) → before.honest ≡ Some a → after.honest ≡ Some b → KnownOver key false line seen reply old whole (Some new) a b) → OnDisk before after (SeatFiles key false line seen reply (Some old) (Some new))
+    over_move seen reply known = both_with OnBoth (SeatFiles key false line seen reply (Some old) (Some new)) before.honest after.honest aside (λ a b is is2 ran. own_over key false line seen reply old whole (Some new) a b (known a b is is2))
+
+    -- no node is damaged
+    over_blamed : (blame : Blame) (these : List Answer) (words : List (List ℕ)) (reply : Reply) → UndamagedMove (Err (move_of_flush (fault_of blame))) old before
+        → OnDisk before after (SeatFiles key false line (seen_by these words (host_blamed blame) false) reply (Some old) (Some new))
+    over_blamed blame these words reply undamaged =
+        over_move (seen_by these words (host_blamed blame) false) reply
+        (λ a b is is2 calm base on.
+        absurd (not_calm blame these words old before a is base on.kept (reopens_stands old.key base (reading a.now old.name) (reading a.now (recovery_of old.name)) on.reopens) undamaged calm))
+
     -- reads before the acts
     did_later : (book : Book) (seats left : List Seal) (acts : List Act) (a m b : Honest) → Unchanged a m → DidAll book seats acts left m b → DidAll book seats acts left a b
     did_later book seats left acts a m b only did = did_on book seats seats left [] acts a m b (only, λ s has. has) did
@@ -162,7 +172,7 @@ module _ (key : List ℕ) (k : ℕ) (to : Name) (old : SessionState) (seated : I
             of_host = subst (λ n. CountsFault (host_blamed blame) n after.faults) free.looks.asked.asked.faults seen.on_host;
             of_words = fails.drawn.took.calm ∙ seen.on_words;
           };
-          under = on_move (Ran (LeavesApartBoth old.name to) (KeepsApartBoth old.name to)) (seen_by given all (host_blamed blame) false) (flush_reply (fault_of blame)) aside
+          under = on_move OnBoth (seen_by given all (host_blamed blame) false) (flush_reply (fault_of blame)) (blame_answered blame) aside
               (λ a b is_a is_b ran book seats agrees base on.
               let m = on_to Unchanged before.honest start.honest a is_a free.looks.disk in
               let next = seals base on.stood.as_sheet.stands.linked on.kept.backed in
@@ -179,10 +189,11 @@ module _ (key : List ℕ) (k : ℕ) (to : Name) (old : SessionState) (seated : I
                 shows = other_file (broken_seat own) new (inl broken) (sym key_is) (sym name_is) (sym broken) refl refl;
                 spares = one_spares seats (Flush (seat_of old.key old.name next.0)) false;
                 concerned = one_concerned false line old false next.0;
-                turn = λ _. fault_turn _ own given all blame acts (Own (broken_seat own)) (move_passes key k to old seated whole free.is_target base these)
+                idle = idle_answered (flush_reply (fault_of blame)) (blame_answered blame) acts;
+                turn = λ _. fault_turn _ own given all blame acts (Own (broken_seat own)) (move_unasked key k to old seated whole free.is_target base) (move_passes key k to old seated whole free.is_target base these)
                     (not_flushed_to_move k to own words next.0 first second blame fails.is_changed next.1 refl (short_more (LengthWas to None ∷ []) these old.name blame blames));
-                over = λ _ calm. absurd (not_calm blame given all old before a is_a base on.kept on.stood (subst (λ (f : FlushFault). UndamagedMove (Err (move_of_flush f)) old before) fault_is undamaged) calm);
               });
+          over = over_blamed blame given all (flush_reply (fault_of blame)) (subst (λ (f : FlushFault). UndamagedMove (Err (move_of_flush f)) old before) fault_is undamaged);
         }))
 
     -- once the name is free, and what had to be flushed is
@@ -204,6 +215,21 @@ module _ (key : List ℕ) (k : ℕ) (to : Name) (old : SessionState) (seated : I
         of_words = f.drawn.took.calm ∙ f.on_words;
       }
 
+      -- on files that stand for the base
+      module _ (a b : Honest) (is_a : before.honest ≡ Some a) (is_b : after.honest ≡ Some b) (base : Sheet) (reopens : ReopensAs old.key base (reading a.now old.name) (reading a.now (recovery_of old.name))) where
+        looked_at : (m : Honest) × (start.honest ≡ Some m) × Unchanged a m
+        looked_at = on_to Unchanged before.honest start.honest a is_a free.looks.disk
+
+        -- the old name is there, and the new one is not
+        apart : old.name ≢ to
+        apart same =
+            let m = looked_at in
+            never old.key base (reading a.now old.name) (reading a.now (recovery_of old.name))
+            (ap (λ (o : Option File). read_of o) (ap a.now same ∙ sym (ap (λ (d : Disk). d to) m.2.ends) ∙ at_both (λ x y. y.now to ≡ None) before.honest start.honest a m.0 is_a m.1 free.absent)) reopens
+
+        absent_at : (t : Honest) → between.honest ≡ Some t → mid.name ≡ old.name → (done : Bool) → Moves done to nonce mid between after → t.now to ≡ None
+        absent_at t is_t name_is done moves = at_both (λ x y. x.now to ≡ None) between.honest after.honest t b is_t is_b (moves.absent (λ same. apart (sym name_is ∙ same)))
+
       -- under a book that knows the name
       module _ (a b : Honest) (is_a : before.honest ≡ Some a) (is_b : after.honest ≡ Some b) (book : Book) (seats : List Seal) (agrees : Agrees book seats a.now) (image : IsImage a.now (reading a.now)) (base : Sheet) (entry : Entry) (was : book old.name ≡ Some entry)
           (there : Contains seats (seat_of old.key old.name base)) (kept : IsKeptOn base old) (stood : Stood old.key old.name base a.now) where
@@ -222,14 +248,8 @@ module _ (key : List ℕ) (k : ℕ) (to : Name) (old : SessionState) (seated : I
         t : (t : Honest) × (between.honest ≡ Some t) × FirstKnown key old seated whole book seats m.0 agrees_m image_m base entry was there kept stood_m mid f.words t
         t = first_known key old seated whole book seats m.0 agrees_m image_m base entry was there kept stood_m mid f.words start between m.1 f.left
 
-        -- the old name is there, and the new one is not
-        apart : old.name ≢ to
-        apart same =
-            never old.key base (reading a.now old.name) (reading a.now (recovery_of old.name))
-            (ap (λ (o : Option File). read_of o) (ap a.now same ∙ sym (ap (λ (d : Disk). d to) m.2.ends) ∙ at_both (λ x y. y.now to ≡ None) before.honest start.honest a m.0 is_a m.1 free.absent)) stood.as_sheet
-
         absent_now : (done : Bool) → Moves done to nonce mid between after → t.0.now to ≡ None
-        absent_now done moves = at_both (λ x y. x.now to ≡ None) between.honest after.honest t.0 b t.1 is_b (moves.absent (λ same. apart (sym t.2.name_is ∙ same)))
+        absent_now done moves = absent_at a b is_a is_b base stood.as_sheet t.0 t.1 t.2.name_is done moves
 
       -- it was not moved; no node was damaged
       uncarried : (fault : FlushFault) → CarryBlamed fault mid.name between after → Moves false to nonce mid between after → new ≡ record mid { broken = true } → UndamagedMove (Err (move_of_flush fault)) old before
@@ -240,7 +260,7 @@ module _ (key : List ℕ) (k : ℕ) (to : Name) (old : SessionState) (seated : I
           (record {
             seen = seen_by (all_given by.these) all_words (host_blamed by.blame) false;
             was_seen = was_seen by.these (host_blamed by.blame) by.told by.on_host;
-            under = on_move (Ran (LeavesApartBoth old.name to) (KeepsApartBoth old.name to)) (seen_by (all_given by.these) all_words (host_blamed by.blame) false) (flush_reply (fault_of by.blame)) aside
+            under = on_move OnBoth (seen_by (all_given by.these) all_words (host_blamed by.blame) false) (flush_reply (fault_of by.blame)) (blame_answered by.blame) aside
                 (λ a b is_a is_b ran book seats agrees base on.
                 let own = seat_on base old in
                 let m = m a b is_a is_b book seats agrees on.image base on.entry on.was on.seated on.kept on.stood in
@@ -263,13 +283,14 @@ module _ (key : List ℕ) (k : ℕ) (to : Name) (old : SessionState) (seated : I
                   spares = spares_move key old seated whole book seats m.0 agrees_m image_m base on.entry on.was on.seated on.kept stood_m to free.is_target false mid new f.words t.0 b t.2 nonce between after t.1 is_b absent moves.carries well;
                   concerned = λ n among.
                       both_concerned n (only_move key old seated whole book seats m.0 agrees_m image_m base on.entry on.was on.seated on.kept stood_m to free.is_target false mid new f.words t.0 b t.2 nonce between after t.1 is_b absent moves.carries well n among);
-                  turn = λ _. fault_turn _ own (all_given by.these) all_words by.blame acts (Own (broken_seat (seat_on t.2.base_now mid))) (move_passes key k to old seated whole free.is_target base (f.these ++ by.these))
+                  idle = idle_answered (flush_reply (fault_of by.blame)) (blame_answered by.blame) acts;
+                  turn = λ _. fault_turn _ own (all_given by.these) all_words by.blame acts (Own (broken_seat (seat_on t.2.base_now mid))) (move_unasked key k to old seated whole free.is_target base) (move_passes key k to old seated whole free.is_target base (f.these ++ by.these))
                       (not_moved_line k to own (seat_on t.2.base_now mid) f.words (f.drawn.first ∷ f.drawn.second ∷ []) t.2.sheets next.next by.blame t.2.first
-                      (seals_moved key old seated whole book seats m.0 agrees_m image_m base on.entry on.was on.seated on.kept stood_m to free.is_target false mid new f.words t.0 b t.2 nonce between after t.1 is_b absent moves.carries well
+                      (seals_moved false to nonce t.2.base_now mid between after t.2.rests next
                       f.drawn.first f.drawn.second f.drawn.is) refl
                       (short_more (LengthWas to None ∷ []) (f.these ++ by.these) old.name by.blame (short_more f.these by.these old.name by.blame (subst (λ (n : Name). BlamesFlush n by.these by.blame) t.2.name_is by.blames))));
-                  over = λ _ calm. absurd (not_calm by.blame (all_given by.these) all_words old before a is_a base on.kept on.stood (subst (λ (f : FlushFault). UndamagedMove (Err (move_of_flush f)) old before) by.fault_is undamaged) calm);
                 });
+            over = over_blamed by.blame (all_given by.these) all_words (flush_reply (fault_of by.blame)) (subst (λ (f : FlushFault). UndamagedMove (Err (move_of_flush f)) old before) by.fault_is undamaged);
           }))
 
       -- it was moved
@@ -278,7 +299,7 @@ module _ (key : List ℕ) (k : ℕ) (to : Name) (old : SessionState) (seated : I
       carried more told calm moves same = record {
         seen = seen_by (all_given more) all_words false false;
         was_seen = was_seen more false told calm;
-        under = on_move (Ran (LeavesApartBoth old.name to) (KeepsApartBoth old.name to)) (seen_by (all_given more) all_words false false) replies.Moved aside
+        under = on_move OnBoth (seen_by (all_given more) all_words false false) replies.Moved tt aside
             (λ a b is_a is_b ran book seats agrees base on.
             let own = seat_on base old in
             let m = m a b is_a is_b book seats agrees on.image base on.entry on.was on.seated on.kept on.stood in
@@ -295,29 +316,45 @@ module _ (key : List ℕ) (k : ℕ) (to : Name) (old : SessionState) (seated : I
             let then = Own (renamed_own (seat_on t.2.base_now mid) to next.next) in
             let did : DidAll book seats acts left a b =
             did_later book seats left acts a m.0 b m.2
-            (did_move key old seated whole book seats m.0 agrees_m image_m base on.entry on.was on.seated on.kept stood_m to free.is_target true mid new f.words t.0 b t.2 nonce between after t.1 is_b absent moves.carries well) in
-            let turn : (rest : List Answer) → SeatTurn (stands_on key (reading a.now)) key false (Own own) line (seen_by (LengthWas to None ∷ rest) all_words false false) replies.Moved acts then =
-            λ rest.
-            accepted (move_passes key k to old seated whole free.is_target base rest) (record { host = refl; random = refl })
-            (moved_line k to own (seat_on t.2.base_now mid) f.words (f.drawn.first ∷ f.drawn.second ∷ []) t.2.sheets next.next t.2.first
-            (seals_moved key old seated whole book seats m.0 agrees_m image_m base on.entry on.was on.seated on.kept stood_m to free.is_target true mid new f.words t.0 b t.2 nonce between after t.1 is_b absent moves.carries well
-            f.drawn.first f.drawn.second f.drawn.is) refl) in record {
+            (did_move key old seated whole book seats m.0 agrees_m image_m base on.entry on.was on.seated on.kept stood_m to free.is_target true mid new f.words t.0 b t.2 nonce between after t.1 is_b absent moves.carries well) in record {
               acts = acts;
               left = left;
               after = then;
               did = did;
               shows = of_book next.next new (ap (λ (s : SessionState). s.broken) same ∙ t.2.whole_mid)
                   (left_seat deed t.2.left new (ap (λ (s : SessionState). s.key) same ∙ t.2.key_is) (ap (λ (s : SessionState). s.name) same))
-                  (moved_kept key old seated whole book seats m.0 agrees_m image_m base on.entry on.was on.seated on.kept stood_m to free.is_target true mid new f.words t.0 b t.2 nonce between after t.1 is_b absent moves.carries well same)
-                  (ap Own (renamed_seat key old seated whole book seats m.0 agrees_m image_m base on.entry on.was on.seated on.kept stood_m to free.is_target true mid new f.words t.0 b t.2 nonce between after t.1 is_b absent moves.carries well same)) refl;
+                  (moved_kept true to nonce t.2.base_now mid between after t.2.rests next new same)
+                  (ap Own (renamed_seat true to nonce t.2.base_now mid between after t.2.rests next new same)) refl;
               spares = spares_move key old seated whole book seats m.0 agrees_m image_m base on.entry on.was on.seated on.kept stood_m to free.is_target true mid new f.words t.0 b t.2 nonce between after t.1 is_b absent moves.carries well;
               concerned = λ n among.
                   both_concerned n (only_move key old seated whole book seats m.0 agrees_m image_m base on.entry on.was on.seated on.kept stood_m to free.is_target true mid new f.words t.0 b t.2 nonce between after t.1 is_b absent moves.carries well n among);
-              turn = λ _. turn (f.these ++ more);
-              over = λ _ _. record {
-                turn = same_over key (reading a.now) false (Own own) line (LengthWas to None ∷ []) all_words replies.Moved acts then (looked_answers k to None before start a is_a free.looks) (turn []);
-                files = files_after book seats left acts a b agrees on.image did (moved_booked own t.2.sheets (seat_of old.key to next.next) book (ap (λ (o : Option Entry). is_some o) on.was));
+              idle = tt;
+              turn = λ _.
+                  accepted (move_passes key k to old seated whole free.is_target base (f.these ++ more)) (record { host = refl; random = refl })
+                  (moved_line k to own (seat_on t.2.base_now mid) f.words (f.drawn.first ∷ f.drawn.second ∷ []) t.2.sheets next.next t.2.first
+                  (seals_moved true to nonce t.2.base_now mid between after t.2.rests next f.drawn.first f.drawn.second f.drawn.is) refl);
+            });
+        over = over_move (seen_by (all_given more) all_words false false) replies.Moved
+            (λ a b is_a is_b calm_seen base on.
+            let own = seat_on base old in
+            let m = looked_at a b is_a is_b base on.reopens in
+            let reopens_m = subst (λ (d : Disk). ReopensAs old.key base (reading d old.name) (reading d (recovery_of old.name))) (sym m.2.ends) on.reopens in
+            let t = first_over key old seated whole base on.kept mid f.words start between m.0 m.1 reopens_m f.left in
+            let absent = absent_at a b is_a is_b base on.reopens t.0 t.1 t.2.name_is true moves in
+            let next = moves.carries.each t.2.base_now t.2.reopens.stands.linked t.2.rests in
+            let acts : List Act = flushes own t.2.sheets ++ record { deed = Move old.name (seat_of old.key to next.next); done = true } ∷ [] in
+            let then = Own (renamed_own (seat_on t.2.base_now mid) to next.next) in record {
+              acts = acts;
+              after = then;
+              over = record {
+                turn = same_over key (reading a.now) false (Own own) line (LengthWas to None ∷ []) all_words replies.Moved acts then (looked_answers k to None before start a is_a free.looks)
+                    (accepted (move_passes key k to old seated whole free.is_target base []) (record { host = refl; random = refl })
+                    (moved_line k to own (seat_on t.2.base_now mid) f.words (f.drawn.first ∷ f.drawn.second ∷ []) t.2.sheets next.next t.2.first
+                    (seals_moved true to nonce t.2.base_now mid between after t.2.rests next f.drawn.first f.drawn.second f.drawn.is) refl));
+                files = files_from acts (reading a.now) (reading m.0.now) (reading b.now) (same_files a m.0 m.2)
+                    (moved_files key old seated whole base on.kept to mid new f.words m.0 t.0 b t.2 nonce between after t.1 is_b absent moves.carries same);
               };
+              shows = moved_shows key old seated whole base on.kept to mid new f.words m.0 t.0 b t.2 nonce between after t.1 is_b absent moves.carries same;
             });
       }
 
@@ -327,12 +364,12 @@ module _ (key : List ℕ) (k : ℕ) (to : Name) (old : SessionState) (seated : I
     by_case result undamaged (look_up_failed good fails same words said) =
         subst (λ (r : Result (Unit {0}) MoveFault). SeatBooked key false line (move_reply r) (Some old) (Some new) before after random random') (sym said)
         (idle replies.HostFault [] [] true false same fails.disk fails.asked.asked.told (none_taken_now words) fails.asked.asked.faults (ap (λ (w : WordsState). w.faults) words)
-        (λ standing base. host_failed (record { host = refl; random = refl }) (not_looked_up k to (seat_on base old) refl) refl) (λ base a is calm. absurd (false_true true refl calm.host)))
+        (λ standing base. host_failed (move_unasked key k to old seated whole good base) (record { host = refl; random = refl }) (not_looked_up k to (seat_on base old) refl) refl) (λ base a is calm. absurd (false_true true refl calm.host)))
     by_case result undamaged (was_there size good looks same words said) = subst (λ (r : Result (Unit {0}) MoveFault). SeatBooked key false line (move_reply r) (Some old) (Some new) before after random random') (sym said) (looks_under size good looks same words)
     by_case result undamaged (no_words free fewer same said) =
         subst (λ (r : Result (Unit {0}) MoveFault). SeatBooked key false line (move_reply r) (Some old) (Some new) before after random random') (sym said)
         (idle replies.WordsFault (LengthWas to None ∷ []) fewer.words false true same free.looks.disk free.looks.asked.asked.told fewer.told free.looks.asked.asked.faults fewer.once
-        (λ standing base. words_failed (record { host = refl; random = refl }) (no_move k to (seat_on base old)) refl) (λ base a is calm. absurd (false_true true refl calm.random)))
+        (λ standing base. words_failed (move_passes key k to old seated whole free.is_target base []) (record { host = refl; random = refl }) (no_move k to (seat_on base old)) refl) (λ base a is calm. absurd (false_true true refl calm.random)))
     by_case result undamaged (not_flushed start fault free fails said) =
         subst (λ (r : Result (Unit {0}) MoveFault). SeatBooked key false line (move_reply r) (Some old) (Some new) before after random random') (sym said)
         (unflushed start fault free fails (seal_ends old seated.of_script new start after random fails.between (Err fault) fails.sealed fails.keys fails.came fails.goes) (subst (λ (r : Result (Unit {0}) MoveFault). UndamagedMove r old before) said undamaged))

@@ -16,7 +16,7 @@ use Rattle.pf_session.specs.Backing.{StandsOn, RestsOn}
 use Rattle.pf_session.specs.Drawing.{IsDrawn}
 use Rattle.pf_session.specs.Moving.{MovesOn as MovesAs, FlushesFirst, as_it_is, flushed, Carries, IsKeptOn, renamed, MovedAs, MovedIf}
 use Rattle.pf_session.specs.Reopening.{AsEither, Stood}
-use Rattle.pf_session.specs.Sealing.{StoodIf, Replaces}
+use Rattle.pf_session.specs.Sealing.{StoodIf, Replaces, StandsNext}
 use Rattle.pf_session.specs.State.{SessionState}
 use Rattle.pf_script.specs.Book.{Book, Entry, Seal, Agrees}
 use Rattle.pf_script.specs.BookActs.{Flush, Move, Act, Among, booked_all, flushed as flushed_book, sealed_entry}
@@ -38,11 +38,32 @@ use Rattle.pf_script.proofs.SeatCalls.{own_same}
 use Rattle.pf_script.proofs.Seats.{seats_after, seat_is_left, among_on, among_back}
 use Rattle.pf_script.proofs.Under.{flush_did}
 
+-- a move on a sheet on which the session rests
+module _ (done : Bool) (to : Name) (nonce : List ℕ) (base : Sheet) (mid : SessionState) (between after : HostState) (rests : RestsOn base mid) (on : MovesAs done to nonce base mid between after) where
+  pub seals_moved : (first second : List ℕ) → nonce ≡ first ++ second → SealsMoved (seat_on base mid) to (first ∷ second ∷ []) on.next
+  seals_moved first second drawn = record {
+    first = first;
+    second = second;
+    words_are = refl;
+    next = subst (λ (n : List ℕ). IsNextSheet base to n (now base mid.tree) [] [] on.next) drawn
+        (subst (λ (d : List ℕ). IsNextSheet base to nonce (now base mid.tree) d [] on.next) rests.clean (next_of base mid.tree to nonce [] on.next on.is_next));
+  }
+
+  -- the session under its new name
+  pub renamed_seat : (new : SessionState) → new ≡ renamed to nonce mid → renamed_own (seat_on base mid) to on.next ≡ seat_on on.next new
+  renamed_seat new same =
+      subst (λ (s : SessionState). renamed_own (seat_on base mid) to on.next ≡ seat_on on.next s) (sym same)
+      (own_same on.next mid.key mid.key to to (now base mid.tree) (now on.next mid.tree) mid.tree.dirty mid.tree.dirty mid.changed mid.changed mid.drawn mid.drawn mid.broken mid.broken refl refl
+      (rests.stands.now_is ∙ sym on.same_content ∙ sym on.on_next.stands.now_is) refl refl refl refl)
+
+  pub moved_kept : (new : SessionState) → new ≡ renamed to nonce mid → IsKeptOn on.next new
+  moved_kept new same = subst (λ (s : SessionState). IsKeptOn on.next s) (sym same) (record { backed = on.on_next.stands.backed; rests = λ _. on.on_next })
+
 module _ (key : List ℕ) (old : SessionState) (seated : IsSeated key old) (whole : old.broken ≡ false) where
   -- what comes before the move itself
   pub data FirstLeft (mid : SessionState) (start between : HostState) (words : List (List ℕ)) : Type 0 where
     no_flush : old.changed ≡ false → mid ≡ old → between ≡ start → words ≡ [] → FirstLeft mid start between words
-    one_flush : old.changed ≡ true → SealsWith old words (λ base next. StandsOn next mid × Replaces true old.key old.name base next start between) → {nonce : List ℕ} {tree : TreeState}
+    one_flush : old.changed ≡ true → SealsWith old words (λ base next. StandsOn next mid × Replaces true old.key old.name base next start between × StandsNext old.key old.name base next start between) → {nonce : List ℕ} {tree : TreeState}
         → mid ≡ record old { nonce = nonce; drawn = None; tree = tree; changed = false } → mid.tree.dirty ≡ [] → Aside old.name start between → ReadsAsImage between → FirstLeft mid start between words
 
   pub record FirstIn (mid : SessionState) (nonce : List ℕ) (start between : HostState) (random random' : WordsState) : Type 0 where
@@ -82,7 +103,7 @@ module _ (key : List ℕ) (old : SessionState) (seated : IsSeated key old) (whol
         taken = seen.taken;
         on_host = seen.on_host;
         on_words = seen.on_words;
-        left = one_flush changed (λ base linked backed. let on = seals base linked backed in (on.0, on.1, (on.2.0, on.2.1))) same dirty aside reads;
+        left = one_flush changed (λ base linked backed. let on = seals base linked backed in (on.0, on.1, (on.2.0, on.2.1, on.2.2))) same dirty aside reads;
       }
 
   -- on a base that the file stands for
@@ -217,22 +238,3 @@ module _ (key : List ℕ) (old : SessionState) (seated : IsSeated key old) (whol
           by_case (inl is) = inr (known.only n is)
           by_case (inr (inl is)) = is
           by_case (inr (inr none)) = absurd none
-
-      pub seals_moved : (first second : List ℕ) → nonce ≡ first ++ second → SealsMoved (seat_on known.base_now mid) to (first ∷ second ∷ []) on.next
-      seals_moved first second drawn = record {
-        first = first;
-        second = second;
-        words_are = refl;
-        next = subst (λ (n : List ℕ). IsNextSheet known.base_now to n (now known.base_now mid.tree) [] [] on.next) drawn
-            (subst (λ (d : List ℕ). IsNextSheet known.base_now to nonce (now known.base_now mid.tree) d [] on.next) known.rests.clean (next_of known.base_now mid.tree to nonce [] on.next on.is_next));
-      }
-
-      -- the session under its new name
-      pub renamed_seat : new ≡ renamed to nonce mid → renamed_own (seat_on known.base_now mid) to on.next ≡ seat_on on.next new
-      renamed_seat same =
-          subst (λ (s : SessionState). renamed_own (seat_on known.base_now mid) to on.next ≡ seat_on on.next s) (sym same)
-          (own_same on.next mid.key mid.key to to (now known.base_now mid.tree) (now on.next mid.tree) mid.tree.dirty mid.tree.dirty mid.changed mid.changed mid.drawn mid.drawn mid.broken mid.broken refl refl
-          (known.rests.stands.now_is ∙ sym on.same_content ∙ sym on.on_next.stands.now_is) refl refl refl refl)
-
-      pub moved_kept : new ≡ renamed to nonce mid → IsKeptOn on.next new
-      moved_kept same = subst (λ (s : SessionState). IsKeptOn on.next s) (sym same) (record { backed = on.on_next.stands.backed; rests = λ _. on.on_next })
