@@ -1,8 +1,7 @@
 -- What the calls of a session keep of a book, from their contracts.
 use Rattle.std.proofs.Common.{◌≡◌, inl, Bool, true, false, List, [], ℕ, refl, sym, ◌∙◌, ap, subst, Option, Some, None, Result, Ok, Err}
-use Rattle.std.specs.Prelude.{IfSome, cond, option_map}
+use Rattle.std.specs.Prelude.{IfSome, option_map}
 use Rattle.pf_io.specs.Disk.{Name, Disk, Image, IsImage, reading}
-use Rattle.pf_io.specs.Names.{side_of}
 use Rattle.pf_io.specs.Moments.{Honest, Ran, Where}
 use Rattle.pf_io.specs.Host.{HostState, Both, OnDisk, ReadsAsImage, contents}
 use Rattle.pf_io.specs.Words.{WordsState}
@@ -24,6 +23,7 @@ use Rattle.pf_session.specs.declared.fault.FlushFault.{FlushFault}
 use Rattle.pf_script.specs.BookDebts.{Unchanged}
 use Rattle.pf_script.specs.BookSeats.{IsOfScript, Covers, CoversNone, KeepsUnder}
 use Rattle.pf_script.proofs.During.{leaves_then}
+use Rattle.pf_script.proofs.OfScript.{file_named}
 use Rattle.pf_script.proofs.ActKeeping.{unchanged_now, Idles, idle_keeps, lets_go, SealsOn, SealsOnce, seal_keeps, letting_go}
 
 pub both_with : {A : Type 0} (P Q : A → A → Type 0) (o p : Option A) → Both o p P → ((a b : A) → o ≡ Some a → p ≡ Some b → P a b → Q a b) → Both o p Q
@@ -63,13 +63,10 @@ reads_after P Q a m b ran only = record {
 }
 
 module _ (old : SessionState) (mine : IsOfScript old) where
-  file_is : file_of old ≡ old.name
-  file_is = ap (λ b. cond b (side_of old.name) old.name) mine.named
-
   -- a file that stands for a sheet, as it reads
   pub stands_there : (a : Honest) (base : Sheet) → Stood old.key old.name base a.now → Stands (contents (reading a.now (file_of old))) old.key base
   stands_there a base stood =
-      subst (λ (n : Name). Stands (contents (reading a.now n)) old.key base) (sym file_is)
+      subst (λ (n : Name). Stands (contents (reading a.now n)) old.key base) (sym (file_named old mine))
       (subst (λ (o : Option (List ℕ)). Stands (contents o) old.key base) (sym stood.as_sheet.whole) stood.as_sheet.stands)
 
   -- a step on the tree of a session whose file stands for the sheet on which it stands

@@ -1,5 +1,5 @@
 -- One step on the tree of a session, as a seat of a script sees it.
-use Rattle.std.proofs.Common.{◌≡◌, ◌⊎◌, inl, inr, ◌↔◌, Bool, true, false, List, ◌++◌, ℕ, ◌*◌, ◌<◌, sym, ◌∙◌, ap, subst, Option, Some, None, Result, Ok, Err, length, cond}
+use Rattle.std.proofs.Common.{◌≡◌, ◌⊎◌, inl, inr, ◌↔◌, Bool, true, false, List, ◌++◌, ℕ, ◌*◌, ◌<◌, sym, ◌∙◌, ap, subst, Option, Some, None, Result, Ok, Err, length}
 use Rattle.std.specs.Prelude.{Contains}
 use Rattle.std.proofs.lemmas.List.Elements.{Contains-append_left, Contains-append_right}
 use Rattle.node_layout.specs.Places.{node_count}
@@ -19,7 +19,6 @@ use Rattle.pf_io.specs.Answered.{Came}
 use Rattle.pf_io.specs.Counts.{HasCause}
 use Rattle.pf_io.specs.Disk.{Name}
 use Rattle.pf_io.specs.Host.{Answer, Gave, HostState, Both, IsMore, since, WhereTold}
-use Rattle.pf_io.specs.Names.{side_of}
 use Rattle.pf_io.proofs.Telling.{told_by}
 use Rattle.pf_session.specs.Backing.{IsBacked}
 use Rattle.pf_session.specs.Changing.{IsFlushedFirst, IsRoomy, StepGoes, StepState}
@@ -30,6 +29,7 @@ use Rattle.pf_script.specs.DeskSteps.{CountsFault}
 use Rattle.pf_script.specs.SeatSteps.{FlushesFirst, Fits, IsStepped}
 use Rattle.pf_script.specs.Turns.{ByDamage, BlamesFetch}
 use Rattle.pf_script.proofs.Flushed.{length_now}
+use Rattle.pf_script.proofs.OfScript.{file_named}
 use Rattle.pf_script.proofs.SeatCalls.{own_with}
 
 pub both_also : {A : Type 0} (P Q : A → A → Type 0) (o p : Option A) → Both o p P → Both o p Q → Both o p (λ a b. P a b × Q a b)
@@ -85,11 +85,8 @@ given_part sheet name these those rest given = record {
 }
 
 module _ (old : SessionState) (mine : IsOfScript old) (new : SessionState) (one : Result (Unit {0}) TreeFault) (step : Step) (before after : HostState) (goes : StepGoes one step old new before after) where
-  file_is : file_of old ≡ old.name
-  file_is = ap (λ b. cond b (side_of old.name) old.name) mine.named
-
   of_file : (base : Sheet) (these : List Answer) → GivenOf base (Given old.name these) → GivenOf base (Given (file_of old) these)
-  of_file base these given = subst (λ (n : Name). GivenOf base (Given n these)) (sym file_is) given
+  of_file base these given = subst (λ (n : Name). GivenOf base (Given n these)) (sym (file_named old mine)) given
 
   -- the dirty nodes, by the content before the step
   dirty_after : (base : Sheet) (mid : TreeState) → KeepsFields old.tree mid → Stepped step mid new.tree → (k : ℕ)
@@ -132,9 +129,9 @@ module _ (old : SessionState) (mine : IsOfScript old) (new : SessionState) (one 
   blames damage base these breaks foreign = by_fails breaks.fails
     where
       by_fails : Fails (Held old.tree) (Given (file_of old) these) (root_in old.tree) damage.node damage.kind → BlamesFetch base old.name these (ByDamage damage)
-      by_fails (is_short block free gave short kind) = inl (record { block = block; gave = subst (λ (n : Name). Given n these damage.node block) file_is gave; short = short; kind_is = kind })
-      by_fails (root_fails block free first gave fails kind) = inr (record { foreign = subst (λ (n : Name). IsForeign base (Given n these) damage.node) file_is foreign; kind_is = kind })
-      by_fails (child_fails parent block free low opened gave fails kind) = inr (record { foreign = subst (λ (n : Name). IsForeign base (Given n these) damage.node) file_is foreign; kind_is = kind })
+      by_fails (is_short block free gave short kind) = inl (record { block = block; gave = subst (λ (n : Name). Given n these damage.node block) (file_named old mine) gave; short = short; kind_is = kind })
+      by_fails (root_fails block free first gave fails kind) = inr (record { foreign = subst (λ (n : Name). IsForeign base (Given n these) damage.node) (file_named old mine) foreign; kind_is = kind })
+      by_fails (child_fails parent block free low opened gave fails kind) = inr (record { foreign = subst (λ (n : Name). IsForeign base (Given n these) damage.node) (file_named old mine) foreign; kind_is = kind })
 
   damaged : (damage : Damage) → one ≡ Err (trees.Damaged damage) → WhereTold before after (StepFacts (Err (trees.Damaged damage)) step old new)
   damaged damage is =
