@@ -40,7 +40,7 @@ module _ (key : List ℕ) (sealed : List Sheet) (own : OwnSeat) (line : ScriptLi
     pub broke : (blame : Blame) → outcome ≡ Broke blame → (acts : List Act) → LineEnds key sealed own line given (words ++ more) (host_blamed blame) false (flush_reply (fault_of blame)) new acts → P acts
     pub lack : outcome ≡ Lacked → (acts : List Act) → LineEnds key sealed own line given (words ++ more) false true replies.WordsFault new acts → P acts
     pub memory : ¬ (outcome ≡ Wanted)
-    pub passes : NoneRefuses (rules key false (Own own) line given)
+    pub passes : (these : List Answer) → NoneRefuses (rules key false (Own own) line these)
 
   split_at : (front middle : List Answer) → these ≡ front ++ middle → given ≡ before_it ++ front ++ middle ++ rest
   split_at front middle is = split ∙ ap (λ (l : List Answer). before_it ++ l ++ rest) is ∙ ap (λ (l : List Answer). l ++ rest) (sym (append_assoc before_it front middle))
@@ -148,6 +148,6 @@ module _ (key : List ℕ) (sealed : List Sheet) (own : OwnSeat) (line : ScriptLi
   change_ends _ go (told_lacked first same) =
       in_the_end (flushes own sheets)
       (λ unforged. go.lack refl (flushes own sheets)
-      (no_word key sealed own line given old made words sheets base was step steps asks new (ap (λ (s : SessionState). s.key) same) (ap (λ (s : SessionState). s.name) same) more (flushes_first base old step first) same))
+      (no_word key sealed own line given old made words sheets base was step steps asks new (ap (λ (s : SessionState). s.key) same) (ap (λ (s : SessionState). s.name) same) go.passes more (flushes_first base old step first) same))
   change_ends _ go (told_unflushed blame first blames seals key_is name_is broken) = unflushed blame go first blames seals key_is name_is broken
   change_ends _ go (told_after mid one front those parts first seals same dirty facts state) = after first mid front those parts seals same dirty one go facts state

@@ -10,7 +10,7 @@ use Rattle.pf_session.specs.Asking.{IsTaken as AreTaken}
 use Rattle.pf_session.specs.Backing.{StandsOn}
 use Rattle.pf_session.specs.Changing.{IsFlushedFirst, IsRoomy, StepGoes}
 use Rattle.pf_session.specs.Flushing.{UndamagedFlush}
-use Rattle.pf_session.specs.Sealing.{Replaces}
+use Rattle.pf_session.specs.Sealing.{Replaces, StandsNext}
 use Rattle.pf_session.specs.State.{SessionState}
 use Rattle.pf_session.specs.declared.fault.FlushFault.{FlushFault}
 use Rattle.pf_session.specs.declared.fault.FlushFault.TheVariants as faults
@@ -27,7 +27,7 @@ pub data ChangeLeft (step : Step) (old new : SessionState) (before after : HostS
   left_lacked : IsFlushedFirst step old.tree → new ≡ old → after ≡ before → ChangeLeft step old new before after words Lacked
   left_unflushed : (blame : Blame) → IsFlushedFirst step old.tree → UndamagedFlush (Err (fault_of blame)) old before → SealsWith old words (λ base next. Replaces false old.key old.name base next before after)
       → new.key ≡ old.key → new.name ≡ old.name → new.broken ≡ true → ChangeLeft step old new before after words (Broke blame)
-  left_after : (mid : SessionState) (between : HostState) (one : Result (Unit {0}) TreeFault) → IsOfScript mid → IsFlushedFirst step old.tree → SealsWith old words (λ base next. StandsOn next mid × Replaces true old.key old.name base next before between)
+  left_after : (mid : SessionState) (between : HostState) (one : Result (Unit {0}) TreeFault) → IsOfScript mid → IsFlushedFirst step old.tree → SealsWith old words (λ base next. StandsOn next mid × Replaces true old.key old.name base next before between × StandsNext old.key old.name base next before between)
       → {nonce : List ℕ} {tree : TreeState} → mid ≡ record old { nonce = nonce; drawn = None; tree = tree; changed = false } → mid.tree.dirty ≡ [] → StepGoes one step mid new between after → ChangeLeft step old new before after words (outcome_of true one)
 
 -- what is seen of it

@@ -124,11 +124,11 @@ module _ (key : List ℕ) (line : ScriptLine) (old new : SessionState) (whole : 
           went = λ f is sheets' base' grew made.
               in_the_end (flushes own sheets')
               (λ unforged. all_made key sealed own line given new (step ∷ []) words sheets' base' made (asks (length own.content)) (replied flushed)
-              (replies_to flushed sheets' (subst (λ (b : Bool). Grew b [] sheets') (sym (same_flag flushed f is)) grew)) (passes base given));
+              (replies_to flushed sheets' (subst (λ (b : Bool). Grew b [] sheets') (sym (same_flag flushed f is)) grew)) (passes base));
           broke = λ blame is acts ends. absurd (cc);
           lack = λ is acts ends. absurd (cc);
           memory = λ is. absurd (cc);
-          passes = passes base given;
+          passes = passes base;
         }) told
       where
         same_flag : (f g : Bool) → Went f ≡ Went g → f ≡ g
@@ -145,7 +145,7 @@ module _ (key : List ℕ) (line : ScriptLine) (old new : SessionState) (whole : 
               subst (λ (b : Blame). LineEnds key sealed own line given words (host_blamed b) false (flush_reply (fault_of b)) new acts) (sym (same_blame blame other is)) ends;
           lack = λ is acts ends. absurd (cc);
           memory = λ is. absurd (cc);
-          passes = passes base given;
+          passes = passes base;
         }) told
       where
         same_blame : (b other : Blame) → Broke b ≡ Broke other → b ≡ other
@@ -161,7 +161,7 @@ module _ (key : List ℕ) (line : ScriptLine) (old new : SessionState) (whole : 
           broke = λ blame is acts ends. absurd (cc);
           lack = λ is acts ends. ends;
           memory = λ is. absurd (cc);
-          passes = passes base given;
+          passes = passes base;
         }) told
 
   module _ (before after : HostState) (random random' : WordsState) (aside : Aside old.name before after) (books : OnDisk before after (KeepsUnder (Covers old) (Covers new) (λ name. name ≡ old.name))) (seated : IsSeated key new) (name_is : new.name ≡ old.name)

@@ -18,7 +18,7 @@ use Rattle.pf_session.specs.Backing.{IsBacked, StandsOn}
 use Rattle.pf_session.specs.Changing.{IsFlushedFirst, IsRoomy, StepGoes}
 use Rattle.pf_session.specs.Flushing.{UndamagedFlush, IsUndamaged}
 use Rattle.pf_session.specs.Reopening.{AsEither, Stood}
-use Rattle.pf_session.specs.Sealing.{StoodIf, Replaces}
+use Rattle.pf_session.specs.Sealing.{StoodIf, Replaces, StandsNext}
 use Rattle.pf_session.specs.State.{SessionState, file_of}
 use Rattle.pf_session.specs.declared.fault.FlushFault.{FlushFault}
 use Rattle.pf_script.specs.Book.{Book, Entry, Seal, Agrees}
@@ -27,6 +27,7 @@ use Rattle.pf_script.specs.BookDebts.{Unchanged, DidAll, seat_of}
 use Rattle.pf_script.specs.BookSeats.{IsOfScript, SparesSeats}
 use Rattle.pf_script.specs.BookTurns.{ShowsUnder, of_book, other_file}
 use Rattle.pf_script.specs.Desk.{seat_on}
+use Rattle.pf_script.specs.Rules.{NoneRefuses, rules}
 use Rattle.pf_script.specs.Script.{OwnSeat, Seat, Own}
 use Rattle.pf_script.specs.SeatReplies.{flush_reply}
 use Rattle.pf_script.specs.SeatSteps.{AsksFor, MadeSome, Seals, broken_seat, resealed}
@@ -86,9 +87,9 @@ module _ (key : List ℕ) (own : OwnSeat) (line : ScriptLine) (book : Book) (sea
     pub only : OnlyOf own.name acts
     pub shows : ShowsUnder (booked_all acts book) left after (Some new)
     pub turn : (given : List Answer) → SeatTurn standing key false (Own own) line (seen_by given words of_host of_words) reply acts after
-    pub failed : of_host ≡ false → of_words ≡ false → ⊥
 
   module _ (m b : Honest) (old new : SessionState) (made : List Step) (words more : List (List ℕ)) (sheets : List Sheet) (base : Sheet) (step : Step) (steps : List Step) (asks : AsksFor line (length own.content) (made ++ step ∷ steps))
+      (passes : (these : List Answer) → NoneRefuses (rules key false (Own own) line these))
       (mine : IsOfScript old) (progress : Progress m old made words sheets base) (before after : HostState) (is_m : before.honest ≡ Some m) (is_b : after.honest ≡ Some b)
       (others : Ran (LeavesApart old.name) (KeepsApart old.name) m b) (well : IsImage b.now (reading b.now)) where
     -- the line goes on
@@ -200,10 +201,9 @@ module _ (key : List ℕ) (own : OwnSeat) (line : ScriptLine) (book : Book) (sea
             spares = progress.spares;
             only = progress.only;
             shows = broken_under (flushes own sheets) progress.left (seat_on base old) (sym (ap (λ (s : SessionState). s.key) goes.state)) (sym (ap (λ (s : SessionState). s.name) goes.state)) (ap (λ (s : SessionState). s.broken) goes.state);
-            failed = λ calm _. absurd (cc);
             turn = λ given.
                 subst (λ (w : List (List ℕ)). SeatTurn standing key false (Own own) line (seen_by given w true false) replies.HostFault (flushes own sheets) (Own (broken_seat (seat_on base old)))) (sym words_are)
-                (host_failed (record { host = refl; random = refl }) (not_fetched own (seat_on base old) line step sheets ByHost some (fits_at base old step roomy) tt) refl);
+                (host_failed (passes []) (record { host = refl; random = refl }) (not_fetched own (seat_on base old) line step sheets ByHost some (fits_at base old step roomy) tt) refl);
           }
       once (Err trees.Memory) goes stands only = tt
 
@@ -227,8 +227,7 @@ module _ (key : List ℕ) (own : OwnSeat) (line : ScriptLine) (book : Book) (sea
           shows = subst (λ (s : SessionState). ShowsUnder mid_book progress.left (Own (seat_on base old)) (Some s)) (sym same)
               (of_book base old was.whole
               (subst (λ (k : List ℕ). Contains progress.left (seat_of k old.name base)) (sym was.key_is) (subst (λ (n : Name). Contains progress.left (seat_of own.key n base)) (sym was.name_is) progress.seated)) was.kept refl refl);
-          failed = λ _ calm. absurd (cc);
-          turn = λ given. words_failed (record { host = refl; random = refl }) (no_flush_before own (seat_on base old) line step words more sheets some (flushes_first base old step is_first) refl) refl;
+          turn = λ given. words_failed (passes given) (record { host = refl; random = refl }) (no_flush_before own (seat_on base old) line step words more sheets some (flushes_first base old step is_first) refl) refl;
         }
 
     -- the flush before failed; it met no damage
@@ -252,12 +251,11 @@ module _ (key : List ℕ) (own : OwnSeat) (line : ScriptLine) (book : Book) (sea
           spares = spares_flush false next.0;
           only = only_flush false next.0;
           shows = broken_under (flushes own sheets ++ act next.0 false ∷ []) (left_now next.0 false) (seat_on base old) (sym key_is) (sym name_is) broken;
-          failed = λ calm _. absurd (cc);
-          turn = λ given. host_failed (record { host = refl; random = refl }) (not_flushed_before own (seat_on base old) line step words more sheets next.0 ByHost some (flushes_first base old step is_first) next.1 refl tt) refl;
+          turn = λ given. host_failed (passes []) (record { host = refl; random = refl }) (not_flushed_before own (seat_on base old) line step words more sheets next.0 ByHost some (flushes_first base old step is_first) next.1 refl tt) refl;
         }
 
     -- a step after the flush
-    module _ (mid : SessionState) (between : HostState) (of_mid : IsOfScript mid) (is_first : IsFlushedFirst step old.tree) (seals : SealsWith old more (λ base next. StandsOn next mid × Replaces true old.key old.name base next before between))
+    module _ (mid : SessionState) (between : HostState) (of_mid : IsOfScript mid) (is_first : IsFlushedFirst step old.tree) (seals : SealsWith old more (λ base next. StandsOn next mid × Replaces true old.key old.name base next before between × StandsNext old.key old.name base next before between))
         {nonce : List ℕ} {tree : TreeState} (same : mid ≡ record old { nonce = nonce; drawn = None; tree = tree; changed = false }) (dirty : mid.tree.dirty ≡ []) (t : Honest) (is_t : between.honest ≡ Some t) (only_after : Unchanged t b) where
       abbrev next : Sheet
       next = (seals base was.linked was.kept.backed).0
@@ -333,9 +331,8 @@ module _ (key : List ℕ) (own : OwnSeat) (line : ScriptLine) (book : Book) (sea
             only = subst (λ (l : List Act). OnlyOf own.name l) as_flushes (only_flush true next);
             shows = broken_under (flushes own (sheets ++ next ∷ [])) (left_now next true) (resealed (seat_on base old) next)
                 (sym (ap (λ (s : SessionState). s.key) goes.state ∙ ap (λ (s : SessionState). s.key) same)) (sym (ap (λ (s : SessionState). s.name) goes.state ∙ ap (λ (s : SessionState). s.name) same)) (ap (λ (s : SessionState). s.broken) goes.state);
-            failed = λ calm _. absurd (cc);
             turn = λ given.
-                host_failed (record { host = refl; random = refl }) (not_fetched_after own (seat_on base old) line step words more sheets next ByHost some (flushes_first base old step is_first) own_seals refl tt) refl;
+                host_failed (passes []) (record { host = refl; random = refl }) (not_fetched_after own (seat_on base old) line step words more sheets next ByHost some (flushes_first base old step is_first) own_seals refl tt) refl;
           }
       after_step (Err trees.Memory) goes stands = tt
 

@@ -58,12 +58,12 @@ module _ (key : List ℕ) (k : ℕ) (old : SessionState) where
   module _ (whole : old.broken ≡ false) (was_changed : old.changed ≡ true) where
     lacked_turns : (words : List (List ℕ)) → SheetTurns key false (lines.Close k) (seen_by [] words false true) replies.WordsFault old None []
     lacked_turns words sealed base among linked kept =
-        at_last [] (λ unforged. (Empty, words_failed (record { host = refl; random = refl }) (no_last_flush k (seat_on base old) was_changed whole) refl, no_file refl refl))
+        at_last [] (λ unforged. (Empty, words_failed (none_to_close key k (seat_on base old)) (record { host = refl; random = refl }) (no_last_flush k (seat_on base old) was_changed whole) refl, no_file refl refl))
 
     failed_turn : (sealed : List Sheet) (base next : Sheet) (these : List Answer) (words : List (List ℕ)) (blame : Blame) → Seals (seat_on base old) words next → BlamesFlush old.name these blame
         → SeatTurn (on_carried key sealed) key false (Own (seat_on base old)) (lines.Close k) (seen_by these words (host_blamed blame) false) (flush_reply (fault_of blame)) (flush_act old next false ∷ []) Empty
     failed_turn sealed base next these words ByHost seals blames =
-        host_failed (record { host = refl; random = refl }) (not_sealed (seat_on base old) (lines.Close k) next ByHost Empty seals blames (of_close k was_changed whole)) refl
+        host_failed (none_to_close key k (seat_on base old)) (record { host = refl; random = refl }) (not_sealed (seat_on base old) (lines.Close k) next ByHost Empty seals blames (of_close k was_changed whole)) refl
     failed_turn sealed base next these words (ByDamage damage) seals blames =
         was_damaged damage (none_to_close key k (seat_on base old)) (record { host = refl; random = refl }) (not_sealed (seat_on base old) (lines.Close k) next (ByDamage damage) Empty seals blames (of_close k was_changed whole)) refl
 

@@ -1,4 +1,4 @@
--- The line `close` under a book, from the contract of a closing.
+-- The line `close` under a book and over files, from the contract of a closing.
 use Rattle.std.proofs.Common.{◌≡◌, ◌⊎◌, inl, inr, Bool, true, false, List, [], ◌∷◌, ℕ, refl, sym, ◌∙◌, ap, subst, Some, None, Result}
 use Rattle.node_tree.specs.Sheet.{Sheet}
 use Rattle.pf_io.specs.Disk.{reading}
@@ -18,7 +18,7 @@ use Rattle.pf_script.specs.BookActs.{Flush}
 use Rattle.pf_script.specs.BookDebts.{DidAll, seat_of}
 use Rattle.pf_script.specs.BookSeats.{Covers, CoversNone, KeepsUnder}
 use Rattle.pf_script.specs.BookTurns.{no_file, SeatUnder, SeatAgrees}
-use Rattle.pf_script.specs.FileTurns.{stands_on}
+use Rattle.pf_script.specs.FileTurns.{stands_on, SeatFiles, no_file as over_none}
 use Rattle.pf_script.specs.Desk.{IsSeated, seat_on}
 use Rattle.pf_script.specs.Script.{OwnSeat, Seat, Empty, Own}
 use Rattle.pf_script.specs.SeatReplies.{flush_reply}
@@ -30,20 +30,20 @@ use Rattle.pf_script.specs.declared.reply.Reply.TheVariants as replies
 use Rattle.pf_script.proofs.ActKeeping.{one_spares}
 use Rattle.pf_script.proofs.CallKeeping.{at_both, both_with, read_image, same_disk, close_keeps}
 use Rattle.pf_script.proofs.CloseLine.{close_result, none_to_close}
-use Rattle.pf_script.proofs.FilesLeft.{files_flushed}
 use Rattle.pf_script.proofs.FlushLine.{flush_act}
-use Rattle.pf_script.proofs.FlushUnder.{seen_in, flush_counts}
+use Rattle.pf_script.proofs.FlushUnder.{seen_in, failed_over, lacked_over, flush_left}
 use Rattle.pf_script.proofs.Flushed.{FlushEnds, not_begun, not_ended, was_ended, flush_ends, host_blamed, fault_of}
+use Rattle.pf_script.proofs.OverFiles.{over_on_disk}
 use Rattle.pf_script.proofs.OverGiven.{over_idle}
 use Rattle.pf_script.proofs.Refusing.{none_taken}
 use Rattle.pf_script.proofs.SeatCalls.{seen_by, false_true}
 use Rattle.pf_script.proofs.Seats.{seats_after}
-use Rattle.pf_script.proofs.Under.{LooksLike, looks_like, KnownUnder, on_disk, none_concerned, one_concerned, flush_did}
+use Rattle.pf_script.proofs.Under.{looks_like, looks_over, IsAnswered, blame_answered, idle_answered, KnownUnder, on_disk, none_concerned, one_concerned, flush_did}
 
 -- a turn of a closing that failed in its flush
 failed_turn : (standing : Standing) (key : List ℕ) (k : ℕ) (own : OwnSeat) (next : Sheet) (these : List Answer) (words : List (List ℕ)) (blame : Blame) → own.changed ≡ true → own.broken ≡ false → SealsOwn own words next → BlamesFlush own.name these blame
     → SeatTurn standing key false (Own own) (lines.Close k) (seen_by these words (host_blamed blame) false) (flush_reply (fault_of blame)) (record { deed = Flush (seat_of own.key own.name next); done = false } ∷ []) Empty
-failed_turn standing key k own next these words ByHost was_changed whole seals blames = host_failed (record { host = refl; random = refl }) (not_sealed own (lines.Close k) next ByHost Empty seals blames (of_close k was_changed whole)) refl
+failed_turn standing key k own next these words ByHost was_changed whole seals blames = host_failed (none_to_close key k own) (record { host = refl; random = refl }) (not_sealed own (lines.Close k) next ByHost Empty seals blames (of_close k was_changed whole)) refl
 failed_turn standing key k own next these words (ByDamage damage) was_changed whole seals blames =
     was_damaged damage (none_to_close key k own) (record { host = refl; random = refl }) (not_sealed own (lines.Close k) next (ByDamage damage) Empty seals blames (of_close k was_changed whole)) refl
 
@@ -51,9 +51,9 @@ module _ (key : List ℕ) (k : ℕ) (old : SessionState) (seated : IsSeated key 
     (keeps : OnDisk before after (KeepsUnder (Covers old) CoversNone (λ name. name ≡ old.name))) (aside : Aside old.name before after) (reads : ReadsAsImage after) where
   -- a session that is flushed
   module _ (whole : old.broken ≡ false) (was_changed : old.changed ≡ true) (mid : SessionState) where
-    abbrev line_under : (seen : Seen) (reply : Reply) → ((a b : Honest) → before.honest ≡ Some a → after.honest ≡ Some b → Ran (LeavesApart old.name) (KeepsApart old.name) a b → KnownUnder key false (lines.Close k) seen reply old whole None a b)
+    abbrev line_under : (seen : Seen) (reply : Reply) → IsAnswered reply → ((a b : Honest) → before.honest ≡ Some a → after.honest ≡ Some b → Ran (LeavesApart old.name) (KeepsApart old.name) a b → KnownUnder key false (lines.Close k) seen reply old whole None a b)
         → OnDisk before after (SeatUnder key false (lines.Close k) seen reply (Some old) None)
-    line_under seen reply known = on_disk key false (lines.Close k) seen reply old whole None before after keeps aside known
+    line_under seen reply answered known = on_disk key false (lines.Close k) seen reply old whole None before after answered keeps aside known
 
     by_end : (result : Result (Unit {0}) FlushFault) → UndamagedFlush result old before → FlushEnds result old mid before after random random' → SeatAgrees key false (lines.Close k) (close_result false result) (Some old) None before after random random'
     by_end result undamaged (not_begun words seen same stays said) =
@@ -61,7 +61,7 @@ module _ (key : List ℕ) (k : ℕ) (old : SessionState) (seated : IsSeated key 
         (record {
           seen = seen_by [] words false true;
           was_seen = seen_in [] words false true before after random random' seen;
-          under = line_under (seen_by [] words false true) replies.WordsFault
+          under = line_under (seen_by [] words false true) replies.WordsFault tt
               (λ a b is is2 ran book seats agrees base on. record {
                 acts = [];
                 left = seats;
@@ -70,16 +70,17 @@ module _ (key : List ℕ) (k : ℕ) (old : SessionState) (seated : IsSeated key 
                 shows = no_file refl refl;
                 spares = λ s has apart. has;
                 concerned = none_concerned false (lines.Close k) (Some old);
-                turn = λ _. words_failed (record { host = refl; random = refl }) (no_last_flush k (seat_on base old) was_changed whole) refl;
-                over = λ _ calm. absurd (false_true true refl calm.random);
+                turn = λ _. words_failed (none_to_close key k (seat_on base old)) (record { host = refl; random = refl }) (no_last_flush k (seat_on base old) was_changed whole) refl;
+                idle = tt;
               });
+          over = lacked_over key (lines.Close k) words replies.WordsFault old whole None before after aside;
         })
     by_end result undamaged (not_ended blame these words seen blames seals key_is name_is broken said) =
         subst (λ (r : Result (Unit {0}) FlushFault). SeatAgrees key false (lines.Close k) (close_result false r) (Some old) None before after random random') (sym said)
         (record {
           seen = seen_by these words (host_blamed blame) false;
           was_seen = seen_in these words (host_blamed blame) false before after random random' seen;
-          under = line_under (seen_by these words (host_blamed blame) false) (flush_reply (fault_of blame))
+          under = line_under (seen_by these words (host_blamed blame) false) (flush_reply (fault_of blame)) (blame_answered blame)
               (λ a b is is2 ran book seats agrees base on.
               let next = seals base on.stood.as_sheet.stands.linked on.kept.backed in record {
                 acts = flush_act old next.0 false ∷ [];
@@ -91,19 +92,16 @@ module _ (key : List ℕ) (k : ℕ) (old : SessionState) (seated : IsSeated key 
                 spares = one_spares seats (Flush (seat_of old.key old.name next.0)) false;
                 concerned = one_concerned false (lines.Close k) old false next.0;
                 turn = λ _. failed_turn (stands_on key (reading a.now)) key k (seat_on base old) next.0 these words blame was_changed whole next.1 blames;
-                over = λ _ calm.
-                    absurd
-                    (false_true (host_blamed blame)
-                    (flush_counts old seated.of_script blame before a is (subst (λ (r : Result (Unit {0}) FlushFault). UndamagedFlush r old before) said undamaged) base on.kept.backed on.stood)
-                    calm.host);
+                idle = idle_answered (flush_reply (fault_of blame)) (blame_answered blame) (flush_act old next.0 false ∷ []);
               });
+          over = failed_over key (lines.Close k) these words blame (flush_reply (fault_of blame)) old seated.of_script whole None result before after undamaged said aside;
         })
     by_end result undamaged (was_ended these words seen seals same dirty said) =
         subst (λ (r : Result (Unit {0}) FlushFault). SeatAgrees key false (lines.Close k) (close_result false r) (Some old) None before after random random') (sym said)
         (record {
           seen = seen_by these words false false;
           was_seen = seen_in these words false false before after random random' seen;
-          under = line_under (seen_by these words false false) (replies.Closed false)
+          under = line_under (seen_by these words false false) (replies.Closed false) tt
               (λ a b is is2 ran book seats agrees base on.
               let next = seals base on.stood.as_sheet.stands.linked on.kept.backed in
               let own = seat_on base old in
@@ -120,17 +118,26 @@ module _ (key : List ℕ) (k : ℕ) (old : SessionState) (seated : IsSeated key 
                 spares = one_spares seats (Flush (seat_of old.key old.name next.0)) true;
                 concerned = one_concerned false (lines.Close k) old true next.0;
                 turn = λ _. accepted (none_to_close key k own) (record { host = refl; random = refl }) (flushes_last k own next.0 was_changed whole next.1);
-                over = λ _ calm. record {
+                idle = tt;
+              });
+          over = over_on_disk (Ran (LeavesApart old.name) (KeepsApart old.name)) key false (lines.Close k) (seen_by these words false false) (replies.Closed false) old whole None before after aside
+              (λ a b is is2 ran calm base on.
+              let next = seals base on.reopens.stands.linked on.kept.backed in
+              let own = seat_on base old in record {
+                acts = flush_act old next.0 true ∷ [];
+                after = Empty;
+                over = record {
                   turn = accepted (none_to_close key k own) (record { host = refl; random = refl }) (flushes_last k own next.0 was_changed whole next.1);
-                  files = files_flushed own (next.0 ∷ []) book seats left a b agrees on.image did on.entry on.was;
+                  files = (flush_left old base next.0 before after a b is is2 next.2.2 ran on.reopens).files;
                 };
+                shows = over_none refl refl;
               });
         })
 
   -- one that is not
-  idle_turn : (standing : Standing) (seat : Seat) → LooksLike (Some old) seat → (own : OwnSeat) → seat ≡ Own own → own.broken ≡ old.broken → (own.changed ≡ false) ⊎ (own.broken ≡ true)
+  idle_turn : (standing : Standing) (seat : Seat) (own : OwnSeat) → seat ≡ Own own → own.broken ≡ old.broken → (own.changed ≡ false) ⊎ (own.broken ≡ true)
       → SeatTurn standing key false seat (lines.Close k) (seen_by [] [] false false) (replies.Closed old.broken) [] Empty
-  idle_turn standing seat looks own is same because =
+  idle_turn standing seat own is same because =
       subst (λ (b : Bool). SeatTurn standing key false seat (lines.Close k) (seen_by [] [] false false) (replies.Closed b) [] Empty) same
       (subst (λ (x : Seat). SeatTurn standing key false x (lines.Close k) (seen_by [] [] false false) (replies.Closed own.broken) [] Empty) (sym is)
       (accepted (none_to_close key k own) (record { host = refl; random = refl }) (lets_go k own because refl)))
@@ -147,13 +154,11 @@ module _ (key : List ℕ) (k : ℕ) (old : SessionState) (seated : IsSeated key 
         shows = no_file refl refl;
         spares = λ s has apart. has;
         concerned = none_concerned false (lines.Close k) (Some old);
-        turn = λ _. idle_turn (stands_on key (reading a.now)) seat looks looks.shown looks.seat_is looks.broken_is (inr (looks.broken_is ∙ is));
-        over = λ _ calm.
-            over_idle key false seat (lines.Close k) [] (replies.Closed old.broken) Empty a b (same_disk before after a b is_a is_b stays)
-            (idle_turn (stands_on key (reading a.now)) seat looks looks.shown looks.seat_is looks.broken_is (inr (looks.broken_is ∙ is)));
+        turn = λ _. idle_turn (stands_on key (reading a.now)) seat looks.shown looks.seat_is looks.broken_is (inr (looks.broken_is ∙ is));
+        idle = tt;
       })
   let_under false is (inl clean) stays =
-      on_disk key false (lines.Close k) (seen_by [] [] false false) (replies.Closed old.broken) old is None before after keeps aside
+      on_disk key false (lines.Close k) (seen_by [] [] false false) (replies.Closed old.broken) old is None before after tt keeps aside
       (λ a b is_a is_b ran book seats agrees base on. record {
         acts = [];
         left = seats;
@@ -162,12 +167,33 @@ module _ (key : List ℕ) (k : ℕ) (old : SessionState) (seated : IsSeated key 
         shows = no_file refl refl;
         spares = λ s has apart. has;
         concerned = none_concerned false (lines.Close k) (Some old);
-        turn = λ _. idle_turn (stands_on key (reading a.now)) (Own (seat_on base old)) (record { shown = seat_on base old; key_is = refl; name_is = refl; broken_is = refl; seat_is = refl }) (seat_on base old) refl refl (inl clean);
-        over = λ _ calm.
-            over_idle key false (Own (seat_on base old)) (lines.Close k) [] (replies.Closed old.broken) Empty a b (same_disk before after a b is_a is_b stays)
-            (idle_turn (stands_on key (reading a.now)) (Own (seat_on base old)) (record { shown = seat_on base old; key_is = refl; name_is = refl; broken_is = refl; seat_is = refl }) (seat_on base old) refl refl (inl clean));
+        turn = λ _. idle_turn (stands_on key (reading a.now)) (Own (seat_on base old)) (seat_on base old) refl refl (inl clean);
+        idle = tt;
       })
   let_under false is (inr broken) stays = absurd (false_true old.broken broken is)
+
+  -- over files
+  let_over : (b : Bool) → old.broken ≡ b → (old.changed ≡ false) ⊎ (old.broken ≡ true) → after ≡ before → OnDisk before after (SeatFiles key false (lines.Close k) (seen_by [] [] false false) (replies.Closed old.broken) (Some old) None)
+  let_over true is why stays =
+      both_with (Ran (LeavesApart old.name) (KeepsApart old.name)) (SeatFiles key false (lines.Close k) (seen_by [] [] false false) (replies.Closed old.broken) (Some old) None) before.honest after.honest aside
+      (λ a b is_a is_b ran seat calm shows opened.
+      let looks = looks_over (reading a.now) seat (Some old) shows in record {
+        acts = [];
+        after = Empty;
+        over = over_idle key false seat (lines.Close k) [] (replies.Closed old.broken) Empty a b (same_disk before after a b is_a is_b stays)
+            (idle_turn (stands_on key (reading a.now)) seat looks.shown looks.seat_is looks.broken_is (inr (looks.broken_is ∙ is)));
+        shows = over_none refl refl;
+      })
+  let_over false is (inl clean) stays =
+      over_on_disk (Ran (LeavesApart old.name) (KeepsApart old.name)) key false (lines.Close k) (seen_by [] [] false false) (replies.Closed old.broken) old is None before after aside
+      (λ a b is_a is_b ran calm base on. record {
+        acts = [];
+        after = Empty;
+        over = over_idle key false (Own (seat_on base old)) (lines.Close k) [] (replies.Closed old.broken) Empty a b (same_disk before after a b is_a is_b stays)
+            (idle_turn (stands_on key (reading a.now)) (Own (seat_on base old)) (seat_on base old) refl refl (inl clean));
+        shows = over_none refl refl;
+      })
+  let_over false is (inr broken) stays = absurd (false_true old.broken broken is)
 
   by_close : (result : Result (Unit {0}) FlushFault) → UndamagedFlush result old before → CloseGoes result old before after random random' → SeatAgrees key false (lines.Close k) (close_result old.broken result) (Some old) None before after random random'
   by_close result undamaged (let_go why stays same said) =
@@ -181,6 +207,7 @@ module _ (key : List ℕ) (k : ℕ) (old : SessionState) (seated : IsSeated key 
           of_words = ap (λ (w : WordsState). w.faults) same;
         };
         under = let_under old.broken refl why stays;
+        over = let_over old.broken refl why stays;
       })
   by_close result undamaged (flushed_last mid was_changed whole flushes) =
       subst (λ (b : Bool). SeatAgrees key false (lines.Close k) (close_result b result) (Some old) None before after random random') (sym whole)

@@ -29,8 +29,8 @@ use Rattle.pf_script.specs.BookSeats.{CoversNone, CoversMade, KeepsUnder}
 use Rattle.pf_script.specs.BookTurns.{ShowsUnder, no_file, of_book, SeatUnder}
 use Rattle.pf_script.specs.Desk.{no_file as no_seat, whole_file, seat_on}
 use Rattle.pf_script.specs.DeskSteps.{Concerns}
-use Rattle.pf_script.specs.FileTurns.{stands_on, answers_of, seen_over, FilesAfter, SeatOver}
-use Rattle.pf_script.specs.Rules.{Rule, refuses}
+use Rattle.pf_script.specs.FileTurns.{stands_on, answers_of, seen_over, FilesAfter, whole_file as whole_over, LineOver, SeatFiles}
+use Rattle.pf_script.specs.Rules.{Rule, NoneRefuses, refuses}
 use Rattle.pf_script.specs.Script.{Seat, Empty, Own}
 use Rattle.pf_script.specs.SeatReplies.{create_reply}
 use Rattle.pf_script.specs.SeatSteps.{SealsEmpty}
@@ -46,11 +46,12 @@ use Rattle.pf_script.proofs.CreateKeeping.{create_keeps}
 use Rattle.pf_script.proofs.Flushed.{SeenOf, counted_kind}
 use Rattle.pf_script.proofs.FlushUnder.{seen_in}
 use Rattle.pf_script.proofs.OfScript.{of_created}
-use Rattle.pf_script.proofs.OnEmpty.{not_of, made_seat, BothHalves, empty_idle, concerns, spares_given, empty_goes, empty_wants, empty_under, empty_turns, seat_first, seat_none}
-use Rattle.pf_script.proofs.OverGiven.{no_host_fault, no_words_fault, on_reading, same_over}
+use Rattle.pf_script.proofs.OnEmpty.{not_of, made_seat, BothHalves, empty_idle, concerns, spares_given, empty_goes, empty_wants, empty_under, empty_over, empty_turns, seat_first, seat_none}
+use Rattle.pf_script.proofs.OverGiven.{none_contained, no_host_fault, no_words_fault, on_reading, same_over}
 use Rattle.pf_script.proofs.Refusing.{none_taken}
 use Rattle.pf_script.proofs.SeatCalls.{seen_by, own_same}
 use Rattle.pf_script.proofs.Seats.{seats_after, seat_is_left}
+use Rattle.pf_script.proofs.Under.{IsAnswered, idle_answered}
 
 -- the reply to a creation, and the seat after it
 abbrev pub create_result : Name → Result SessionState CreateFault → Result Reply Memory
@@ -74,6 +75,10 @@ was_absent name node size =
 no_length : (name : Name) (file : Option (List ℕ)) → file ≡ None → (size : ℕ) → Contains (LengthWas name (length_of file) ∷ []) (LengthWas name (Some size)) → ⊥
 no_length name None none size = not_of (LengthWas name None) (LengthWas name (Some size)) [] (λ same. absurd (cc)) (λ none. absurd (omega (arith, none.1)))
 no_length name (Some file) none size = absurd (cc)
+
+-- a target for which no length came is not refused
+naming_none : (name : Name) (given : List Answer) → IsTarget name → ((size : ℕ) → ¬ (Contains given (LengthWas name (Some size)))) → NoneRefuses (naming_rules name given)
+naming_none name given target none = ((λ other refuses. refuses.1 target), ((λ other refuses. none refuses.1.0 refuses.1.1), tt))
 
 -- a target that is a text may be a path too
 pub named_target : (name : Name) → IsUtf8 name → IsTarget name → AreNamed name name
@@ -116,9 +121,8 @@ module _ (key : List ℕ) (k : ℕ) (name : Name) (utf8 : IsUtf8 name) (before a
 
     under : (done : Bool) (seen : Seen) (reply : Reply) (new : Option SessionState) (after_seat : Seat) → Aside name before after → ReadsAsImage after → OnDisk before after (CreatesOn done key name sheet) → IsTarget name
         → ((book : Book) (seats : List Seal) → ShowsUnder book (seats_after (Creation (seat_of key name sheet)) done seats) after_seat new) → ((standing : Standing) → SeatTurn standing key false Empty line seen reply (act done ∷ []) after_seat)
-        → ((a b : Honest) → Ran (LeavesApart name) (KeepsApart name) a b → CreatesOn done key name sheet a b → Failed seen false false → SeatOver key false Empty line seen.words reply (act done ∷ []) after_seat (reading a.now) (reading b.now))
-        → OnDisk before after (SeatUnder key false line seen reply None new)
-    under done seen reply new after_seat aside reads creates target shows turn over =
+        → IsAnswered reply → OnDisk before after (SeatUnder key false line seen reply None new)
+    under done seen reply new after_seat aside reads creates target shows turn answered =
         both_with (Ran (LeavesApart name) (KeepsApart name)) (SeatUnder key false line seen reply None new) before.honest after.honest aside
         (λ a b is is2 ran. empty_under key line name refl seen reply new a b
         (λ book seats agrees was_image. record {
@@ -130,9 +134,16 @@ module _ (key : List ℕ) (k : ℕ) (name : Name) (utf8 : IsUtf8 name) (before a
           shows = shows _ seats;
           spares = one_spares seats (Creation (seat_of key name sheet)) done;
           concerned = only_it done;
+          idle = idle_answered reply answered (act done ∷ []);
           turn = λ _. turn _;
-          over = λ knows calm. over a b ran (at_both (CreatesOn done key name sheet) before.honest after.honest a b is is2 creates) calm;
         }))
+
+    -- over files, where nothing failed
+    over : (done : Bool) (seen : Seen) (reply : Reply) (new : Option SessionState) → Aside name before after → OnDisk before after (CreatesOn done key name sheet)
+        → ((a b : Honest) → Ran (LeavesApart name) (KeepsApart name) a b → CreatesOn done key name sheet a b → Failed seen false false → LineOver key false line seen reply new Empty a b) → OnDisk before after (SeatFiles key false line seen reply None new)
+    over done seen reply new aside creates known =
+        both_with (Ran (LeavesApart name) (KeepsApart name)) (SeatFiles key false line seen reply None new) before.honest after.honest aside
+        (λ a b is is2 ran. empty_over key line name refl seen reply new a b (λ calm opened. known a b ran (at_both (CreatesOn done key name sheet) before.honest after.honest a b is is2 creates) calm))
 
     -- one that was done leaves the name with its sheet, and the others as they were
     leaves_file : (a b : Honest) → Ran (LeavesApart name) (KeepsApart name) a b → CreatesOn true key name sheet a b → FilesAfter (act true ∷ []) (reading a.now) (reading b.now)
@@ -166,7 +177,7 @@ module _ (key : List ℕ) (k : ℕ) (name : Name) (utf8 : IsUtf8 name) (before a
       subst (λ (r : Result SessionState CreateFault). Both (create_result name r) (made_seat r)) (sym said)
       (empty_idle key line name refl before after random random' replies.HostFault [] [] true false fails.disk
       (record { told = fails.asked.asked.told; taken = none_taken_now same; on_host = fails.asked.asked.faults; on_words = ap (λ (w : WordsState). w.faults) same }) refl refl
-      (λ standing. host_failed (record { host = refl; random = refl }) (not_asked k name refl) refl) (λ a is calm. absurd (no_host_fault calm)))
+      (λ standing. host_failed (seat_none (naming_rules name []) (naming_none name [] good.is_target (λ size. none_contained))) (record { host = refl; random = refl }) (not_asked k name refl) refl) (λ a is calm. absurd (no_host_fault calm)))
   by_case result aside reads keeps (was_there size good looks same said) =
       let given = LengthWas name (Some size) ∷ [] in
       let turn : (standing : Standing) → SeatTurn standing key false Empty line (seen_by given [] false false) (replies.Refused (whys.Exists name)) [] Empty = λ standing.
@@ -182,7 +193,7 @@ module _ (key : List ℕ) (k : ℕ) (name : Name) (utf8 : IsUtf8 name) (before a
       subst (λ (r : Result SessionState CreateFault). Both (create_result name r) (made_seat r)) (sym said)
       (empty_idle key line name refl before after random random' replies.WordsFault (LengthWas name None ∷ []) fewer.words false true looks.disk
       (record { told = looks.asked.asked.told; taken = fewer.told; on_host = looks.asked.asked.faults; on_words = fewer.once }) refl refl
-      (λ standing. words_failed (record { host = refl; random = refl }) (no_creation k name) refl) (λ a is calm. absurd (no_words_fault calm)))
+      (λ standing. words_failed (seat_none (naming_rules name (LengthWas name None ∷ [])) (naming_none name (LengthWas name None ∷ []) good.is_target (no_length name None refl))) (record { host = refl; random = refl }) (no_creation k name) refl) (λ a is calm. absurd (no_words_fault calm)))
   by_case result aside reads keeps (create_stopped nonce between good looks drawn stopped said) =
       let those = stopped.stopped.answered in
       let these = LengthWas name None ∷ those in
@@ -194,7 +205,7 @@ module _ (key : List ℕ) (k : ℕ) (name : Name) (utf8 : IsUtf8 name) (before a
         on_words = drawn.took.calm;
       } in
       let turn : (standing : Standing) → SeatTurn standing key false Empty line (seen_by these words true false) replies.HostFault (act nonce these drawn false ∷ []) Empty = λ standing.
-      host_failed (record { host = refl; random = refl }) (not_created k name (empty_sheet name nonce) (seals_empty nonce these drawn stopped.linked)) refl in
+      host_failed (seat_none (naming_rules name []) (naming_none name [] good.is_target (λ size. none_contained))) (record { host = refl; random = refl }) (not_created k name (empty_sheet name nonce) (seals_empty nonce these drawn stopped.linked)) refl in
       subst (λ (r : Result SessionState CreateFault). Both (create_result name r) (made_seat r)) (sym said)
       (record {
         goes = empty_goes key line name refl None before after random random' (subst (λ (r : Result SessionState CreateFault). OnDisk before after (KeepsUnder CoversNone (CoversMade r) (λ n. n ≡ name))) said (keeps good.is_target)) (spares_given key line name refl before after aside) tt (λ n none. absurd none)
@@ -203,8 +214,8 @@ module _ (key : List ℕ) (k : ℕ) (name : Name) (utf8 : IsUtf8 name) (before a
         booked = record {
           seen = seen_by these words true false;
           was_seen = seen_in these words true false before after random random' seen;
-          under = under nonce these drawn false (seen_by these words true false) replies.HostFault None Empty aside reads stopped.creates good.is_target (λ book seats. no_file refl refl) turn
-              (λ a b ran creates calm. absurd (no_host_fault calm));
+          under = under nonce these drawn false (seen_by these words true false) replies.HostFault None Empty aside reads stopped.creates good.is_target (λ book seats. no_file refl refl) turn tt;
+          over = over nonce these drawn false (seen_by these words true false) replies.HostFault None aside stopped.creates (λ a b ran creates calm. absurd (no_host_fault calm));
         };
       })
   by_case result aside reads keeps (created nonce between good looks drawn asked creates is_fresh said) =
@@ -220,10 +231,10 @@ module _ (key : List ℕ) (k : ℕ) (name : Name) (utf8 : IsUtf8 name) (before a
         on_words = drawn.took.calm;
       } in
       let turn : (standing : Standing) → SeatTurn standing key false Empty line (seen_by these words false false) replies.Created (act nonce these drawn true ∷ []) (Own (new_seat key name sheet)) = λ standing.
-      accepted (seat_none (naming_rules name these) ((λ other refuses. refuses.1 good.is_target), ((λ other refuses. was_absent name (empty_node key name nonce) refuses.1.0 refuses.1.1), tt))) (record { host = refl; random = refl })
+      accepted (seat_none (naming_rules name these) (naming_none name these good.is_target (was_absent name (empty_node key name nonce)))) (record { host = refl; random = refl })
       (creates_file k name sheet (seals_empty nonce these drawn is_fresh.linked)) in
-      let over : (files : Files) → files name ≡ None → SeatTurn (stands_on key files) key false Empty line (seen_over files line words) replies.Created (act nonce these drawn true ∷ []) (Own (new_seat key name sheet)) = λ files none.
-      accepted (seat_none (naming_rules name (answers_of files line)) ((λ other refuses. refuses.1 good.is_target), ((λ other refuses. no_length name (files name) none refuses.1.0 refuses.1.1), tt))) (record { host = refl; random = refl })
+      let by_files : (files : Files) → files name ≡ None → SeatTurn (stands_on key files) key false Empty line (seen_over files line words) replies.Created (act nonce these drawn true ∷ []) (Own (new_seat key name sheet)) = λ files none.
+      accepted (seat_none (naming_rules name (answers_of files line)) (naming_none name (answers_of files line) good.is_target (no_length name (files name) none))) (record { host = refl; random = refl })
       (creates_file k name sheet (seals_empty nonce these drawn is_fresh.linked)) in
       let same : new_seat key name sheet ≡ seat_on sheet made = own_same sheet key key name name [] (now sheet made.tree) [] [] false false None None false false refl refl (sym is_fresh.stands.now_is) refl refl refl refl in
       subst (λ (r : Result SessionState CreateFault). Both (create_result name r) (made_seat r)) (sym said)
@@ -237,8 +248,14 @@ module _ (key : List ℕ) (k : ℕ) (name : Name) (utf8 : IsUtf8 name) (before a
           seen = seen_by these words false false;
           was_seen = seen_in these words false false before after random random' seen;
           under = under nonce these drawn true (seen_by these words false false) replies.Created (Some made) (Own (new_seat key name sheet)) aside reads creates good.is_target
-              (λ book seats. of_book sheet made refl (seat_is_left (Creation (seat_of key name sheet)) seats) (record { backed = is_fresh.stands.backed; rests = λ calm. record { stands = is_fresh.stands; clean = refl } }) (ap Own same) refl) turn
-              (λ a b ran made calm. record { turn = over (reading a.now) (ap read_of made.absent); files = leaves_file nonce these drawn a b ran made });
+              (λ book seats. of_book sheet made refl (seat_is_left (Creation (seat_of key name sheet)) seats) (record { backed = is_fresh.stands.backed; rests = λ calm. record { stands = is_fresh.stands; clean = refl } }) (ap Own same) refl) turn tt;
+          over = over nonce these drawn true (seen_by these words false false) replies.Created (Some made) aside creates
+              (λ a b ran was_made calm. record {
+                acts = act nonce these drawn true ∷ [];
+                after = Own (new_seat key name sheet);
+                over = record { turn = by_files (reading a.now) (ap read_of was_made.absent); files = leaves_file nonce these drawn a b ran was_made };
+                shows = whole_over sheet made refl refl was_made.ran.ends.as_sheet (record { backed = is_fresh.stands.backed; rests = λ calm. record { stands = is_fresh.stands; clean = refl } }) (ap Own same) refl;
+              });
         };
       })
 

@@ -39,7 +39,7 @@ line_made inside desk old is k below d taken line names says left result before 
     subst (λ (o : DeskState). LineMade line result o (desk_with inside k left) before after random random') is (record {
       well = desk_after inside desk k below taken line names says_inside left result before after random random' goes;
       goes = desk_goes inside desk k below taken line names says_inside left result before after random random' goes;
-      booked = desk_booked inside desk k below taken line names says_inside left result before after random random' booked;
+      booked = desk_booked inside desk k below taken line names says_inside left result before after random random' goes.spares booked;
     })
   where
     says_inside : SaysOther inside k (name_of_line line) taken

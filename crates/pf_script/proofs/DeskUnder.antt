@@ -1,8 +1,7 @@
 -- A line on one seat of a desk under a book, as one on the desk.
-use Rattle.std.proofs.Common.{◌≡◌, ◌≢◌, inl, inr, ⊎_elim, Bool, false, List, [], ℕ, ◌<◌, refl, sym, ◌∙◌, subst, Option, Some, None, Result, Ok, Err, length}
-use Rattle.std.specs.Prelude.{◌↔◌, IfSome}
+use Rattle.std.proofs.Common.{◌≡◌, ◌≢◌, inl, inr, ⊎_elim, Bool, false, List, [], ℕ, ◌<◌, refl, sym, ◌∙◌, ap, subst, Option, Some, None, Result, Ok, Err, length}
+use Rattle.std.specs.Prelude.{IfSome}
 use Rattle.std.proofs.lemmas.List.{get_or-set_same, get_or-set_other, length-set}
-use Rattle.std.proofs.lemmas.Option.{IfSome_then}
 use Rattle.pf_io.specs.Disk.{Name, reading}
 use Rattle.pf_io.specs.Host.{HostState}
 use Rattle.pf_io.specs.Moments.{Honest}
@@ -14,12 +13,12 @@ use Rattle.pf_script.specs.Book.{Book, Seal}
 use Rattle.pf_script.specs.BookActs.{Act, Among, booked_all}
 use Rattle.pf_script.specs.BookDebts.{seat_of}
 use Rattle.pf_script.specs.BookSeats.{SparesSeats}
-use Rattle.pf_script.specs.BookTurns.{ShowsUnder, no_file, of_book, other_file, Knows, LineUnder, SeatUnder, SeatAgrees, SeatBooked, IsStateUnder, KnowsLine, TurnUnder, DeskUnder, DeskAgrees, DeskBooked}
-use Rattle.pf_script.specs.FileTurns.{stands_on, SeatOver}
+use Rattle.pf_script.specs.BookTurns.{ShowsUnder, no_file, of_book, other_file, Knows, LineUnder, SeatUnder, SeatAgrees, SeatBooked, IsStateUnder, KnowsLine, ConcernsLine, TurnUnder, DeskUnder, DeskAgrees, DeskBooked}
+use Rattle.pf_script.specs.FileTurns.{stands_on, DeskFiles}
 use Rattle.pf_script.specs.Desk.{DeskState, session_at, IsDesk}
-use Rattle.pf_script.specs.DeskSteps.{OtherHas, HasItsName}
-use Rattle.pf_script.specs.Script.{Seat, Empty, ScriptState, seat_at, HasThisName, IsTaken, state_with, seat_of_line, name_of_line}
-use Rattle.pf_script.specs.Turns.{Seen, Failed, SeatTurn, silent, on_seat, SaysTaken}
+use Rattle.pf_script.specs.DeskSteps.{Concerns, Spares}
+use Rattle.pf_script.specs.Script.{Seat, Empty, ScriptState, seat_at, state_with, seat_of_line, name_of_line}
+use Rattle.pf_script.specs.Turns.{Seen, SeatTurn, silent, on_seat, SaysTaken}
 use Rattle.pf_script.specs.Words.{SEATS}
 use Rattle.pf_script.specs.declared.line.ScriptLine.{ScriptLine}
 use Rattle.pf_script.specs.declared.reply.Reply.{Reply}
@@ -27,6 +26,8 @@ use Rattle.pf_script.specs.declared.line.ScriptLine.TheVariants as lines
 use Rattle.pf_script.specs.declared.reply.Reply.TheVariants as replies
 use Rattle.pf_script.proofs.ActKeeping.{unchanged_now}
 use Rattle.pf_script.proofs.Refusing.{idle_seen, none_taken}
+use Rattle.pf_script.proofs.DeskLooks.{looks_named, looks_says}
+use Rattle.pf_script.proofs.DeskOver.{desk_files}
 use Rattle.pf_script.proofs.Desking.{SaysOther, same_or_not, others_apart}
 use Rattle.pf_script.proofs.Desking as desking
 use Rattle.pf_script.proofs.Seats.{booked_all_none}
@@ -41,14 +42,6 @@ other_shows acts left book seats seat session apart spares (other_file shown own
 other_shows acts left book seats seat session apart spares (other_file shown own (inr none) key_is name_is broken_is is some) =
     other_file shown own (inr (booked_all_none acts book own.name (apart own some) none)) key_is name_is broken_is is some
 
--- the name of a session, and that of a seat that shows it
-looks_named : (seat : Seat) (session : Option SessionState) (name : Name) → LooksLike session seat → HasItsName session name ↔ HasThisName name seat
-looks_named seat None name is = (λ none. absurd none, λ has. absurd (subst (HasThisName name) is has))
-looks_named seat (Some s) name looks = (
-  λ has. subst (HasThisName name) (sym looks.seat_is) (looks.name_is ∙ sym has),
-  λ has. sym (sym looks.name_is ∙ subst (HasThisName name) looks.seat_is has),
-)
-
 module _ (old : DeskState) (desk : IsDesk old) (k : ℕ) (below : k < SEATS) (taken : Bool) (line : ScriptLine) (names : seat_of_line line ≡ Some k) (says : SaysOther old k (name_of_line line) taken) (left : Option SessionState) where
   abbrev new : DeskState
   new = desking.new old desk k below taken line names says left
@@ -58,12 +51,7 @@ module _ (old : DeskState) (desk : IsDesk old) (k : ℕ) (below : k < SEATS) (ta
     looks j = looks_like book seats (seat_at state j) (session_at old j) (is_state.shows j)
 
     state_says : SaysTaken state k (name_of_line line) taken
-    state_says =
-        IfSome_then (name_of_line line) says
-        (λ name tells.
-        let to : OtherHas old k name → IsTaken state k name = λ other. (other.0, other.1, (looks_named (seat_at state other.0) (session_at old other.0) name (looks other.0)).0 other.2) in
-        let back : IsTaken state k name → OtherHas old k name = λ other. (other.0, other.1, (looks_named (seat_at state other.0) (session_at old other.0) name (looks other.0)).1 other.2) in
-        (λ is. to (tells.0 is), λ is. tells.1 (back is)))
+    state_says = looks_says old state looks k (name_of_line line) taken says
 
     module _ (seen : Seen) (reply : Reply) (a b : Honest) (under : LineUnder old.key taken line seen reply (session_at old k) left book seats (seat_at state k) a b) where
       abbrev then_state : ScriptState
@@ -89,12 +77,18 @@ module _ (old : DeskState) (desk : IsDesk old) (k : ℕ) (below : k < SEATS) (ta
       turn_of knows =
           subst (λ (x : List ℕ). Knows book x (seat_at state k) line reply → SeatTurn (stands_on x (reading a.now)) x taken (seat_at state k) line seen reply under.acts under.after) (sym is_state.key_is) under.turn knows
 
-      over_of : Knows book state.key (seat_at state k) line reply → Failed seen false false → SeatOver state.key taken (seat_at state k) line seen.words reply under.acts under.after (reading a.now) (reading b.now)
-      over_of knows calm =
-          subst (λ (x : List ℕ). Knows book x (seat_at state k) line reply → SeatOver x taken (seat_at state k) line seen.words reply under.acts under.after (reading a.now) (reading b.now)) (sym is_state.key_is) (λ knows_it. under.over knows_it calm) knows
-
       knows_seat : KnowsLine book state line reply → Knows book state.key (seat_at state k) line reply
       knows_seat knows = subst (λ (o : Option ℕ). IfSome o (λ i. Knows book state.key (seat_at state i) line reply)) names knows
+
+      concerned : (name : Name) → Among under.acts name → ConcernsLine line state name
+      concerned name among = by_concern (under.concerned name among)
+        where
+          by_concern : Concerns taken line (session_at old k) name → ConcernsLine line state name
+          by_concern (inl has) = inr (k, names, (looks_named (seat_at state k) (session_at old k) name (looks k)).0 has)
+          by_concern (inr gives) = inl gives.0
+
+      others : (j : ℕ) → seat_of_line line ≢ Some j → seat_at then_state j ≡ seat_at state j
+      others j apart = get_or-set_other state.seats k j under.after Empty (λ same. apart (names ∙ ap (λ (i : ℕ). Some i) (sym same)))
 
       turn_under : TurnUnder line seen reply new book seats state a b
       turn_under = record {
@@ -107,21 +101,22 @@ module _ (old : DeskState) (desk : IsDesk old) (k : ℕ) (below : k < SEATS) (ta
           eight = length-set state.seats k under.after ∙ is_state.eight;
           shows = λ j. ⊎_elim (λ same. on_it j same) (λ apart. off_it j apart) (same_or_not j k);
         };
+        on_seat = record { key_is = refl; concerned = concerned; idle = under.idle; others = others };
         turn = λ knows. on_seat k taken under.after names state_says (turn_of (knows_seat knows)) refl;
-        over = λ knows calm. let over = over_of (knows_seat knows) calm in record { turn = on_seat k taken under.after names state_says over.turn refl; files = over.files };
       }
 
-  desk_agrees : (reply : Reply) (before after : HostState) (random random' : WordsState) → SeatAgrees old.key taken line reply (session_at old k) left before after random random' → DeskAgrees line reply old new before after random random'
-  desk_agrees reply before after random random' agrees = record {
+  desk_agrees : (reply : Reply) (before after : HostState) (random random' : WordsState) → Spares (Concerns taken line (session_at old k)) before after → SeatAgrees old.key taken line reply (session_at old k) left before after random random' → DeskAgrees line reply old new before after random random'
+  desk_agrees reply before after random random' spares agrees = record {
     seen = agrees.seen;
     was_seen = agrees.was_seen;
     under = both_weaker (SeatUnder old.key taken line agrees.seen reply (session_at old k) left) (DeskUnder line agrees.seen reply old new) before.honest after.honest agrees.under
         (λ a b under book seats state agree reads is_state. turn_under book seats state is_state agrees.seen reply a b (under book seats (seat_at state k) agree reads (is_state.shows k)));
+    over = desk_files old desk k below taken line names says left agrees.seen reply before after spares agrees.over;
   }
 
-  pub desk_booked : (result : Result Reply Memory) (before after : HostState) (random random' : WordsState) → SeatBooked old.key taken line result (session_at old k) left before after random random' → DeskBooked line result old new before after random random'
-  desk_booked (Ok reply) before after random random' booked = desk_agrees reply before after random random' booked
-  desk_booked (Err fault) before after random random' booked = tt
+  pub desk_booked : (result : Result Reply Memory) (before after : HostState) (random random' : WordsState) → Spares (Concerns taken line (session_at old k)) before after → SeatBooked old.key taken line result (session_at old k) left before after random random' → DeskBooked line result old new before after random random'
+  desk_booked (Ok reply) before after random random' spares booked = desk_agrees reply before after random random' spares booked
+  desk_booked (Err fault) before after random random' spares booked = tt
 
 -- a blank line
 pub blank_booked : (desk : DeskState) (host : HostState) (words : WordsState) → DeskBooked lines.Blank (Ok replies.None) desk desk host host words words
@@ -129,5 +124,15 @@ blank_booked desk host words = record {
   seen = idle_seen;
   was_seen = record { answers = told_none host host refl; words = none_taken words; of_host = refl; of_words = refl };
   under = both_same (DeskUnder lines.Blank idle_seen replies.None desk desk) host.honest host.honest refl
-      (λ a book seats state agrees reads is_state. record { acts = []; left = seats; after = state; did = (unchanged_now a, λ s has. has); is_state = is_state; turn = λ _. silent refl refl refl refl refl; over = λ _ _. record { turn = silent refl refl refl refl refl; files = λ name. refl } });
+      (λ a book seats state agrees reads is_state. record {
+        acts = [];
+        left = seats;
+        after = state;
+        did = (unchanged_now a, λ s has. has);
+        is_state = is_state;
+        on_seat = record { key_is = refl; concerned = λ name none. absurd none; idle = tt; others = λ j apart. refl };
+        turn = λ _. silent refl refl refl refl refl;
+      });
+  over = both_same (DeskFiles lines.Blank idle_seen replies.None desk desk) host.honest host.honest refl
+      (λ a state calm is_state reopens. record { acts = []; after = state; over = record { turn = silent refl refl refl refl refl; files = λ name. refl }; is_state = is_state });
 }

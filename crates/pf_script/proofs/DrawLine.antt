@@ -44,7 +44,7 @@ module _ (key : List ℕ) (k : ℕ) (old : SessionState) (whole : old.broken ≡
       let own = seat_on base old in
       at_last [] (λ unforged. (
         Own own,
-        words_failed (record { host = refl; random = refl }) (no_nonce k own none) refl,
+        words_failed (none_then [] (Own own) own refl whole tt) (record { host = refl; random = refl }) (no_nonce k own none) refl,
         shows_same sealed (Own own) (Some new) (subst (λ (s : SessionState). Shows sealed (Own own) (Some s)) (sym same) (whole_file base old whole among linked kept refl refl)),
       ))
 

@@ -59,7 +59,7 @@ module _ (key : List ℕ) (k : ℕ) (old : SessionState) (seated : IsSeated key 
   lacked_turns words same sealed base among linked kept =
       at_last [] (λ unforged. (
         Own (seat_on base old),
-        words_failed (record { host = refl; random = refl }) (no_flush k (seat_on base old)) refl,
+        words_failed (none_then [] (Own (seat_on base old)) (seat_on base old) refl whole tt) (record { host = refl; random = refl }) (no_flush k (seat_on base old)) refl,
         shows_same sealed (Own (seat_on base old)) (Some new) (subst (λ (s : SessionState). Shows sealed (Own (seat_on base old)) (Some s)) (sym same) (whole_file base old whole among linked kept refl refl)),
       ))
 
@@ -67,7 +67,7 @@ module _ (key : List ℕ) (k : ℕ) (old : SessionState) (seated : IsSeated key 
   failed_turn : (sealed : List Sheet) (base next : Sheet) (these : List Answer) (words : List (List ℕ)) (blame : Blame) → Seals (seat_on base old) words next → BlamesFlush old.name these blame
       → SeatTurn (on_carried key sealed) key false (Own (seat_on base old)) (lines.Flush k) (seen_by these words (host_blamed blame) false) (flush_reply (fault_of blame)) (flush_act old next false ∷ []) (Own (broken_seat (seat_on base old)))
   failed_turn sealed base next these words ByHost seals blames =
-      host_failed (record { host = refl; random = refl }) (not_sealed (seat_on base old) (lines.Flush k) next ByHost (Own (broken_seat (seat_on base old))) seals blames (of_flush k)) refl
+      host_failed (none_then [] (Own (seat_on base old)) (seat_on base old) refl whole tt) (record { host = refl; random = refl }) (not_sealed (seat_on base old) (lines.Flush k) next ByHost (Own (broken_seat (seat_on base old))) seals blames (of_flush k)) refl
   failed_turn sealed base next these words (ByDamage damage) seals blames =
       was_damaged damage (none_then [] (Own (seat_on base old)) (seat_on base old) refl whole tt) (record { host = refl; random = refl }) (not_sealed (seat_on base old) (lines.Flush k) next (ByDamage damage) (Own (broken_seat (seat_on base old))) seals blames (of_flush k)) refl
 

@@ -10,6 +10,7 @@ use Rattle.node_tree.specs.Next.{NextSheet}
 use Rattle.node_tree.specs.Sheet.{Sheet, IsLinked}
 use Rattle.node_tree.specs.State.{TreeState}
 use Rattle.pf_io.specs.Counts.{counted}
+use Rattle.pf_io.specs.Disk.{Name}
 use Rattle.pf_io.specs.Host.{Answer, Gave, Made, HostState, Both, IsMore}
 use Rattle.pf_io.specs.Names.{side_of}
 use Rattle.pf_io.specs.Words.{WordsState}
@@ -19,7 +20,7 @@ use Rattle.pf_session.specs.Backing.{IsBacked, StandsOn}
 use Rattle.pf_session.specs.Copying.{copied}
 use Rattle.pf_session.specs.Drawing.{WordsCame}
 use Rattle.pf_session.specs.Flushing.{Seals as SealsNext, FlushShort, FlushGoes, no_words, had_words, SealGoes, node_short, call_failed, flushed}
-use Rattle.pf_session.specs.Sealing.{Replaces}
+use Rattle.pf_session.specs.Sealing.{Replaces, StandsNext}
 use Rattle.pf_session.specs.State.{SessionState}
 use Rattle.pf_session.specs.declared.fault.FlushFault.{FlushFault}
 use Rattle.pf_session.specs.declared.fault.FlushFault.TheVariants as faults
@@ -28,6 +29,7 @@ use Rattle.pf_script.specs.Desk.{seat_on}
 use Rattle.pf_script.specs.DeskSteps.{CountsFault}
 use Rattle.pf_script.specs.SeatSteps.{IsNextSheet, Seals}
 use Rattle.pf_script.specs.Turns.{Blame, ByHost, ByDamage, BlamesFlush, IsShort}
+use Rattle.pf_script.proofs.OfScript.{file_named}
 
 pub length_now : (sheet : Sheet) (tree : TreeState) → length (now sheet tree) ≡ tree.size
 length_now sheet tree = length-map-range_with_len (byte_of tree.first (plain_now sheet tree)) 0 tree.size
@@ -82,7 +84,7 @@ pub data FlushEnds (result : Result (Unit {0}) FlushFault) (old new : SessionSta
   not_begun : (words : List (List ℕ)) → SeenOf [] words false true before after random random' → new ≡ old → after ≡ before → result ≡ Err faults.Words → FlushEnds result old new before after random random'
   not_ended : (blame : Blame) (these : List Answer) (words : List (List ℕ)) → SeenOf these words (host_blamed blame) false before after random random' → BlamesFlush old.name these blame
       → SealsWith old words (λ base next. Replaces false old.key old.name base next before after) → new.key ≡ old.key → new.name ≡ old.name → new.broken ≡ true → result ≡ Err (fault_of blame) → FlushEnds result old new before after random random'
-  was_ended : (these : List Answer) (words : List (List ℕ)) → SeenOf these words false false before after random random' → SealsWith old words (λ base next. StandsOn next new × Replaces true old.key old.name base next before after) → {nonce : List ℕ} {tree : TreeState}
+  was_ended : (these : List Answer) (words : List (List ℕ)) → SeenOf these words false false before after random random' → SealsWith old words (λ base next. StandsOn next new × Replaces true old.key old.name base next before after × StandsNext old.key old.name base next before after) → {nonce : List ℕ} {tree : TreeState}
       → new ≡ record old { nonce = nonce; drawn = None; tree = tree; changed = false } → new.tree.dirty ≡ [] → result ≡ Ok tt → FlushEnds result old new before after random random'
 
 -- how a flush ended: no word came; or it sealed and failed; or it sealed
@@ -132,7 +134,9 @@ module _ (old : SessionState) (mine : IsOfScript old) (new : SessionState) (befo
   seal_ends result nonce keys came (flushed mid is_done beside settled seals same said) =
       was_ended _ (came.words ++ keys)
       (record { told = is_done.asked.told; taken = came.took.told; on_host = is_done.asked.faults; on_words = came.took.calm })
-      (λ base linked backed. let on = seals base linked backed in (on.next, seals_own true nonce keys base came on, (on.on_next refl, on.named mine.named)))
+      (λ base linked backed.
+      let on = seals base linked backed in
+      (on.next, seals_own true nonce keys base came on, (on.on_next refl, on.named mine.named, subst (λ (n : Name). StandsNext old.key n base on.next before after) (file_named old mine) (on.stands refl))))
       same settled.dirty said
 
   pub flush_ends : (result : Result (Unit {0}) FlushFault) → FlushGoes result old new before after random random' → FlushEnds result old new before after random random'

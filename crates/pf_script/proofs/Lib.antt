@@ -39,6 +39,7 @@ pub mod Flushed
 pub mod SeatCalls
 pub mod FlushLine
 pub mod OverGiven
+pub mod OverFiles
 pub mod Under
 pub mod FlushUnder
 pub mod CloseUnder
@@ -50,9 +51,11 @@ pub mod OpenLine
 pub mod ReadUnder
 pub mod ChangeLeft
 pub mod ChangeUnder
+pub mod ChangeOver
 pub mod LineUnder
 pub mod WriteUnder
 pub mod SizeLeft
+pub mod SizeOver
 pub mod SizeUnder
 pub mod MoveUnder
 pub mod MoveOver
@@ -60,6 +63,8 @@ pub mod MoveTurns
 pub mod CloseLine
 pub mod Sparing
 pub mod Desking
+pub mod DeskLooks
+pub mod DeskOver
 pub mod DeskUnder
 pub mod DrawLine
 pub mod StepFacts
@@ -77,6 +82,7 @@ pub mod DeskLine
 pub mod BlankLine
 pub mod MoveLine
 pub mod BookRunning
+pub mod FilesRunning
 pub mod OneRules
 pub mod OneLike
 pub mod OneWords

@@ -1,5 +1,5 @@
 -- A line that is one change, under a book.
-use Rattle.std.proofs.Common.{◌≡◌, inl, Bool, true, false, List, [], ◌∷◌, ℕ, refl, sym, ◌∙◌, ap, subst, Option, Some, length}
+use Rattle.std.proofs.Common.{◌≡◌, inl, Bool, true, false, List, [], ◌∷◌, ℕ, refl, sym, subst, Option, Some, length}
 use Rattle.std.proofs.lemmas.List.Elements.{Contains-push}
 use Rattle.std.specs.Prelude.{Contains}
 use Rattle.node_tree.specs.Applying.{Step}
@@ -7,20 +7,20 @@ use Rattle.node_tree.specs.Backing.{now}
 use Rattle.node_tree.specs.Sheet.{Sheet}
 use Rattle.pf_io.specs.Disk.{Name, IsImage, reading}
 use Rattle.pf_io.specs.Host.{Answer, HostState, OnDisk, ReadsAsImage}
-use Rattle.pf_io.specs.Moments.{Honest}
+use Rattle.pf_io.specs.Moments.{Honest, Ran}
 use Rattle.pf_io.specs.Words.{WordsState}
-use Rattle.pf_session.specs.Aside.{Aside}
+use Rattle.pf_session.specs.Aside.{Aside, LeavesApart, KeepsApart}
 use Rattle.pf_session.specs.State.{SessionState}
-use Rattle.pf_script.specs.Book.{Book, Entry, Seal, Agrees}
-use Rattle.pf_script.specs.BookDebts.{DidAll, seat_of}
+use Rattle.pf_script.specs.Book.{Book, Seal, Agrees}
+use Rattle.pf_script.specs.BookDebts.{seat_of}
 use Rattle.pf_script.specs.BookSeats.{Covers, KeepsUnder}
 use Rattle.pf_script.specs.BookTurns.{of_book, LineUnder, SeatBooked}
-use Rattle.pf_script.specs.FileTurns.{stands_on, answers_of, SeatOver}
+use Rattle.pf_script.specs.FileTurns.{stands_on}
 use Rattle.pf_script.specs.Desk.{IsSeated, seat_on}
 use Rattle.pf_script.specs.Rules.{NoneRefuses, rules}
-use Rattle.pf_script.specs.Script.{OwnSeat, Own}
+use Rattle.pf_script.specs.Script.{Own}
 use Rattle.pf_script.specs.SeatReplies.{flush_reply}
-use Rattle.pf_script.specs.SeatSteps.{AsksFor, MakesAll}
+use Rattle.pf_script.specs.SeatSteps.{AsksFor}
 use Rattle.pf_script.specs.Turns.{Seen, Standing, SeatTurn, IsChangeReply, accepted, changed, flushes}
 use Rattle.pf_script.specs.declared.line.ScriptLine.{ScriptLine}
 use Rattle.pf_script.specs.declared.reply.Reply.{Reply}
@@ -30,11 +30,12 @@ use Rattle.pf_script.proofs.CallKeeping.{read_image}
 use Rattle.pf_script.proofs.ChangeLeft.{ChangeIn}
 use Rattle.pf_script.proofs.ChangeLine.{outcome_reply, none_made}
 use Rattle.pf_script.proofs.ChangeTold.{Outcome, Went, Broke, Lacked, Wanted, Grew}
+use Rattle.pf_script.proofs.ChangeOver.{begins_over, change_over, ends_over, on_files}
 use Rattle.pf_script.proofs.ChangeUnder.{Progress, Fell, change_known}
-use Rattle.pf_script.proofs.FilesLeft.{files_flushed}
 use Rattle.pf_script.proofs.Flushed.{host_blamed, fault_of}
+use Rattle.pf_script.proofs.OverGiven.{no_words_fault}
 use Rattle.pf_script.proofs.SeatCalls.{seen_by}
-use Rattle.pf_script.proofs.Under.{OnBase, on_disk}
+use Rattle.pf_script.proofs.Under.{IsAnswered, idle_answered, blame_answered, OnBase, on_disk}
 
 -- the seat of a session that was opened before the line, on the sheet that its file stands for
 pub begins : (key : List ℕ) (line : ScriptLine) (seen : Seen) (reply : Reply) (old : SessionState) (whole : old.broken ≡ false) (new : Option SessionState) (a b : Honest) (book : Book) (seats : List Seal) (agrees : Agrees book seats a.now) (base : Sheet)
@@ -52,22 +53,12 @@ begins key line seen reply old whole new a b book seats agrees base on mine stan
   stood = on.stood;
 }
 
--- a line that was accepted and made these steps, over the files alone
-pub changed_over : (key : List ℕ) (line : ScriptLine) (reply : Reply) (own after : OwnSeat) (steps : List Step) (words : List (List ℕ)) (sheets : List Sheet) (book : Book) (seats left : List Seal) (a b : Honest)
-    → ((given : List Answer) → NoneRefuses (rules key false (Own own) line given)) → AsksFor line (length own.content) steps → MakesAll own steps words sheets after → IsChangeReply sheets line reply
-    → Agrees book seats a.now → IsImage a.now (reading a.now) → DidAll book seats (flushes own sheets) left a b → (entry : Entry) → book own.name ≡ Some entry
-    → SeatOver key false (Own own) line words reply (flushes own sheets) (Own after) (reading a.now) (reading b.now)
-changed_over key line reply own after steps words sheets book seats left a b passes asks makes replies agrees image did entry was = record {
-  turn = accepted (passes (answers_of (reading a.now) line)) (record { host = refl; random = refl }) (changed own after line reply steps sheets asks makes replies);
-  files = files_flushed own sheets book seats left a b agrees image did entry was;
-}
-
 module _ (key : List ℕ) (line : ScriptLine) (old new : SessionState) (seated : IsSeated key old) where
   -- a line that ended with a fault
-  pub fell_under : (seen : Seen) (reply : Reply) (these : List Answer) (words : List (List ℕ)) (of_host of_words : Bool) → seen ≡ seen_by these words of_host of_words → (a b : Honest) (book : Book) (seats : List Seal) (agrees : Agrees book seats a.now) (base : Sheet)
+  pub fell_under : (seen : Seen) (reply : Reply) → IsAnswered reply → (these : List Answer) (words : List (List ℕ)) (of_host of_words : Bool) → seen ≡ seen_by these words of_host of_words → (a b : Honest) (book : Book) (seats : List Seal) (agrees : Agrees book seats a.now) (base : Sheet)
       (image : IsImage a.now (reading a.now)) → Fell key (seat_on base old) line book seats a agrees image base seated.of_script.is_target (stands_on key (reading a.now)) b new words of_host of_words reply
       → LineUnder key false line seen reply (Some old) (Some new) book seats (Own (seat_on base old)) a b
-  fell_under seen reply these words of_host of_words is a b book seats agrees base image fell = record {
+  fell_under seen reply answered these words of_host of_words is a b book seats agrees base image fell = record {
     acts = fell.acts;
     left = fell.left;
     after = fell.after;
@@ -75,23 +66,23 @@ module _ (key : List ℕ) (line : ScriptLine) (old new : SessionState) (seated :
     shows = fell.shows;
     spares = fell.spares;
     concerned = λ n among. inl (fell.only n among);
+    idle = idle_answered reply answered fell.acts;
     turn = λ _. subst (λ (s : Seen). SeatTurn (stands_on key (reading a.now)) key false (Own (seat_on base old)) line s reply fell.acts fell.after) (sym is) (fell.turn these);
-    over = λ _ calm. absurd (fell.failed (ap (λ (s : Seen). s.host_failed) (sym is) ∙ calm.host) (ap (λ (s : Seen). s.words_failed) (sym is) ∙ calm.random));
   }
 
 module _ (key : List ℕ) (line : ScriptLine) (old new : SessionState) (seated : IsSeated key old) (whole : old.broken ≡ false) (before after : HostState) (random random' : WordsState)
     (keeps : OnDisk before after (KeepsUnder (Covers old) (Covers new) (λ name. name ≡ old.name))) (aside : Aside old.name before after) (reads : ReadsAsImage after) where
   module _ (step : Step) (replied : Bool → Reply) (asks : (size : ℕ) → AsksFor line size (step ∷ []))
-      (replies_to : (flushed : Bool) (sheets : List Sheet) → Grew flushed [] sheets → IsChangeReply sheets line (replied flushed)) (passes : (base : Sheet) (given : List Answer) → NoneRefuses (rules key false (Own (seat_on base old)) line given)) where
+      (replies_to : (flushed : Bool) (sheets : List Sheet) → Grew flushed [] sheets → IsChangeReply sheets line (replied flushed)) (passes : (base : Sheet) (given : List Answer) → NoneRefuses (rules key false (Own (seat_on base old)) line given)) (answered : (flushed : Bool) → IsAnswered (replied flushed)) where
     pub line_under : (outcome : Outcome) → ChangeIn step old new outcome before after random random' → SeatBooked key false line (outcome_reply replied outcome) (Some old) (Some new) before after random random'
     line_under (Went flushed) is = record {
       seen = seen_by is.these is.words false false;
       was_seen = record { answers = is.told; words = is.taken; of_host = is.on_host; of_words = is.on_words };
-      under = on_disk key false line (seen_by is.these is.words false false) (replied flushed) old whole (Some new) before after keeps aside
+      under = on_disk key false line (seen_by is.these is.words false false) (replied flushed) old whole (Some new) before after (answered flushed) keeps aside
           (λ a b is_a is_b ran book seats agrees base on.
           let own = seat_on base old in
           let standing = stands_on key (reading a.now) in
-          let out = change_known key own line book seats a agrees on.image base seated.of_script.is_target standing a b old new [] [] is.words [] base step [] (asks (length (now base old.tree))) seated.of_script
+          let out = change_known key own line book seats a agrees on.image base seated.of_script.is_target standing a b old new [] [] is.words [] base step [] (asks (length (now base old.tree))) (passes base) seated.of_script
           (begins key line (seen_by is.these is.words false false) (replied flushed) old whole (Some new) a b book seats agrees base on seated standing) before after is_a is_b ran (read_image after.honest b is_b reads) (Went flushed) is.left in
           let then = out.progress_now in record {
             acts = flushes own out.sheets_now;
@@ -102,33 +93,43 @@ module _ (key : List ℕ) (line : ScriptLine) (old new : SessionState) (seated :
                 (subst (λ (k : List ℕ). Contains then.left (seat_of k new.name out.base_now)) (sym then.was.key_is) (subst (λ (n : Name). Contains then.left (seat_of old.key n out.base_now)) (sym then.was.name_is) then.seated)) then.was.kept refl refl;
             spares = then.spares;
             concerned = λ n among. inl (then.only n among);
+            idle = idle_answered (replied flushed) (answered flushed) (flushes own out.sheets_now);
             turn = λ _.
                 accepted (passes base is.these) (record { host = refl; random = refl })
                 (changed own (seat_on out.base_now new) line (replied flushed) (step ∷ []) out.sheets_now (asks (length (now base old.tree))) then.was.makes (replies_to flushed out.sheets_now out.grew));
-            over = λ _ calm.
-                changed_over key line (replied flushed) own (seat_on out.base_now new) (step ∷ []) is.words out.sheets_now book seats then.left a b (passes base) (asks (length (now base old.tree))) then.was.makes
-                (replies_to flushed out.sheets_now out.grew) agrees on.image then.did on.entry on.was;
           });
+      over = on_files (Ran (LeavesApart old.name) (KeepsApart old.name)) key line (seen_by is.these is.words false false) (replied flushed) old whole new before after aside
+          (λ a b is_a is_b ran calm base on.
+          let own = seat_on base old in
+          let out = change_over own (reading a.now) base key line a b old new [] [] is.words [] base step seated.of_script (begins_over key line (seen_by is.these is.words false false) (replied flushed) old whole new a b base on) before after is_a is_b ran
+          (Went flushed) is.left in
+          ends_over key line is.these (replied flushed) own base new a b (step ∷ []) is.words out.sheets_now out.base_now out.over_now (passes base) (asks (length (now base old.tree))) (replies_to flushed out.sheets_now out.grew));
     }
     line_under (Broke blame) is = record {
       seen = seen_by is.these is.words (host_blamed blame) false;
       was_seen = record { answers = is.told; words = is.taken; of_host = is.on_host; of_words = is.on_words };
-      under = on_disk key false line (seen_by is.these is.words (host_blamed blame) false) (flush_reply (fault_of blame)) old whole (Some new) before after keeps aside
+      under = on_disk key false line (seen_by is.these is.words (host_blamed blame) false) (flush_reply (fault_of blame)) old whole (Some new) before after (blame_answered blame) keeps aside
           (λ a b is_a is_b ran book seats agrees base on.
           let standing = stands_on key (reading a.now) in
-          fell_under key line old new seated (seen_by is.these is.words (host_blamed blame) false) (flush_reply (fault_of blame)) is.these is.words (host_blamed blame) false refl a b book seats agrees base on.image
-          (change_known key (seat_on base old) line book seats a agrees on.image base seated.of_script.is_target standing a b old new [] [] is.words [] base step [] (asks (length (now base old.tree))) seated.of_script
+          fell_under key line old new seated (seen_by is.these is.words (host_blamed blame) false) (flush_reply (fault_of blame)) (blame_answered blame) is.these is.words (host_blamed blame) false refl a b book seats agrees base on.image
+          (change_known key (seat_on base old) line book seats a agrees on.image base seated.of_script.is_target standing a b old new [] [] is.words [] base step [] (asks (length (now base old.tree))) (passes base) seated.of_script
           (begins key line (seen_by is.these is.words (host_blamed blame) false) (flush_reply (fault_of blame)) old whole (Some new) a b book seats agrees base on seated standing) before after is_a is_b ran (read_image after.honest b is_b reads)
           (Broke blame) is.left));
+      over = on_files (Ran (LeavesApart old.name) (KeepsApart old.name)) key line (seen_by is.these is.words (host_blamed blame) false) (flush_reply (fault_of blame)) old whole new before after aside
+          (λ a b is_a is_b ran calm base on.
+          absurd
+          (change_over (seat_on base old) (reading a.now) base key line a b old new [] [] is.words [] base step seated.of_script
+          (begins_over key line (seen_by is.these is.words (host_blamed blame) false) (flush_reply (fault_of blame)) old whole new a b base on) before after is_a is_b ran (Broke blame) is.left calm.host));
     }
     line_under Lacked is = record {
       seen = seen_by is.these is.words false true;
       was_seen = record { answers = is.told; words = is.taken; of_host = is.on_host; of_words = is.on_words };
-      under = on_disk key false line (seen_by is.these is.words false true) replies.WordsFault old whole (Some new) before after keeps aside
+      under = on_disk key false line (seen_by is.these is.words false true) replies.WordsFault old whole (Some new) before after tt keeps aside
           (λ a b is_a is_b ran book seats agrees base on.
           let standing = stands_on key (reading a.now) in
-          fell_under key line old new seated (seen_by is.these is.words false true) replies.WordsFault is.these is.words false true refl a b book seats agrees base on.image
-          (change_known key (seat_on base old) line book seats a agrees on.image base seated.of_script.is_target standing a b old new [] [] is.words [] base step [] (asks (length (now base old.tree))) seated.of_script
+          fell_under key line old new seated (seen_by is.these is.words false true) replies.WordsFault tt is.these is.words false true refl a b book seats agrees base on.image
+          (change_known key (seat_on base old) line book seats a agrees on.image base seated.of_script.is_target standing a b old new [] [] is.words [] base step [] (asks (length (now base old.tree))) (passes base) seated.of_script
           (begins key line (seen_by is.these is.words false true) replies.WordsFault old whole (Some new) a b book seats agrees base on seated standing) before after is_a is_b ran (read_image after.honest b is_b reads) Lacked is.left));
+      over = on_files (Ran (LeavesApart old.name) (KeepsApart old.name)) key line (seen_by is.these is.words false true) replies.WordsFault old whole new before after aside (λ a b is_a is_b ran calm base on. absurd (no_words_fault calm));
     }
     line_under Wanted is = tt

@@ -82,7 +82,7 @@ module _ (key : List ℕ) (old : SessionState) (seated : IsSeated key old) (whol
         taken = seen.taken;
         on_host = seen.on_host;
         on_words = seen.on_words;
-        left = one_flush changed seals same dirty aside reads;
+        left = one_flush changed (λ base linked backed. let on = seals base linked backed in (on.0, on.1, (on.2.0, on.2.1))) same dirty aside reads;
       }
 
   -- on a base that the file stands for

@@ -1,7 +1,7 @@
 -- What is made or changed by a call is a session of a script, where it was one.
-use Rattle.std.proofs.Common.{◌≡◌, false, List, ℕ, refl, sym, ◌∙◌, ap, subst, Result, Ok, Err}
+use Rattle.std.proofs.Common.{◌≡◌, false, List, ℕ, refl, sym, ◌∙◌, ap, subst, Result, Ok, Err, cond}
 use Rattle.pf_io.specs.Disk.{Name}
-use Rattle.pf_io.specs.Names.{IsTarget}
+use Rattle.pf_io.specs.Names.{IsTarget, side_of}
 use Rattle.pf_io.specs.Host.{HostState}
 use Rattle.pf_io.specs.Words.{WordsState}
 use Rattle.pf_io.specs.declared.faults.WordsFault.{WordsFault}
@@ -13,11 +13,15 @@ use Rattle.pf_session.specs.Drawing.{DrawGoes, drawn_before, drawn_now, not_draw
 use Rattle.pf_session.specs.Flushing.{FlushGoes, no_words, had_words, SealGoes, node_short, call_failed, flushed}
 use Rattle.pf_session.specs.Moving.{MoveGoes, misnamed, no_memory, look_up_failed, was_there, no_words as lacks_words, not_flushed as first_failed, not_moved, moved, FlushesFirst, as_it_is, flushed as first_flush}
 use Rattle.pf_session.specs.Reading.{KeepsFields}
-use Rattle.pf_session.specs.State.{SessionState}
+use Rattle.pf_session.specs.State.{SessionState, file_of}
 use Rattle.pf_session.specs.declared.fault.FlushFault.{FlushFault}
 use Rattle.pf_session.specs.declared.fault.MoveFault.{MoveFault}
 use Rattle.pf_session.specs.declared.fault.Written.{Written}
 use Rattle.pf_script.specs.BookSeats.{IsOfScript}
+
+-- its file is at its name
+pub file_named : (old : SessionState) → IsOfScript old → file_of old ≡ old.name
+file_named old mine = ap (λ b. cond b (side_of old.name) old.name) mine.named
 
 pub of_created : (key name nonce : List ℕ) → AreNamed name name → IsOfScript (fresh key name name nonce false)
 of_created key name nonce good = record { is_target = good.is_target; path_is = refl; named = refl }

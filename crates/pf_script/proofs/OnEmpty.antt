@@ -18,7 +18,7 @@ use Rattle.pf_script.specs.BookActs.{Act}
 use Rattle.pf_script.specs.BookDebts.{Unchanged}
 use Rattle.pf_script.specs.BookSeats.{CoversNone, KeepsUnder}
 use Rattle.pf_script.specs.BookTurns.{no_file, LineUnder, SeatUnder, SeatBooked}
-use Rattle.pf_script.specs.FileTurns.{stands_on, seen_over}
+use Rattle.pf_script.specs.FileTurns.{stands_on, seen_over, no_file as no_file_over, ReopensOpened, LineOver, SeatFiles}
 use Rattle.pf_script.specs.Desk.{IsSeatOf, Shows, no_file as no_file_now}
 use Rattle.pf_script.specs.DeskSteps.{Unfolds, SeatTurns, SeatAsks, CountsFault, CoversSome, Concerns, Spares, HasItsName, SeatGoes, TakesNone, is_host_fault, is_words_fault}
 use Rattle.pf_script.specs.Rules.{Rule, IsFirst, NoneRefuses, seating_rules}
@@ -38,7 +38,7 @@ use Rattle.pf_script.proofs.SeatCalls.{seen_by}
 use Rattle.pf_script.proofs.Showing.{shows_none, shows_some}
 use Rattle.pf_script.proofs.Sparing.{spares_none, spares_kept, spares_aside}
 use Rattle.pf_script.proofs.StepKeeping.{keeps_more}
-use Rattle.pf_script.proofs.Under.{LooksLike, looks_like}
+use Rattle.pf_script.proofs.Under.{LooksLike, looks_like, looks_over, idle_none}
 
 -- the rules of a new file on a free seat, where no other seat has the name
 pub seat_first : (rest : List Rule) (why : Why) → IsFirst rest why → IsFirst (seating_rules false Empty ++ rest) why
@@ -148,14 +148,18 @@ module _ (key : List ℕ) (line : ScriptLine) (name : Name) (names : name_of_lin
   empty_under seen reply new a b under book seats seat agrees reads shows =
       subst (λ (x : Seat). LineUnder key false line seen reply None new book seats x a b) (sym (looks_like book seats seat None shows)) (under book seats agrees reads)
 
+  -- over files the seat is empty
+  pub empty_over : (seen : Seen) (reply : Reply) (new : Option SessionState) (a b : Honest) → (Failed seen false false → ReopensOpened key (reading a.now) line reply → LineOver key false line seen reply new Empty a b) → SeatFiles key false line seen reply None new a b
+  empty_over seen reply new a b over seat calm shows opened =
+      subst (λ (x : Seat). LineOver key false line seen reply new x a b) (sym (looks_over (reading a.now) seat None shows)) (over calm opened)
+
   -- the turn of the line by the answers of the files, by which the seat stays empty
   abbrev pub TurnsOver : Files → List (List ℕ) → Reply → Type 0
   TurnsOver files words reply = SeatTurn (stands_on key files) key false Empty line (seen_over files line words) reply [] Empty
 
   -- nothing was changed, and the seat stays empty
-  pub not_there : (seen : Seen) (reply : Reply) (a b : Honest) → Unchanged a b → SeatTurn (stands_on key (reading a.now)) key false Empty line seen reply [] Empty
-      → (Failed seen false false → TurnsOver (reading a.now) seen.words reply) → SeatUnder key false line seen reply None None a b
-  not_there seen reply a b only turn over =
+  pub not_there : (seen : Seen) (reply : Reply) (a b : Honest) → Unchanged a b → SeatTurn (stands_on key (reading a.now)) key false Empty line seen reply [] Empty → SeatUnder key false line seen reply None None a b
+  not_there seen reply a b only turn =
       empty_under seen reply None a b
       (λ book seats agrees reads. record {
         acts = [];
@@ -165,8 +169,18 @@ module _ (key : List ℕ) (line : ScriptLine) (name : Name) (names : name_of_lin
         shows = no_file refl refl;
         spares = λ s has apart. has;
         concerned = λ n none. absurd none;
+        idle = idle_none reply;
         turn = λ _. turn;
-        over = λ knows calm. over_idle key false Empty line seen.words reply Empty a b only (over calm);
+      })
+
+  pub not_there_over : (seen : Seen) (reply : Reply) (a b : Honest) → Unchanged a b → (Failed seen false false → TurnsOver (reading a.now) seen.words reply) → SeatFiles key false line seen reply None None a b
+  not_there_over seen reply a b only turn =
+      empty_over seen reply None a b
+      (λ calm opened. record {
+        acts = [];
+        after = Empty;
+        over = over_idle key false Empty line seen.words reply Empty a b only (turn calm);
+        shows = no_file_over refl refl;
       })
 
   -- on any host, acts that do not depend on what was sealed
@@ -191,6 +205,8 @@ module _ (key : List ℕ) (line : ScriptLine) (name : Name) (names : name_of_lin
       seen = seen_by these words of_host of_words;
       was_seen = seen_in these words of_host of_words before after random random' seen;
       under = both_with Unchanged (SeatUnder key false line (seen_by these words of_host of_words) reply None None) before.honest after.honest only
-          (λ a b is is2 only_ab. not_there (seen_by these words of_host of_words) reply a b only_ab (turn _) (over a is));
+          (λ a b is is2 only_ab. not_there (seen_by these words of_host of_words) reply a b only_ab (turn _));
+      over = both_with Unchanged (SeatFiles key false line (seen_by these words of_host of_words) reply None None) before.honest after.honest only
+          (λ a b is is2 only_ab. not_there_over (seen_by these words of_host of_words) reply a b only_ab (over a is));
     };
   }

@@ -17,13 +17,13 @@ use Rattle.pf_script.proofs.OneLike.{LikeOwn, LikeSeat, both_empty, both_own, Li
 use Rattle.pf_script.proofs.OneWords.{front_one, rest_one, seals_words, seals_sheet, moved_words, moved_sheet, empty_words, empty_like}
 use Rattle.pf_script.proofs.OneSteps.{LikeSteps, steps_one, asked_one, resealed_like}
 
-pub new_like : (key : List ℕ) (name : Name) (sheet base : Sheet) → LikeSheet sheet base → LikeOwn key (new_seat key name sheet) (new_seat key name base)
+pub new_like : (key : List ℕ) (name : Name) (sheet base : Sheet) → LikeSheet name sheet base → LikeOwn key (new_seat key name sheet) (new_seat key name base)
 new_like key name sheet base like = record { key_is = refl; other_key = refl; name = refl; content = like.content; dirty = refl; changed = refl; drawn = refl; broken = refl }
 
-own_seal : (key : List ℕ) (own other : OwnSeat) (sheet base : Sheet) → LikeOwn key own other → LikeSheet sheet base → LikeSeal key (seat_of own.key own.name sheet) (seat_of other.key other.name base)
+own_seal : (key : List ℕ) (own other : OwnSeat) (sheet base : Sheet) → LikeOwn key own other → LikeSheet own.name sheet base → LikeSeal key (seat_of own.key own.name sheet) (seat_of other.key other.name base)
 own_seal key own other sheet base like sheets = record { key_is = like.key_is; other_key = like.other_key; name = like.name; sheet = sheets }
 
-flushes_like : (key : List ℕ) (own other : OwnSeat) (sheets bases : List Sheet) → LikeOwn key own other → LikeSheets sheets bases → LikeActs key (flushes own sheets) (flushes other bases)
+flushes_like : (key : List ℕ) (own other : OwnSeat) (sheets bases : List Sheet) → LikeOwn key own other → LikeSheets own.name sheets bases → LikeActs key (flushes own sheets) (flushes other bases)
 flushes_like key own other [] [] like sheets_like = tt
 flushes_like key own other [] (base ∷ bases) like sheets_like = absurd sheets_like
 flushes_like key own other (sheet ∷ sheets) [] like sheets_like = absurd sheets_like
@@ -36,16 +36,16 @@ acts_more key [] (other ∷ others) more rest like behind = absurd like
 acts_more key (act ∷ acts) [] more rest like behind = absurd like
 acts_more key (act ∷ acts) (other ∷ others) more rest like behind = (like.0, acts_more key acts others more rest like.1 behind)
 
-some_same : (sheets bases : List Sheet) → LikeSheets sheets bases → some_sheet sheets ≡ some_sheet bases
-some_same [] [] like = refl
-some_same [] (base ∷ bases) like = absurd like
-some_same (sheet ∷ sheets) [] like = absurd like
-some_same (sheet ∷ sheets) (base ∷ bases) like = refl
+some_same : (name : Name) (sheets bases : List Sheet) → LikeSheets name sheets bases → some_sheet sheets ≡ some_sheet bases
+some_same name [] [] like = refl
+some_same name [] (base ∷ bases) like = absurd like
+some_same name (sheet ∷ sheets) [] like = absurd like
+some_same name (sheet ∷ sheets) (base ∷ bases) like = refl
 
-reply_same : (sheets bases : List Sheet) (line : ScriptLine) (reply say : Reply) → LikeSheets sheets bases → IsChangeReply sheets line reply → IsChangeReply bases line say → reply ≡ say
-reply_same sheets bases line reply say like (to_write k at bytes) (to_write j place these) = ap (replies.Written (length bytes)) (some_same sheets bases like)
-reply_same sheets bases line reply say like (to_fill k at count byte) (to_fill j place many this) = ap (replies.Written count) (some_same sheets bases like)
-reply_same sheets bases line reply say like (to_size k n) (to_size j m) = refl
+reply_same : (name : Name) (sheets bases : List Sheet) (line : ScriptLine) (reply say : Reply) → LikeSheets name sheets bases → IsChangeReply sheets line reply → IsChangeReply bases line say → reply ≡ say
+reply_same name sheets bases line reply say like (to_write k at bytes) (to_write j place these) = ap (replies.Written (length bytes)) (some_same name sheets bases like)
+reply_same name sheets bases line reply say like (to_fill k at count byte) (to_fill j place many this) = ap (replies.Written count) (some_same name sheets bases like)
+reply_same name sheets bases line reply say like (to_size k n) (to_size j m) = refl
 
 -- two steps on one line
 module _ (S T : Standing) (key : List ℕ) (seen saw : Seen) (left rest : List (List ℕ)) (stream : seen.words ++ left ≡ saw.words ++ rest) where
@@ -80,7 +80,7 @@ module _ (S T : Standing) (key : List ℕ) (seen saw : Seen) (left rest : List (
       let one = asked_one line (length own.content) steps more asks there in
       let made = steps_one key own other after ends steps seen.words saw.words left rest sheets bases like stream makes (subst (λ (l : List Step). MakesAll other l saw.words bases ends) (sym one) makes') in
       record {
-        reply_is = reply_same sheets bases line reply say made.sheets_are replied replied';
+        reply_is = reply_same own.name sheets bases line reply say made.sheets_are replied replied';
         words_are = made.words_are;
         acts_are = flushes_like key own other sheets bases like made.sheets_are;
         seat_is = both_own after ends made.seat_is;
@@ -161,14 +161,15 @@ module _ (S T : Standing) (key : List ℕ) (seen saw : Seen) (left rest : List (
 
   -- the flush before a move
   to_move_one : (own mine mid till : OwnSeat) (words takes beyond behind : List (List ℕ)) (sheets bases : List Sheet) → LikeOwn key own mine → words ++ beyond ≡ takes ++ behind
-      → FlushedToMove own words sheets mid → FlushedToMove mine takes bases till → LikeSteps key words takes sheets bases mid till
-  to_move_one own mine mid till words takes beyond behind sheets bases like same (as_it_was idle) (as_it_was idle') = record { words_are = refl; sheets_are = tt; seat_is = like }
+      → FlushedToMove own words sheets mid → FlushedToMove mine takes bases till → LikeSteps key own.name words takes sheets bases mid till
+  to_move_one own mine mid till words takes beyond behind sheets bases like same (as_it_was idle) (as_it_was idle') = record { words_are = refl; sheets_are = tt; seat_is = like; named = refl }
   to_move_one own mine mid till words takes beyond behind sheets bases like same (as_it_was idle) (was_changed w base was seals) = let e : true ≡ false = sym was ∙ sym like.changed ∙ idle in absurd (cc)
   to_move_one own mine mid till words takes beyond behind sheets bases like same (was_changed w sheet was seals) (as_it_was idle) = let e : true ≡ false = sym was ∙ like.changed ∙ idle in absurd (cc)
   to_move_one own mine mid till words takes beyond behind sheets bases like same (was_changed w sheet was seals) (was_changed v base was' seals') = record {
     words_are = seals_words key own mine like words takes beyond behind sheet base seals seals' same;
     sheets_are = (seals_sheet key own mine like words takes sheet base seals seals', tt);
     seat_is = resealed_like key own mine sheet base like;
+    named = refl;
   }
 
   pub move_one : (k : ℕ) (name : Name) (seat other : Seat) (reply say : Reply) (acts others : List Act) (after ends : Seat) → LikeSeat key seat other

@@ -80,6 +80,6 @@ pub line_ends : (key : List ℕ) (taken : Bool) (files : Files) (words : List (L
     → SeatTurn (stands_on key files) key taken seat line (seen_over files line words) reply acts after → LineEnds key taken files words seat line reply acts after
 line_ends key taken files words seat after line reply acts (refused why first failed no_word is no_act same) = by_rule seat after line reply acts why first no_word is no_act same
 line_ends key taken files words seat after line reply acts (accepted none failed accepts) = by_line seat after line reply acts none accepts
-line_ends key taken files words seat after line reply acts (host_failed failed fails is) = let e : false ≡ true = failed.host in absurd (cc)
+line_ends key taken files words seat after line reply acts (host_failed none failed fails is) = let e : false ≡ true = failed.host in absurd (cc)
 line_ends key taken files words seat after line reply acts (was_damaged damage none failed fails is) = damage_ends key taken files words seat after line reply acts damage none is fails
-line_ends key taken files words seat after line reply acts (words_failed failed loses is) = let e : false ≡ true = failed.random in absurd (cc)
+line_ends key taken files words seat after line reply acts (words_failed none failed loses is) = let e : false ≡ true = failed.random in absurd (cc)

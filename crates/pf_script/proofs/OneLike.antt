@@ -8,9 +8,10 @@ use Rattle.pf_script.specs.BookActs.{Deed, Opening, Creation, Flush, Move, Act}
 use Rattle.pf_script.specs.Script.{OwnSeat, Seat, Empty, Own, ScriptState, seat_at}
 use Rattle.pf_script.specs.declared.reply.Reply.{Reply}
 
--- sheets of one path and content
-pub record LikeSheet (sheet other : Sheet) : Type 0 where
-  pub path : sheet.path ≡ other.path
+-- sheets of one content, with this path
+pub record LikeSheet (name : Name) (sheet other : Sheet) : Type 0 where
+  pub path : sheet.path ≡ name
+  pub other_path : other.path ≡ name
   pub content : sheet.content ≡ other.content
 
 -- seats under this key that differ in their sheets alone
@@ -38,7 +39,7 @@ pub record LikeSeal (key : List ℕ) (seal other : Seal) : Type 0 where
   pub key_is : seal.key ≡ key
   pub other_key : other.key ≡ key
   pub name : seal.name ≡ other.name
-  pub sheet : LikeSheet seal.sheet other.sheet
+  pub sheet : LikeSheet seal.name seal.sheet other.sheet
 
 pub data LikeDeed (key : List ℕ) : Deed → Deed → Type 0 where
   openings : (seal other : Seal) → LikeSeal key seal other → LikeDeed key (Opening seal) (Opening other)
@@ -52,23 +53,23 @@ LikeActs key [] (other ∷ others) = ⊥
 LikeActs key (act ∷ acts) [] = ⊥
 LikeActs key (act ∷ acts) (other ∷ others) = LikeDeed key act.deed other.deed × LikeActs key acts others
 
-abbrev pub LikeSheets : List Sheet → List Sheet → Type 0
-LikeSheets [] [] = Unit {0}
-LikeSheets [] (other ∷ others) = ⊥
-LikeSheets (sheet ∷ sheets) [] = ⊥
-LikeSheets (sheet ∷ sheets) (other ∷ others) = LikeSheet sheet other × LikeSheets sheets others
+abbrev pub LikeSheets : Name → List Sheet → List Sheet → Type 0
+LikeSheets name [] [] = Unit {0}
+LikeSheets name [] (other ∷ others) = ⊥
+LikeSheets name (sheet ∷ sheets) [] = ⊥
+LikeSheets name (sheet ∷ sheets) (other ∷ others) = LikeSheet name sheet other × LikeSheets name sheets others
 
--- a name has the same bytes, or files that stand for sheets of one path and content
-pub data LikeFile (key : List ℕ) (here there : Option (List ℕ)) : Type 0 where
-  same_bytes : here ≡ there → LikeFile key here there
-  both_stand : (file other : List ℕ) (sheet base : Sheet) → here ≡ Some file → there ≡ Some other → Stands file key sheet → Stands other key base → LikeSheet sheet base → LikeFile key here there
+-- a name has the same bytes, or files that stand for sheets of one content, with the name as path
+pub data LikeFile (key : List ℕ) (name : Name) (here there : Option (List ℕ)) : Type 0 where
+  same_bytes : here ≡ there → LikeFile key name here there
+  both_stand : (file other : List ℕ) (sheet base : Sheet) → here ≡ Some file → there ≡ Some other → Stands file key sheet → Stands other key base → LikeSheet name sheet base → LikeFile key name here there
 
 -- the name may be one of a protected file
 abbrev pub MayBeTarget : Name → Type 0
 MayBeTarget name = ¬ (¬ (IsTarget name))
 
 abbrev pub LikeFiles : List ℕ → Files → Files → Type 0
-LikeFiles key files others = (name : Name) → MayBeTarget name → LikeFile key (files name) (others name)
+LikeFiles key files others = (name : Name) → MayBeTarget name → LikeFile key name (files name) (others name)
 
 -- what two steps come to
 pub record LikeEnds (key : List ℕ) (reply say : Reply) (words takes : List (List ℕ)) (acts others : List Act) (after left : Seat) : Type 0 where

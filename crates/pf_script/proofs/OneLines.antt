@@ -19,9 +19,9 @@ use Rattle.pf_script.proofs.OneFiles.{like_sym, there_too, opening_alike}
 not_empty : (own : OwnSeat) → Own own ≡ Empty → ⊥
 not_empty own is = absurd (cc)
 
-some_too : (key : List ℕ) (here there : Option (List ℕ)) (size : ℕ) → LikeFile key here there → length_of here ≡ Some size → (more : ℕ) × (length_of there ≡ Some more)
-some_too key None there size like is = absurd (none-some size is)
-some_too key (Some file) there size like is = let other = there_too key (Some file) there file like refl in (length other.0, ap length_of other.1)
+some_too : (key : List ℕ) (name : Name) (here there : Option (List ℕ)) (size : ℕ) → LikeFile key name here there → length_of here ≡ Some size → (more : ℕ) × (length_of there ≡ Some more)
+some_too key name None there size like is = absurd (none-some size is)
+some_too key name (Some file) there size like is = let other = there_too key name (Some file) there file like refl in (length other.0, ap length_of other.1)
 
 length_is : (name : Name) (given : Option ℕ) (size : ℕ) → Contains (LengthWas name given ∷ []) (LengthWas name (Some size)) → given ≡ Some size
 length_is name given size (zero, within, is) = let e : LengthWas name given ≡ LengthWas name (Some size) = is in cc
@@ -30,17 +30,17 @@ length_is name given size (suc i, within, is) = absurd (omega arith)
 length_has : (name : Name) (given : Option ℕ) (size : ℕ) → given ≡ Some size → Contains (LengthWas name given ∷ []) (LengthWas name (Some size))
 length_has name given size is = (0, omega arith, ap (λ (g : Option ℕ). LengthWas name g) is)
 
-exists_too : (key : List ℕ) (name : Name) (here there : Option (List ℕ)) → LikeFile key here there → (size : ℕ) × Contains (LengthWas name (length_of here) ∷ []) (LengthWas name (Some size))
+exists_too : (key : List ℕ) (name : Name) (here there : Option (List ℕ)) → LikeFile key name here there → (size : ℕ) × Contains (LengthWas name (length_of here) ∷ []) (LengthWas name (Some size))
     → (size : ℕ) × Contains (LengthWas name (length_of there) ∷ []) (LengthWas name (Some size))
 exists_too key name here there like found =
-    let more = some_too key here there found.0 like (length_is name (length_of here) found.0 found.1) in
+    let more = some_too key name here there found.0 like (length_is name (length_of here) found.0 found.1) in
     (more.0, length_has name (length_of there) more.0 more.1)
 
-target_too : (key : List ℕ) (name : Name) (here there : Option (List ℕ)) → LikeFile key here there → (size : ℕ) × (others : List Answer) × (LengthWas name (length_of here) ∷ [] ≡ LengthWas name (Some size) ∷ others)
+target_too : (key : List ℕ) (name : Name) (here there : Option (List ℕ)) → LikeFile key name here there → (size : ℕ) × (others : List Answer) × (LengthWas name (length_of here) ∷ [] ≡ LengthWas name (Some size) ∷ others)
     → (size : ℕ) × (others : List Answer) × (LengthWas name (length_of there) ∷ [] ≡ LengthWas name (Some size) ∷ others)
 target_too key name here there like found =
     let is : LengthWas name (length_of here) ∷ [] ≡ LengthWas name (Some found.0) ∷ found.1 = found.2 in
-    let more = some_too key here there found.0 like (cc) in
+    let more = some_too key name here there found.0 like (cc) in
     (more.0, [], ap (λ (g : Option ℕ). LengthWas name g ∷ []) more.1)
 
 -- the rules of a seat that is to be empty
@@ -100,7 +100,7 @@ module _ (key : List ℕ) (key_length : length key ≡ 16) (files others : Files
         one_refusal whys.BadName _ _ (λ p. p) (λ p. p),
         λ none. (
           let may : MayBeTarget name = λ no. none whys.BadName (refl, no) in
-              one_refusal (whys.Exists name) _ _ (exists_too key name (files name) (others name) (like name may)) (exists_too key name (others name) (files name) (like_sym key (files name) (others name) (like name may))),
+              one_refusal (whys.Exists name) _ _ (exists_too key name (files name) (others name) (like name may)) (exists_too key name (others name) (files name) (like_sym key name (files name) (others name) (like name may))),
           λ no_second. tt,
         ),
       )
@@ -122,7 +122,7 @@ module _ (key : List ℕ) (key_length : length key ≡ 16) (files others : Files
           one_refusal whys.BadName _ _ (λ p. p) (λ p. p),
           λ none. (
             let may : MayBeTarget name = λ no. none whys.BadName (refl, no) in
-                one_refusal whys.TargetExists _ _ (target_too key name (files name) (others name) (like name may)) (target_too key name (others name) (files name) (like_sym key (files name) (others name) (like name may))),
+                one_refusal whys.TargetExists _ _ (target_too key name (files name) (others name) (like name may)) (target_too key name (others name) (files name) (like_sym key name (files name) (others name) (like name may))),
             λ no_fifth. tt,
           ),
         ),

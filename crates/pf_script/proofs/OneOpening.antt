@@ -17,7 +17,7 @@ use Rattle.pf_io.specs.Disk.{Name}
 use Rattle.pf_io.specs.Host.{Answer, LengthWas, Gave}
 use Rattle.pf_session.specs.Carries.{IsLast}
 use Rattle.pf_session.specs.Opening.{IsOpenable}
-use Rattle.pf_session.proofs.Backed.{last_there, path_same}
+use Rattle.pf_session.proofs.Backed.{path_same}
 use Rattle.pf_session.proofs.OpenStanding.{is_carried}
 use Rattle.pf_script.specs.FileTurns.{opening_answers}
 use Rattle.pf_script.specs.Rules.{Rule, refuses, other_version, other_path}
@@ -126,16 +126,11 @@ module _ (key : List ℕ) (key_length : length key ≡ 16) (name : Name) (file :
   block_is : (other : List ℕ) → IsLast name told other → other ≡ block
   block_is other last = last_one name (length file) block other last
 
-  -- the path that is refused is the sheet's
-  pub path_is : (why : Why) → other_path key name told why → (why ≡ whys.WrongPath sheet.path) × (name ≢ sheet.path)
+  -- it is refused only where the name is not the sheet's path
+  pub path_is : (why : Why) → other_path key name told why → name ≢ sheet.path
   path_is why r =
       let same = path_same key name block r.1 (subst (λ (b : List ℕ). OpensTo key b r.1) (block_is r.0 r.2) r.4) sheet stands.linked carried in
-      (r.6 ∙ ap whys.WrongPath (sym same), λ is. r.5 (is ∙ same))
-
-  pub path_refused : name ≢ sheet.path → (why : Why) × other_path key name told why
-  path_refused other =
-      let same = path_same key name block read.secret read.opens_to sheet stands.linked carried in
-      (whys.WrongPath read.secret.path, (block, read.secret, last_there name (length file) block, openable.whole, read.opens_to, (λ is. other (is ∙ sym same)), refl))
+      λ is. r.5 (is ∙ same)
 
   pub undamaged : (damage : Damage) → IsOpeningDamage key name told damage → ⊥
   undamaged damage (short_zero b last short is) = let e = ap (λ (l : List ℕ). length l) (block_is b last) in let whole = openable.whole in omega arith

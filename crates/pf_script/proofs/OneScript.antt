@@ -6,16 +6,17 @@ use Rattle.std.proofs.lemmas.Bool.{cases_lt, cases_eq}
 use Rattle.std.proofs.lemmas.List.{get_or-set_same, get_or-set_other, length-set}
 use Rattle.std.proofs.Math.ListN.{get_or-eq_default}
 use Rattle.std.proofs.lemmas.Option.{same_Some, none-some}
+use Rattle.node_tree.specs.Sheet.{Sheet}
 use Rattle.pf_io.specs.Disk.{Name, Files}
 use Rattle.pf_script.specs.BookActs.{Act}
-use Rattle.pf_script.specs.FileRuns.{RunsOver, OneRun}
+use Rattle.pf_script.specs.FileRuns.{RunsOver, AreAlike, in_bytes, in_content, SameButSheet, no_file, other_sheet, RunsAgree, OneRun}
 use Rattle.pf_script.specs.FileTurns.{stands_on, seen_over, TurnOver}
-use Rattle.pf_script.specs.Script.{Seat, Empty, ScriptState, seat_at, HasThisName, IsTaken, state_with, seat_of_line, name_of_line}
+use Rattle.pf_script.specs.Script.{OwnSeat, Seat, Empty, Own, ScriptState, seat_at, HasThisName, IsTaken, state_with, seat_of_line, name_of_line}
 use Rattle.pf_script.specs.ScriptRuns.{Exchange}
 use Rattle.pf_script.specs.Turns.{SeatTurn, SaysTaken, Turn, silent, on_seat}
 use Rattle.pf_script.specs.declared.line.ScriptLine.{ScriptLine}
 use Rattle.pf_script.specs.declared.reply.Reply.{Reply}
-use Rattle.pf_script.proofs.OneLike.{LikeSeat, both_empty, both_own, LikeState, LikeActs, LikeFiles, same_bytes}
+use Rattle.pf_script.proofs.OneLike.{LikeSeat, both_empty, both_own, LikeState, LikeActs, LikeFile, same_bytes, both_stand, LikeFiles}
 use Rattle.pf_script.proofs.OneWords.{rest_one}
 use Rattle.pf_script.proofs.OneFiles.{acts_leave}
 use Rattle.pf_script.proofs.OneEnds.{line_ends}
@@ -42,6 +43,24 @@ taken_one key state other k (Some name) taken told like one two =
     test_one taken told (IsTaken state k name) (IsTaken other k name) one two
     (λ is. (is.0, is.1, name_too key name (seat_at state is.0) (seat_at other is.0) (like.seats is.0) is.2))
     (λ is. (is.0, is.1, name_back key name (seat_at state is.0) (seat_at other is.0) (like.seats is.0) is.2))
+
+-- what is alike, in the words of the law
+file_alike : (key : List ℕ) (name : Name) (files others : Files) → LikeFile key name (files name) (others name) → AreAlike key name files others
+file_alike key name files others (same_bytes is) = in_bytes is
+file_alike key name files others (both_stand file other sheet base is is' stands stands' like) =
+    in_content sheet.content
+    (record { sheet = sheet; path_is = like.path; content_is = refl; as_sheet = record { file = file; whole = is; stands = stands } })
+    (record { sheet = base; path_is = like.other_path; content_is = sym like.content; as_sheet = record { file = other; whole = is'; stands = stands' } })
+
+abbrev own_with : List ℕ → Name → Sheet → List ℕ → List ℕ → Bool → Option (List ℕ) → Bool → OwnSeat
+own_with key name sheet content dirty changed drawn broken = record { key = key; name = name; sheet = sheet; content = content; dirty = dirty; changed = changed; drawn = drawn; broken = broken }
+
+seat_same : (key : List ℕ) (seat other : Seat) → LikeSeat key seat other → SameButSheet seat other
+seat_same key seat other both_empty = no_file
+seat_same key seat other (both_own own mine like) = subst (λ (s : OwnSeat). SameButSheet (Own own) (Own s)) same (other_sheet own mine.sheet)
+  where
+    same : own_with own.key own.name mine.sheet own.content own.dirty own.changed own.drawn own.broken ≡ mine
+    same = rw (like.key_is ∙ sym like.other_key) rw like.name rw like.content rw like.dirty rw like.changed rw like.drawn rw like.broken refl
 
 -- a seat that is set
 seat_set : (key : List ℕ) (seats others : List Seat) (k j : ℕ) (seat other : Seat) → length seats ≡ length others → ((i : ℕ) → LikeSeat key (get_or seats i Empty) (get_or others i Empty)) → LikeSeat key seat other
@@ -117,8 +136,14 @@ module _ (key : List ℕ) (key_length : length key ≡ 16) where
 
   runs_one : (exchanges those : List Exchange) (state other after ends : ScriptState) (files others new last : Files) (left rest : List (List ℕ)) → LikeState key state other → LikeFiles key files others
       → map (λ exchange. exchange.line) exchanges ≡ map (λ exchange. exchange.line) those → words_of exchanges ++ left ≡ words_of those ++ rest → RunsOver state exchanges files after new → RunsOver other those others ends last
-      → map (λ exchange. exchange.reply) exchanges ≡ map (λ exchange. exchange.reply) those
-  runs_one [] [] state other after ends files others new last left rest like alike lines_are stream one two = refl
+      → RunsAgree key exchanges those after ends new last
+  runs_one [] [] state other after ends files others new last left rest like alike lines_are stream one two =
+      record {
+        replies = refl;
+        words = refl;
+        seats = λ k. rw one.0 rw two.0 (seat_same key (seat_at state k) (seat_at other k) (like.seats k));
+        files = λ name target. rw one.1 rw two.1 (file_alike key name files others (alike name (λ none. none target)));
+      }
   runs_one [] (more ∷ those) state other after ends files others new last left rest like alike lines_are stream one two = absurd (cc)
   runs_one (exchange ∷ exchanges) [] state other after ends files others new last left rest like alike lines_are stream one two = absurd (cc)
   runs_one (exchange ∷ exchanges) (more ∷ those) state other after ends files others new last left rest like alike lines_are stream (acts, mid, between, turn, runs) (deeds, till, beyond, turn', runs') =
@@ -133,7 +158,12 @@ module _ (key : List ℕ) (key_length : length key ≡ 16) where
       let next = acts_leave key acts deeds files others between beyond alike step.acts_are turn.files there.files in
       let words = rest_one exchange.seen.words more.seen.words (words_of exchanges ++ left) (words_of those ++ rest) step.words_are here in
       let rest_is = runs_one exchanges those mid till after ends between beyond new last left rest step.states next behind words runs runs' in
-      ap (λ (r : Reply). r ∷ map (λ e. e.reply) exchanges) step.reply_is ∙ ap (λ (l : List Reply). more.reply ∷ l) rest_is
+      record {
+        replies = ap (λ (r : Reply). r ∷ map (λ e. e.reply) exchanges) step.reply_is ∙ ap (λ (l : List Reply). more.reply ∷ l) rest_is.replies;
+        words = ap (λ (w : List (List ℕ)). w ∷ map (λ e. e.seen.words) exchanges) step.words_are ∙ ap (λ (l : List (List (List ℕ))). more.seen.words ∷ l) rest_is.words;
+        seats = rest_is.seats;
+        files = rest_is.files;
+      }
 
 pub one_run : OneRun
 one_run state after other files new others words exchanges those key_length empty lines_are takes takes' runs runs' =

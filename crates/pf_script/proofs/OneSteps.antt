@@ -4,6 +4,7 @@ use Rattle.std.specs.Prelude.{replicate}
 use Rattle.node_tree.specs.Applying.{Step, Size, applied}
 use Rattle.node_tree.specs.Sheet.{Sheet}
 use Rattle.node_tree.proofs.Order.{same_rising}
+use Rattle.pf_io.specs.Disk.{Name}
 use Rattle.pf_script.specs.Script.{OwnSeat}
 use Rattle.pf_script.specs.SeatSteps.{PIECE, FlushesFirst, Fits, AreDirtyAfter, IsStepped, resealed, Makes, at_once, once_flushed, MakesAll, none_left, one_more, IsWrite, nothing, at_place, IsResize, same, last, piece, AsksFor}
 use Rattle.pf_script.specs.declared.line.ScriptLine.{ScriptLine}
@@ -43,30 +44,35 @@ stepped_like key own other after left step like one two =
 pub resealed_like : (key : List ℕ) (own other : OwnSeat) (sheet base : Sheet) → LikeOwn key own other → LikeOwn key (resealed own sheet) (resealed other base)
 resealed_like key own other sheet base like = record { key_is = like.key_is; other_key = like.other_key; name = like.name; content = like.content; dirty = refl; changed = refl; drawn = refl; broken = like.broken }
 
--- what steps come to: the words, the sheets and the seat
-pub record LikeSteps (key : List ℕ) (words takes : List (List ℕ)) (sheets bases : List Sheet) (after left : OwnSeat) : Type 0 where
+-- what steps of the seat with this name come to: the words, the sheets and the seat
+pub record LikeSteps (key : List ℕ) (name : Name) (words takes : List (List ℕ)) (sheets bases : List Sheet) (after left : OwnSeat) : Type 0 where
   pub words_are : words ≡ takes
-  pub sheets_are : LikeSheets sheets bases
+  pub sheets_are : LikeSheets name sheets bases
   pub seat_is : LikeOwn key after left
+  pub named : after.name ≡ name
 
-like_none : (sheets bases : List Sheet) → sheets ≡ [] → bases ≡ [] → LikeSheets sheets bases
-like_none sheets bases is none = subst (λ (l : List Sheet). LikeSheets l bases) (sym is) (subst (λ (l : List Sheet). LikeSheets [] l) (sym none) tt)
+like_none : (name : Name) (sheets bases : List Sheet) → sheets ≡ [] → bases ≡ [] → LikeSheets name sheets bases
+like_none name sheets bases is none = subst (λ (l : List Sheet). LikeSheets name l bases) (sym is) (subst (λ (l : List Sheet). LikeSheets name [] l) (sym none) tt)
 
-like_one : (sheets bases : List Sheet) (sheet base : Sheet) → sheets ≡ sheet ∷ [] → bases ≡ base ∷ [] → LikeSheet sheet base → LikeSheets sheets bases
-like_one sheets bases sheet base is one like = subst (λ (l : List Sheet). LikeSheets l bases) (sym is) (subst (λ (l : List Sheet). LikeSheets (sheet ∷ []) l) (sym one) (like, tt))
+like_one : (name : Name) (sheets bases : List Sheet) (sheet base : Sheet) → sheets ≡ sheet ∷ [] → bases ≡ base ∷ [] → LikeSheet name sheet base → LikeSheets name sheets bases
+like_one name sheets bases sheet base is one like = subst (λ (l : List Sheet). LikeSheets name l bases) (sym is) (subst (λ (l : List Sheet). LikeSheets name (sheet ∷ []) l) (sym one) (like, tt))
 
-like_more : (sheets bases more others : List Sheet) → LikeSheets sheets bases → LikeSheets more others → LikeSheets (sheets ++ more) (bases ++ others)
-like_more [] [] more others like rest = rest
-like_more [] (base ∷ bases) more others like rest = absurd like
-like_more (sheet ∷ sheets) [] more others like rest = absurd like
-like_more (sheet ∷ sheets) (base ∷ bases) more others like rest = (like.0, like_more sheets bases more others like.1 rest)
+like_more : (name : Name) (sheets bases more others : List Sheet) → LikeSheets name sheets bases → LikeSheets name more others → LikeSheets name (sheets ++ more) (bases ++ others)
+like_more name [] [] more others like rest = rest
+like_more name [] (base ∷ bases) more others like rest = absurd like
+like_more name (sheet ∷ sheets) [] more others like rest = absurd like
+like_more name (sheet ∷ sheets) (base ∷ bases) more others like rest = (like.0, like_more name sheets bases more others like.1 rest)
+
+stepped_name : (step : Step) (own after : OwnSeat) → IsStepped step own after → after.name ≡ own.name
+stepped_name step own after stepped = ap (λ (s : OwnSeat). s.name) stepped.rest
 
 step_one : (key : List ℕ) (own other after left : OwnSeat) (step : Step) (words takes beyond rest : List (List ℕ)) (sheets bases : List Sheet) → LikeOwn key own other → words ++ beyond ≡ takes ++ rest
-    → Makes own step words sheets after → Makes other step takes bases left → LikeSteps key words takes sheets bases after left
+    → Makes own step words sheets after → Makes other step takes bases left → LikeSteps key own.name words takes sheets bases after left
 step_one key own other after left step words takes beyond rest sheets bases like is (at_once fits none no_sheet stepped) (at_once fits' none' no_sheet' stepped') = record {
   words_are = none ∙ sym none';
-  sheets_are = like_none sheets bases no_sheet no_sheet';
+  sheets_are = like_none own.name sheets bases no_sheet no_sheet';
   seat_is = stepped_like key own other after left step like stepped stepped';
+  named = stepped_name step own after stepped;
 }
 step_one key own other after left step words takes beyond rest sheets bases like is (at_once fits none no_sheet stepped) (once_flushed base flushes seals a_sheet stepped') =
     absurd (not_both (length own.content) (length other.content) own.dirty other.dirty step (ap length like.content) like.dirty fits flushes)
@@ -74,21 +80,23 @@ step_one key own other after left step words takes beyond rest sheets bases like
     absurd (not_both (length other.content) (length own.content) other.dirty own.dirty step (ap length (sym like.content)) (sym like.dirty) fits flushes)
 step_one key own other after left step words takes beyond rest sheets bases like is (once_flushed sheet flushes seals a_sheet stepped) (once_flushed base flushes' seals' a_sheet' stepped') = record {
   words_are = seals_words key own other like words takes beyond rest sheet base seals seals' is;
-  sheets_are = like_one sheets bases sheet base a_sheet a_sheet' (seals_sheet key own other like words takes sheet base seals seals');
+  sheets_are = like_one own.name sheets bases sheet base a_sheet a_sheet' (seals_sheet key own other like words takes sheet base seals seals');
   seat_is = stepped_like key (resealed own sheet) (resealed other base) after left step (resealed_like key own other sheet base like) stepped stepped';
+  named = stepped_name step (resealed own sheet) after stepped;
 }
 
 pub steps_one : (key : List ℕ) (own other after left : OwnSeat) (steps : List Step) (words takes beyond rest : List (List ℕ)) (sheets bases : List Sheet) → LikeOwn key own other → words ++ beyond ≡ takes ++ rest
-    → MakesAll own steps words sheets after → MakesAll other steps takes bases left → LikeSteps key words takes sheets bases after left
-steps_one key own other after left [] words takes beyond rest sheets bases like is (none_left o) (none_left t) = record { words_are = refl; sheets_are = tt; seat_is = like }
+    → MakesAll own steps words sheets after → MakesAll other steps takes bases left → LikeSteps key own.name words takes sheets bases after left
+steps_one key own other after left [] words takes beyond rest sheets bases like is (none_left o) (none_left t) = record { words_are = refl; sheets_are = tt; seat_is = like; named = refl }
 steps_one key own other after left (step ∷ steps) words takes beyond rest sheets bases like is (one_more o mid a s r first words' sheets' others' one all) (one_more t mid' l s' r' first' takes' bases' others'' one' all') =
     let here = step_one key own other mid mid' step first first' (words' ++ beyond) (takes' ++ rest) sheets' bases' like (sym (append_assoc first words' beyond) ∙ is ∙ append_assoc first' takes' rest) one one' in
     let behind = rest_one first first' (words' ++ beyond) (takes' ++ rest) here.words_are (sym (append_assoc first words' beyond) ∙ is ∙ append_assoc first' takes' rest) in
     let more = steps_one key mid mid' after left steps words' takes' beyond rest others' others'' here.seat_is behind all all' in
     record {
       words_are = ap (λ (w : List (List ℕ)). w ++ words') here.words_are ∙ ap (λ (w : List (List ℕ)). first' ++ w) more.words_are;
-      sheets_are = like_more sheets' bases' others' others'' here.sheets_are more.sheets_are;
+      sheets_are = like_more own.name sheets' bases' others' others'' here.sheets_are (subst (λ (name : Name). LikeSheets name others' others'') here.named more.sheets_are);
       seat_is = more.seat_is;
+      named = more.named ∙ here.named;
     }
 
 write_one : (at : ℕ) (bytes : List ℕ) (steps others : List Step) → IsWrite at bytes steps → IsWrite at bytes others → steps ≡ others

@@ -26,11 +26,11 @@ may_open : (key : List ℕ) (taken : Bool) (files : Files) (seat : Seat) (k : �
 may_open key taken files seat k name none other = none.1.1.0 whys.BadName (refl, other)
 
 module _ (key : List ℕ) (key_length : length key ≡ 16) (files others : Files) (like : LikeFiles key files others) (words takes left rest : List (List ℕ)) (stream : words ++ left ≡ takes ++ rest) where
-  open_one : (k : ℕ) (name : Name) (seat more : Seat) (reply say : Reply) (acts deeds : List Act) (after ends : Seat) → LikeFile key (files name) (others name)
+  open_one : (k : ℕ) (name : Name) (seat more : Seat) (reply say : Reply) (acts deeds : List Act) (after ends : Seat) → LikeFile key name (files name) (others name)
       → Accepts (stands_on key files) key (seen_over files (lines.Open k name) words) seat (lines.Open k name) reply acts after → Accepts (stands_on key others) key (seen_over others (lines.Open k name) takes) more (lines.Open k name) say deeds ends
       → LikeEnds key reply say words takes acts deeds after ends
   open_one k name seat more reply say acts deeds after ends file (opened j n sheet stands path none) (opened i m base stands' path' none') =
-      let sheets = sheet_one key (files name) (others name) (files (recovery_of name)) (others (recovery_of name)) sheet base key_length file stands stands' in
+      let sheets = sheet_one key name (files name) (others name) (files (recovery_of name)) (others (recovery_of name)) sheet base key_length file stands stands' path path' in
       record {
         reply_is = ap (λ (c : List ℕ). replies.Opened (length c)) sheets.content;
         words_are = none ∙ sym none';
@@ -71,15 +71,15 @@ module _ (key : List ℕ) (key_length : length key ≡ 16) (files others : Files
       close_one (stands_on key files) (stands_on key others) key (seen_over files (lines.Close k) words) (seen_over others (lines.Close k) takes) left rest stream k seat more reply say acts deeds after ends seats first second
 
   -- an accepted opening and a damaged one
-  open_or_damage : (k : ℕ) (name : Name) (seat : Seat) (reply : Reply) (acts : List Act) (after : Seat) (damage : Damage) → LikeFile key (files name) (others name)
+  open_or_damage : (k : ℕ) (name : Name) (seat : Seat) (reply : Reply) (acts : List Act) (after : Seat) (damage : Damage) → LikeFile key name (files name) (others name)
       → Accepts (stands_on key files) key (seen_over files (lines.Open k name) words) seat (lines.Open k name) reply acts after → IsOpeningDamage key name (opening_answers name (others name)) damage → ⊥
   open_or_damage k name seat reply acts after damage file (opened j n sheet stands path none) damaged = open_undamaged key key_length name (files name) (others name) (files (recovery_of name)) damage sheet file stands damaged
   open_or_damage k name seat reply acts after damage file (changed own a l r steps sheets asks makes replied) damaged = asks
 
-  damage_or_open : (k : ℕ) (name : Name) (seat : Seat) (reply : Reply) (acts : List Act) (after : Seat) (damage : Damage) → LikeFile key (files name) (others name)
+  damage_or_open : (k : ℕ) (name : Name) (seat : Seat) (reply : Reply) (acts : List Act) (after : Seat) (damage : Damage) → LikeFile key name (files name) (others name)
       → IsOpeningDamage key name (opening_answers name (files name)) damage → Accepts (stands_on key others) key (seen_over others (lines.Open k name) takes) seat (lines.Open k name) reply acts after → ⊥
   damage_or_open k name seat reply acts after damage file damaged (opened j n sheet stands path none) =
-      open_undamaged key key_length name (others name) (files name) (others (recovery_of name)) damage sheet (like_sym key (files name) (others name) file) stands damaged
+      open_undamaged key key_length name (others name) (files name) (others (recovery_of name)) damage sheet (like_sym key name (files name) (others name) file) stands damaged
   damage_or_open k name seat reply acts after damage file damaged (changed own a l r steps sheets asks makes replied) = asks
 
   no_acts : (acts deeds : List Act) → acts ≡ [] → deeds ≡ [] → LikeActs key acts deeds

@@ -32,23 +32,25 @@ module _ (key : List ℕ) (own other : OwnSeat) (like : LikeOwn key own other) w
       let b = ap length two.words_are ∙ length-append two.of_nonce two.keys in
       front_one words takes left rest (omega (arith, of_nonce, long, a, b)) same
 
-  pub seals_sheet : (words takes : List (List ℕ)) (sheet base : Sheet) → Seals own words sheet → Seals other takes base → LikeSheet sheet base
+  pub seals_sheet : (words takes : List (List ℕ)) (sheet base : Sheet) → Seals own words sheet → Seals other takes base → LikeSheet own.name sheet base
   seals_sheet words takes sheet base one two = record {
-    path = one.next.path_is ∙ like.name ∙ sym two.next.path_is;
+    path = one.next.path_is;
+    other_path = two.next.path_is ∙ sym like.name;
     content = one.next.content_is ∙ like.content ∙ sym two.next.content_is;
   }
 
   pub moved_words : (name to : List ℕ) (words takes left rest : List (List ℕ)) (sheet base : Sheet) → SealsMoved own name words sheet → SealsMoved other to takes base → words ++ left ≡ takes ++ rest → words ≡ takes
   moved_words name to words takes left rest sheet base one two same = front_one words takes left rest (ap length one.words_are ∙ ap length (sym two.words_are)) same
 
-  pub moved_sheet : (name : List ℕ) (words takes : List (List ℕ)) (sheet base : Sheet) → SealsMoved own name words sheet → SealsMoved other name takes base → LikeSheet sheet base
-  moved_sheet name words takes sheet base one two = record { path = one.next.path_is ∙ sym two.next.path_is; content = one.next.content_is ∙ like.content ∙ sym two.next.content_is }
+  pub moved_sheet : (name : List ℕ) (words takes : List (List ℕ)) (sheet base : Sheet) → SealsMoved own name words sheet → SealsMoved other name takes base → LikeSheet name sheet base
+  moved_sheet name words takes sheet base one two = record { path = one.next.path_is; other_path = two.next.path_is; content = one.next.content_is ∙ like.content ∙ sym two.next.content_is }
 
 pub empty_words : (name to : List ℕ) (words takes left rest : List (List ℕ)) (sheet base : Sheet) → SealsEmpty name words sheet → SealsEmpty to takes base → words ++ left ≡ takes ++ rest → words ≡ takes
 empty_words name to words takes left rest sheet base one two same = front_one words takes left rest (ap length one.words_are ∙ ap length (sym two.words_are)) same
 
-pub empty_like : (name : List ℕ) (words takes : List (List ℕ)) (sheet base : Sheet) → SealsEmpty name words sheet → SealsEmpty name takes base → LikeSheet sheet base
+pub empty_like : (name : List ℕ) (words takes : List (List ℕ)) (sheet base : Sheet) → SealsEmpty name words sheet → SealsEmpty name takes base → LikeSheet name sheet base
 empty_like name words takes sheet base one two = record {
-  path = ap (λ (s : Sheet). s.path) one.sheet_is ∙ ap (λ (s : Sheet). s.path) (sym two.sheet_is);
+  path = ap (λ (s : Sheet). s.path) one.sheet_is;
+  other_path = ap (λ (s : Sheet). s.path) two.sheet_is;
   content = ap (λ (s : Sheet). s.content) one.sheet_is ∙ ap (λ (s : Sheet). s.content) (sym two.sheet_is);
 }

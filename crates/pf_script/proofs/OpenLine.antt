@@ -29,13 +29,14 @@ use Rattle.pf_session.specs.Opening.{AreGood, Opens, by_answers, length_failed, 
 use Rattle.pf_session.specs.Reopening.{ReopensAs, Stood}
 use Rattle.pf_session.specs.State.{SessionState}
 use Rattle.pf_session.specs.declared.open_fault.OpenFault.{OpenFault}
-use Rattle.pf_session.proofs.Backed.{last_there}
+use Rattle.pf_session.proofs.Backed.{last_there, stands_on as backed_on}
+use Rattle.pf_session.proofs.OpenStanding.{is_carried, given_is}
 use Rattle.pf_script.specs.Book.{Book, Entry, Seal, Agrees}
 use Rattle.pf_script.specs.BookActs.{Act, Opening, Among, speaks}
 use Rattle.pf_script.specs.BookDebts.{Unchanged, seat_of}
 use Rattle.pf_script.specs.BookSeats.{CoversNone, CoversMade, KeepsUnder}
 use Rattle.pf_script.specs.BookTurns.{of_book, Knows, LineUnder, SeatUnder}
-use Rattle.pf_script.specs.FileTurns.{stands_on, opening_answers}
+use Rattle.pf_script.specs.FileTurns.{stands_on, opening_answers, whole_file as whole_over, SeatFiles}
 use Rattle.pf_script.specs.Desk.{IsSeated, Shows, whole_file, seat_on}
 use Rattle.pf_script.specs.DeskSteps.{CountsFault, Unfolds, then_more, in_the_end, SeatTurns, SeatAsks, Concerns, CoversSome}
 use Rattle.pf_script.specs.Rules.{IsFirst as IsFirstRule, NoneRefuses, opening_rules}
@@ -53,10 +54,10 @@ use Rattle.pf_script.proofs.CallKeeping.{at_both, both_with}
 use Rattle.pf_script.proofs.CreateLine.{named_target}
 use Rattle.pf_script.proofs.Flushed.{SeenOf, length_now}
 use Rattle.pf_script.proofs.FlushUnder.{seen_in}
-use Rattle.pf_script.proofs.OnEmpty.{made_seat, BothHalves, concerns, empty_wants, empty_under, empty_idle, seat_first, seat_none}
+use Rattle.pf_script.proofs.OnEmpty.{made_seat, BothHalves, concerns, empty_wants, empty_under, empty_over, empty_idle, seat_first, seat_none}
 use Rattle.pf_script.proofs.OpenKeeping.{WasOpened, was_opened, known_opening, open_keeps}
 use Rattle.pf_script.proofs.OverGiven.{no_host_fault, on_reading, same_over}
-use Rattle.pf_script.proofs.OpenRules.{none_given, node_given, not_protected_first, unbuilt_first, version_first, path_first, none_refuses, none_closed, none_short}
+use Rattle.pf_script.proofs.OpenRules.{none_given, node_given, none_unasked, not_protected_first, unbuilt_first, version_first, path_first, none_refuses, none_closed, none_short}
 use Rattle.pf_script.proofs.Refusing.{none_taken}
 use Rattle.pf_script.proofs.SeatCalls.{seen_by, own_same, shows_same}
 use Rattle.pf_script.proofs.Seats.{seats_after, seat_is_left}
@@ -115,10 +116,10 @@ module _ (key : List ℕ) (k : ℕ) (name : Name) (utf8 : IsUtf8 name) (before a
   refuses_by these why told calm first of_files = refuses_to_open these why told calm first (λ a is. subst (λ (l : List Answer). IsFirstRule (opening_rules key name l) why) (of_files a is) first)
 
   -- a call failed
-  host_fails : (these : List Answer) → BothAre before.given after.given (IsMore these) → after.faults ≡ counted before.faults → Halves (Ok replies.HostFault) None
-  host_fails these told rose =
+  host_fails : IsTarget name → (these : List Answer) → BothAre before.given after.given (IsMore these) → after.faults ≡ counted before.faults → Halves (Ok replies.HostFault) None
+  host_fails target these told rose =
       empty_idle key line name refl before after words words replies.HostFault these [] true false only (seen_of these true told rose) refl refl
-      (λ standing. host_failed (record { host = refl; random = refl }) (fails_to_open k name ByHost refl tt) refl) (λ a is none_failed. absurd (no_host_fault none_failed))
+      (λ standing. host_failed (seat_none (opening_rules key name []) (none_unasked key name target)) (record { host = refl; random = refl }) (fails_to_open k name ByHost refl tt) refl) (λ a is none_failed. absurd (no_host_fault none_failed))
 
   -- node 0 is damaged
   is_damaged : (these : List Answer) (damage : Damage) → BothAre before.given after.given (IsMore these) → after.faults ≡ before.faults → NoneRefuses (opening_rules key name these) → BlamesOpening key name these (ByDamage damage) → AreOfFiles these
@@ -164,7 +165,7 @@ module _ (key : List ℕ) (k : ℕ) (name : Name) (utf8 : IsUtf8 name) (before a
 
   -- it is accepted
   module _ (size : ℕ) (block : List ℕ) (secret : MetaSecret) (target : IsTarget name) (openable : IsOpenable block) (is : IsAccepted key (Some name) block secret) (told : BothAre before.given after.given (IsMore (node_answers name size block)))
-      (calm : after.faults ≡ before.faults) (of_files : AreOfFiles (node_answers name size block)) where
+      (calm : after.faults ≡ before.faults) (honest : OnHonest before (λ files. AllByRecursion (IsAnswerOf files) (node_answers name size block))) (key_length : length key ≡ 16) where
     abbrev session : SessionState
     session = opened_session key name block secret
 
@@ -173,6 +174,9 @@ module _ (key : List ℕ) (k : ℕ) (name : Name) (utf8 : IsUtf8 name) (before a
 
     abbrev seen : Seen
     seen = seen_by came [] false false
+
+    of_files : AreOfFiles came
+    of_files = node_of_files size block honest
 
     seated : IsSeated key session
     seated = record { of_script = record { is_target = target; path_is = sym is.path_is; named = refl }; key_is = refl; clean = λ whole calm. refl }
@@ -228,7 +232,7 @@ module _ (key : List ℕ) (k : ℕ) (name : Name) (utf8 : IsUtf8 name) (before a
                 (at_both (KeepsUnder CoversNone (CoversMade {E = OpenFault} (Ok session)) (λ n. n ≡ name)) before.honest after.honest a b is_a is_b (open_keeps key name before after (Ok session) goes either only))
 
             unknown : ¬ (Knows book key Empty line (replies.Opened session.tree.size)) → LineUnder key false line seen (replies.Opened session.tree.size) None (Some session) book seats Empty a b
-            unknown none = unknown_under key false line seen (replies.Opened session.tree.size) CoversNone None (Some session) a b keeps book seats Empty agrees reads tt none
+            unknown none = unknown_under key false line seen (replies.Opened session.tree.size) tt CoversNone None (Some session) a b keeps book seats Empty agrees reads tt none
 
             only_it : (sheet : Sheet) (n : Name) → Among (record { deed = Opening (seat_of key name sheet); done = true } ∷ []) n → Concerns false line None n
             only_it sheet n (inl same) = concerns key line name refl n same
@@ -250,16 +254,38 @@ module _ (key : List ℕ) (k : ℕ) (name : Name) (utf8 : IsUtf8 name) (before a
                   shows = of_book sheet session refl (seat_is_left (Opening (seat_of key name sheet)) seats) (record { backed = known.on.on.backed; rests = λ _. record { stands = known.on.on; clean = refl } }) (ap Own (same_seat sheet known.on.on)) refl;
                   spares = one_spares seats (Opening (seat_of key name sheet)) true;
                   concerned = only_it sheet;
+                  idle = tt;
                   turn = λ _. turn_now sheet known.on.on known.stood;
-                  over = λ knows none_failed. record {
-                    turn = same_over key (reading a.now) false Empty line came [] (replies.Opened session.tree.size) (act sheet ∷ []) (Own (new_seat key name sheet)) (of_files a is_a) (turn_now sheet known.on.on known.stood);
-                    files = (refl, (reading b.now, record { stands = known.stood.as_sheet; away = tt; others = λ other apart. ap (λ (d : Disk). reading d other) only_ab.ends }, λ n. refl));
-                  };
                 }
 
             by_entry : (o : Option Entry) → book name ≡ o → LineUnder key false line seen (replies.Opened session.tree.size) None (Some session) book seats Empty a b
             by_entry None was = unknown (λ knows. absurd (subst (λ (o : Option Entry). IsSomeAnd o (λ e. speaks key e ≡ true)) was knows))
             by_entry (Some entry) was = by_speaks entry was (speaks key entry) refl
+
+    -- over files: the session stands on each sheet that the file stands for
+    on_file : (a : Honest) → before.honest ≡ Some a → (sheet : Sheet) → ReopensAs key sheet (reading a.now name) (reading a.now (recovery_of name)) → StandsOn sheet session
+    on_file a is_a sheet reopens =
+        backed_on key name block secret is.opened sheet reopens.stands.linked
+        (is_carried key key_length reopens.file sheet reopens.stands block
+        (given_is (reading a.now) name reopens.file size block reopens.whole (on_reading (λ files. AllByRecursion (IsAnswerOf files) came) before.honest a is_a honest)))
+
+    over : OnDisk before after (SeatFiles key false line seen (replies.Opened session.tree.size) None (Some session))
+    over =
+        both_with Unchanged (SeatFiles key false line seen (replies.Opened session.tree.size) None (Some session)) before.honest after.honest only
+        (λ a b is_a is_b only_ab.
+        empty_over key line name refl seen (replies.Opened session.tree.size) (Some session) a b
+        (λ none_failed reopens.
+        let sheet = reopens.0 in
+        let on : StandsOn sheet session = on_file a is_a sheet reopens.1 in
+        let still : ReopensAs key sheet (reading b.now name) (reading b.now (recovery_of name)) = subst (λ (d : Disk). ReopensAs key sheet (reading d name) (reading d (recovery_of name))) (sym only_ab.ends) reopens.1 in record {
+          acts = act sheet ∷ [];
+          after = Own (new_seat key name sheet);
+          over = record {
+            turn = same_over key (reading a.now) false Empty line came [] (replies.Opened session.tree.size) (act sheet ∷ []) (Own (new_seat key name sheet)) (of_files a is_a) (turn (stands_on key (reading a.now)) sheet on reopens.1);
+            files = (refl, (reading b.now, record { stands = still; away = tt; others = λ other apart. ap (λ (d : Disk). reading d other) only_ab.ends }, λ n. refl));
+          };
+          shows = whole_over sheet session refl (sym on.backed.path_is ∙ sym is.path_is) still (record { backed = on.backed; rests = λ _. record { stands = on; clean = refl } }) (ap Own (same_seat sheet on)) refl;
+        }))
 
     is_accepted : Opens key name (Some name) before after (Ok session) → OpensOnFirst session before after → OnDisk before after (OpensEither session) → Halves (Ok (replies.Opened session.tree.size)) (Some session)
     is_accepted goes first either = record {
@@ -275,41 +301,41 @@ module _ (key : List ℕ) (k : ℕ) (name : Name) (utf8 : IsUtf8 name) (before a
         named = λ n has. concerns key line name refl n has;
         spares = spares_kept (Concerns false line None) before after only;
       };
-      booked = record { seen = seen; was_seen = seen_in came [] false false before after words words (seen_of came false told calm); under = under goes either };
+      booked = record { seen = seen; was_seen = seen_in came [] false false before after words words (seen_of came false told calm); under = under goes either; over = over };
     }
 
   bad_name : {given : List Answer} → ¬ (AreGood name (Some name)) → IsFirstRule (opening_rules key name given) whys.BadName
   bad_name bad = inl (refl, λ target. bad (record { target = target; stored = (named_target name utf8 target).path_is }))
 
-  by_case : (result : Result SessionState OpenFault) → IfOk result (λ session. OpensOnFirst session before after) → IfOk result (λ session. OnDisk before after (OpensEither session)) → Opens key name (Some name) before after result → Halves (open_result name result) (made_seat result)
-  by_case result first either (by_answers these asked (misnamed bad are said)) =
+  by_case : (key_length : length key ≡ 16) (result : Result SessionState OpenFault) → IfOk result (λ session. OpensOnFirst session before after) → IfOk result (λ session. OnDisk before after (OpensEither session)) → Opens key name (Some name) before after result → Halves (open_result name result) (made_seat result)
+  by_case key_length result first either (by_answers these asked (misnamed bad are said)) =
       subst (λ (r : Result SessionState OpenFault). Halves (open_result name r) (made_seat r)) (sym said)
       (refuses_to_open [] whys.BadName (subst (λ (l : List Answer). BothAre before.given after.given (IsMore l)) are asked.asked.told) asked.asked.faults (bad_name bad) (λ a is. bad_name bad))
-  by_case result first either (by_answers these asked (absent good are said)) =
+  by_case key_length result first either (by_answers these asked (absent good are said)) =
       subst (λ (r : Result SessionState OpenFault). Halves (open_result name r) (made_seat r)) (sym said)
       (refuses_by (LengthWas name None ∷ []) (whys.NotFound name) (subst (λ (l : List Answer). BothAre before.given after.given (IsMore l)) are asked.asked.told) asked.asked.faults
       (inr ((λ why refuses. refuses.1 good.target), inl (refl, Contains-push [] (LengthWas name None))))
       (none_of_files (subst (λ (l : List Answer). OnHonest before (λ files. AllByRecursion (IsAnswerOf files) l)) are asked.answered.honest)))
-  by_case result first either (by_answers these asked (block_refused size block fault good are why said)) =
+  by_case key_length result first either (by_answers these asked (block_refused size block fault good are why said)) =
       subst (λ (r : Result SessionState OpenFault). Halves (open_result name r) (made_seat r)) (sym said)
       (block_case size block fault good.target (subst (λ (l : List Answer). BothAre before.given after.given (IsMore l)) are asked.asked.told) asked.asked.faults
       (node_of_files size block (subst (λ (l : List Answer). OnHonest before (λ files. AllByRecursion (IsAnswerOf files) l)) are asked.answered.honest)) why)
-  by_case result first either (by_answers these asked (secret_refused size block fault good are openable why said)) =
+  by_case key_length result first either (by_answers these asked (secret_refused size block fault good are openable why said)) =
       subst (λ (r : Result SessionState OpenFault). Halves (open_result name r) (made_seat r)) (sym said)
       (secret_case size block fault good.target (subst (λ (l : List Answer). BothAre before.given after.given (IsMore l)) are asked.asked.told) asked.asked.faults
       (node_of_files size block (subst (λ (l : List Answer). OnHonest before (λ files. AllByRecursion (IsAnswerOf files) l)) are asked.answered.honest)) openable why)
-  by_case result first either (by_answers these asked (accepted size block secret good are openable is said)) =
+  by_case key_length result first either (by_answers these asked (accepted size block secret good are openable is said)) =
       subst (λ (r : Result SessionState OpenFault). Halves (open_result name r) (made_seat r)) (sym said)
       (is_accepted size block secret good.target openable is (subst (λ (l : List Answer). BothAre before.given after.given (IsMore l)) are asked.asked.told) asked.asked.faults
-      (node_of_files size block (subst (λ (l : List Answer). OnHonest before (λ files. AllByRecursion (IsAnswerOf files) l)) are asked.answered.honest)) (by_answers these asked (accepted size block secret good are openable is refl))
+      (subst (λ (l : List Answer). OnHonest before (λ files. AllByRecursion (IsAnswerOf files) l)) are asked.answered.honest) key_length (by_answers these asked (accepted size block secret good are openable is refl))
       (subst (λ (r : Result SessionState OpenFault). IfOk r (λ session. OpensOnFirst session before after)) said first) (subst (λ (r : Result SessionState OpenFault). IfOk r (λ session. OnDisk before after (OpensEither session))) said either))
-  by_case result first either (length_failed good asked said) = subst (λ (r : Result SessionState OpenFault). Halves (open_result name r) (made_seat r)) (sym said) (host_fails [] asked.asked.told asked.asked.faults)
-  by_case result first either (read_failed size good asked said) = subst (λ (r : Result SessionState OpenFault). Halves (open_result name r) (made_seat r)) (sym said) (host_fails (LengthWas name (Some size) ∷ []) asked.asked.told asked.asked.faults)
-  by_case result first either (no_names good stays said) =
+  by_case key_length result first either (length_failed good asked said) = subst (λ (r : Result SessionState OpenFault). Halves (open_result name r) (made_seat r)) (sym said) (host_fails good.target [] asked.asked.told asked.asked.faults)
+  by_case key_length result first either (read_failed size good asked said) = subst (λ (r : Result SessionState OpenFault). Halves (open_result name r) (made_seat r)) (sym said) (host_fails good.target (LengthWas name (Some size) ∷ []) asked.asked.told asked.asked.faults)
+  by_case key_length result first either (no_names good stays said) =
       subst (λ (r : Result SessionState OpenFault). Halves (open_result name r) (made_seat r)) (sym said)
       (wants_memory (ap (λ (h : HostState). h.faults) stays) (told_by (λ given. Unit {0}) [] before after (told_none before after (ap (λ (h : HostState). h.given) stays)) tt))
-  by_case result first either (no_tree size block secret good asked openable is said) = subst (λ (r : Result SessionState OpenFault). Halves (open_result name r) (made_seat r)) (sym said) (wants_memory asked.asked.faults (told_by (λ given. Unit {0}) _ before after asked.asked.told tt))
+  by_case key_length result first either (no_tree size block secret good asked openable is said) = subst (λ (r : Result SessionState OpenFault). Halves (open_result name r) (made_seat r)) (sym said) (wants_memory asked.asked.faults (told_by (λ given. Unit {0}) _ before after asked.asked.told tt))
 
-pub open_line : (key : List ℕ) (k : ℕ) (name : Name) (result : Result SessionState OpenFault) (before after : HostState) (words : WordsState) → IsUtf8 name → Opens key name (Some name) before after result → KeepsDisk before after
+pub open_line : (key : List ℕ) (k : ℕ) (name : Name) (result : Result SessionState OpenFault) (before after : HostState) (words : WordsState) → IsUtf8 name → length key ≡ 16 → Opens key name (Some name) before after result → KeepsDisk before after
     → IfOk result (λ session. OpensOnFirst session before after) → IfOk result (λ session. OnDisk before after (OpensEither session)) → BothHalves key (lines.Open k name) (open_result name result) (made_seat result) before after words words
-open_line key k name result before after words utf8 goes only first either = by_case key k name utf8 before after words only result first either goes
+open_line key k name result before after words utf8 key_length goes only first either = by_case key k name utf8 before after words only key_length result first either goes

@@ -22,6 +22,7 @@ use Rattle.pf_script.specs.Rules.{IsFirst as IsFirstRule, NoneRefuses, opening_r
 use Rattle.pf_script.specs.declared.reply.Why.{Why}
 use Rattle.pf_script.specs.declared.reply.Why.TheVariants as whys
 use Rattle.pf_script.proofs.OnEmpty.{not_of}
+use Rattle.pf_script.proofs.OverGiven.{none_contained, none_last}
 
 -- the last block of node 0 among the answers of an opening is the one that it has
 pub last_one : (name : Name) (size : ℕ) (block other : List ℕ) → IsLast name (node_answers name size block) other → other ≡ block
@@ -71,6 +72,19 @@ module _ (name : Name) (size : ℕ) (block : List ℕ) where
   no_version openable why refuses =
       not_block block openable (faults.BadVersion refuses.1 refuses.2)
       (other_version refuses.1 refuses.2 openable.whole openable.flag (subst (λ (b : List ℕ). IsPlainFault b (BadVersion refuses.1 refuses.2)) (last_one name size block refuses.0 refuses.3) refuses.6) refl)
+
+-- before any answer came a target is not refused
+pub none_unasked : (key : List ℕ) (name : Name) → IsTarget name → NoneRefuses (opening_rules key name [])
+none_unasked key name target = (
+  λ why refuses. refuses.1 target,
+  (
+    λ why refuses. none_contained refuses.1,
+    (
+      λ why refuses. none_last name refuses.1.0 refuses.1.1,
+      (λ why refuses. none_last name refuses.1.0 refuses.1.1, (λ why refuses. none_last name refuses.0 refuses.3, (λ why refuses. none_last name refuses.0 refuses.2, tt))),
+    ),
+  ),
+)
 
 module _ (key : List ℕ) (name : Name) (target : IsTarget name) (size : ℕ) (block : List ℕ) where
   abbrev given : List Answer

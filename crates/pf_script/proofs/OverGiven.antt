@@ -1,5 +1,5 @@
 -- A line in which nothing failed has the same turn by the answers of the files.
-use Rattle.std.proofs.Common.{◌≡◌, inl, inr, Bool, true, false, List, [], ◌∷◌, ◌++◌, ℕ, refl, sym, ◌∙◌, ap, subst, Option, None, Some, arith}
+use Rattle.std.proofs.Common.{◌≡◌, inl, inr, Bool, true, false, List, [], ◌∷◌, ◌++◌, ℕ, refl, sym, ◌∙◌, ap, subst, Option, Some, arith}
 use Rattle.std.specs.Prelude.{Contains, IfSome, option_map}
 use Rattle.node_layout.specs.declared.damage.Damage.{Damage}
 use Rattle.pf_io.specs.Disk.{Name, Disk, Files, reading}
@@ -34,10 +34,10 @@ accepts_over key files seen these shown line reply acts after (drawn_now k own f
 accepts_over key files seen these shown line reply acts after (let_go k own calm none) = let_go k own calm none
 accepts_over key files seen these shown line reply acts after (flushed_last k own sheet is whole seals) = flushed_last k own sheet is whole seals
 
-none_given : (answer : Answer) → Contains [] answer → ⊥
-none_given answer is = absurd (omega (arith, is.1))
+pub none_contained : {answer : Answer} → Contains [] answer → ⊥
+none_contained is = absurd (omega (arith, is.1))
 
-none_last : (name : Name) (block : List ℕ) → IsLast name [] block → ⊥
+pub none_last : (name : Name) (block : List ℕ) → IsLast name [] block → ⊥
 none_last name block last = by_front last.before last.split
   where
     by_front : (before : List Answer) → [] ≡ before ++ Gave name 0 4096 block ∷ last.after → ⊥
@@ -66,9 +66,9 @@ module _ (key : List ℕ) (files : Files) (taken : Bool) (seat : Seat) (line : S
       → SeatTurn (stands_on key files) key taken seat line over reply acts after
   calm_over reply acts after (refused why first calm none said nothing stays) none_failed same_first same_none undamaged = refused why (same_first why first) (record { host = refl; random = refl }) none said nothing stays
   calm_over reply acts after (accepted none calm accepts) none_failed same_first same_none undamaged = accepted (same_none none) (record { host = refl; random = refl }) (accepts_over key files seen (answers_of files line) seat line reply acts after accepts)
-  calm_over reply acts after (host_failed failed fails said) none_failed same_first same_none undamaged = absurd (not_both (sym failed.host ∙ none_failed.host))
+  calm_over reply acts after (host_failed free failed fails said) none_failed same_first same_none undamaged = absurd (not_both (sym failed.host ∙ none_failed.host))
   calm_over reply acts after (was_damaged damage free calm fails said) none_failed same_first same_none undamaged = absurd (undamaged damage said)
-  calm_over reply acts after (words_failed failed loses said) none_failed same_first same_none undamaged = absurd (not_both (sym failed.random ∙ none_failed.random))
+  calm_over reply acts after (words_failed free failed loses said) none_failed same_first same_none undamaged = absurd (not_both (sym failed.random ∙ none_failed.random))
 
 -- lines whose rules look at no answer
 abbrev pub AsksNone : ScriptLine → Type 0
@@ -128,12 +128,12 @@ first_unasked key taken seat lines.Blank these why first = first
 first_unasked key taken seat (lines.Create k name) these why (inl busy) = inl busy
 first_unasked key taken seat (lines.Create k name) these why (inr (free, inl busy)) = inr (free, inl busy)
 first_unasked key taken seat (lines.Create k name) these why (inr (free, inr (apart, inl bad))) = inr (free, inr (apart, inl bad))
-first_unasked key taken seat (lines.Create k name) these why (inr (free, inr (apart, inr (good, inl there)))) = absurd (none_given (LengthWas name (Some there.1.0)) there.1.1)
+first_unasked key taken seat (lines.Create k name) these why (inr (free, inr (apart, inr (good, inl there)))) = absurd (none_contained there.1.1)
 first_unasked key taken seat (lines.Create k name) these why (inr (free, inr (apart, inr (good, inr (absent, none))))) = absurd none
 first_unasked key taken seat (lines.Open k name) these why (inl busy) = inl busy
 first_unasked key taken seat (lines.Open k name) these why (inr (free, inl busy)) = inr (free, inl busy)
 first_unasked key taken seat (lines.Open k name) these why (inr (free, inr (apart, inl bad))) = inr (free, inr (apart, inl bad))
-first_unasked key taken seat (lines.Open k name) these why (inr (free, inr (apart, inr (good, inl absent)))) = absurd (none_given (LengthWas name None) absent.1)
+first_unasked key taken seat (lines.Open k name) these why (inr (free, inr (apart, inr (good, inl absent)))) = absurd (none_contained absent.1)
 first_unasked key taken seat (lines.Open k name) these why (inr (free, inr (apart, inr (good, inr (there, inl plain))))) = absurd (none_last name plain.1.0 plain.1.1)
 first_unasked key taken seat (lines.Open k name) these why (inr (free, inr (apart, inr (good, inr (there, inr (protected, inl flag)))))) = absurd (none_last name flag.1.0 flag.1.1)
 first_unasked key taken seat (lines.Open k name) these why (inr (free, inr (apart, inr (good, inr (there, inr (protected, inr (built, inl version))))))) = absurd (none_last name version.0 version.3)

@@ -28,8 +28,8 @@ use Rattle.pf_session.proofs.Created.{aside_kept}
 use Rattle.pf_script.specs.BookSeats.{Covers, KeepsUnder}
 use Rattle.pf_script.specs.Desk.{IsSeated, Shows, whole_file, seat_on}
 use Rattle.pf_script.specs.DeskSteps.{SeatAsks, SeatGoes}
-use Rattle.pf_script.specs.Rules.{refuses}
-use Rattle.pf_script.specs.Script.{Own}
+use Rattle.pf_script.specs.Rules.{NoneRefuses, rules, refuses}
+use Rattle.pf_script.specs.Script.{OwnSeat, Own}
 use Rattle.pf_script.specs.SeatReplies.{read_reply}
 use Rattle.pf_script.specs.SeatSteps.{PIECE}
 use Rattle.pf_script.specs.Turns.{SeatTurn, accepted, host_failed, was_damaged, read, not_read, ByHost, ByDamage, BlamesFetch, on_carried}
@@ -59,6 +59,10 @@ ReadBlames (Err trees.Memory) base name given = Unit {0}
 abbrev pub ReadFacts : Result ℕ TreeFault → ℕ → List ℕ → SessionState → SessionState → List Answer → Type 0
 ReadFacts result at buffer old new given =
     (base : Sheet) → IsBacked base old → GivenOf base (Given old.name given) → StaysRead result base (Given (file_of old) given) at buffer old new × ReadBlames result base old.name given
+
+-- no rule refuses a read of few bytes from a whole seat
+pub read_passes : (key : List ℕ) (k at count : ℕ) (own : OwnSeat) → own.broken ≡ false → count ≤ 32768 → NoneRefuses (rules key false (Own own) (lines.Read k at count) [])
+read_passes key k at count own whole few = none_then (refuses whys.TooLong (PIECE < count) ∷ []) (Own own) own refl whole ((λ other long. omega (arith, long.1, few)), tt)
 
 module _ (key : List ℕ) (k at count : ℕ) (old : SessionState) (seated : IsSeated key old) (whole : old.broken ≡ false) (new : SessionState) (fields : KeepsFields old new) (result : Result ℕ TreeFault) (buffer : List ℕ)
     (room : length buffer ≡ min count (old.tree.size - at)) (before after : HostState) (reads : Reads result (file_of old) at buffer old.tree new.tree before after) where
@@ -146,7 +150,7 @@ module _ (key : List ℕ) (k at count : ℕ) (old : SessionState) (seated : IsSe
         let out = on_sheet (Ok n) facts sealed base among kept.backed unforged in (
           Own own,
           subst (λ (b : List ℕ). SeatTurn (on_carried key sealed) key false (Own own) (lines.Read k at count) (seen_by given [] false false) (replies.Given b) [] (Own own)) (sym (slice_is n counted base out.0.slice))
-              (accepted (none_then (refuses whys.TooLong (PIECE < count) ∷ []) (Own own) own refl whole ((λ other long. omega (arith, long.1, few)), tt)) (record { host = refl; random = refl }) (read k at count own refl)),
+              (accepted (read_passes key k at count own whole few) (record { host = refl; random = refl }) (read k at count own refl)),
           shows_new sealed base among linked kept out.0.backed out.0.same,
         ))
 
@@ -156,7 +160,7 @@ module _ (key : List ℕ) (k at count : ℕ) (old : SessionState) (seated : IsSe
         at_last [] (λ unforged.
         let out = on_sheet (Err (trees.Damaged d)) facts sealed base among kept.backed unforged in (
           Own own,
-          was_damaged d (none_then (refuses whys.TooLong (PIECE < count) ∷ []) (Own own) own refl whole ((λ other long. omega (arith, long.1, few)), tt)) (record { host = refl; random = refl }) (not_read k at count own (ByDamage d) refl out.1) refl,
+          was_damaged d (read_passes key k at count own whole few) (record { host = refl; random = refl }) (not_read k at count own (ByDamage d) refl out.1) refl,
           shows_new sealed base among linked kept out.0.backed out.0.same,
         ))
 
@@ -166,7 +170,7 @@ module _ (key : List ℕ) (k at count : ℕ) (old : SessionState) (seated : IsSe
         at_last [] (λ unforged.
         let out = on_sheet (Err trees.Host) facts sealed base among kept.backed unforged in (
           Own own,
-          host_failed (record { host = refl; random = refl }) (not_read k at count own ByHost refl tt) refl,
+          host_failed (read_passes key k at count own whole few) (record { host = refl; random = refl }) (not_read k at count own ByHost refl tt) refl,
           shows_new sealed base among linked kept out.0.backed out.0.same,
         ))
 

@@ -74,14 +74,14 @@ module _ (key : List ℕ) (k size : ℕ) (small : size ≤ 2 ^ 32) (old new : Se
     went_turns : (flushed : Bool) → SizeTold size old new given words (Went flushed) → SheetTurns key false (lines.Size k size) (seen_by given words false false) (replies.Sized size) old (Some new) given
     went_turns flushed told sealed base among linked kept =
         let own = seat_on base old in
-        size_ends key sealed own k size given words (LineEnds key sealed own (lines.Size k size) given words false false (replies.Sized size) new) (line_passes base given) new old given words (Went flushed) told
+        size_ends key sealed own k size given words (LineEnds key sealed own (lines.Size k size) given words false false (replies.Sized size) new) (line_passes base) new old given words (Went flushed) told
         (record { went = λ f is acts ends. ends; broke = λ blame is acts ends. absurd (cc); lack = λ is acts ends. absurd (cc); memory = λ is. absurd (cc) })
         [] [] [] base (none_made sealed base old among linked kept whole) (goes_on_now base) [] refl refl
 
     broke_turns : (blame : Blame) → SizeTold size old new given words (Broke blame) → SheetTurns key false (lines.Size k size) (seen_by given words (host_blamed blame) false) (flush_reply (fault_of blame)) old (Some new) given
     broke_turns blame told sealed base among linked kept =
         let own = seat_on base old in
-        size_ends key sealed own k size given words (LineEnds key sealed own (lines.Size k size) given words (host_blamed blame) false (flush_reply (fault_of blame)) new) (line_passes base given) new old given words (Broke blame) told
+        size_ends key sealed own k size given words (LineEnds key sealed own (lines.Size k size) given words (host_blamed blame) false (flush_reply (fault_of blame)) new) (line_passes base) new old given words (Broke blame) told
         (record {
           went = λ f is acts ends. absurd (cc);
           broke = λ other is acts ends.
@@ -97,7 +97,7 @@ module _ (key : List ℕ) (k size : ℕ) (small : size ≤ 2 ^ 32) (old new : Se
     lacked_turns : SizeTold size old new given words Lacked → SheetTurns key false (lines.Size k size) (seen_by given words false true) replies.WordsFault old (Some new) given
     lacked_turns told sealed base among linked kept =
         let own = seat_on base old in
-        size_ends key sealed own k size given words (LineEnds key sealed own (lines.Size k size) given words false true replies.WordsFault new) (line_passes base given) new old given words Lacked told
+        size_ends key sealed own k size given words (LineEnds key sealed own (lines.Size k size) given words false true replies.WordsFault new) (line_passes base) new old given words Lacked told
         (record { went = λ f is acts ends. absurd (cc); broke = λ blame is acts ends. absurd (cc); lack = λ is acts ends. ends; memory = λ is. absurd (cc) })
         [] [] [] base (none_made sealed base old among linked kept whole) (goes_on_now base) [] refl refl
 

@@ -39,25 +39,10 @@ pub data SizeTold (size : ℕ) : SessionState → SessionState → List Answer �
   told_piece : (old mid new : SessionState) (these those : List Answer) (words more : List (List ℕ)) (flushed : Bool) (outcome : Outcome) → old.tree.size + 32768 < size → mid.tree.size ≡ old.tree.size + 32768
       → ChangeTold (Size (old.tree.size + 32768)) old mid these words (Went flushed) → SizeTold size mid new those more outcome → SizeTold size old new (these ++ those) (words ++ more) outcome
 
-module _ (key : List ℕ) (sealed : List Sheet) (own : OwnSeat) (k size : ℕ) (given : List Answer) (all : List (List ℕ)) (P : List Act → Type 0) (passes : NoneRefuses (rules key false (Own own) (lines.Size k size) given)) (new : SessionState) where
-  -- what is to be shown of each way to end
-  pub record Finishes (outcome : Outcome) : Type 0 where
-    pub went : (flushed : Bool) → outcome ≡ Went flushed → (acts : List Act) → LineEnds key sealed own (lines.Size k size) given all false false (replies.Sized size) new acts → P acts
-    pub broke : (blame : Blame) → outcome ≡ Broke blame → (acts : List Act) → LineEnds key sealed own (lines.Size k size) given all (host_blamed blame) false (flush_reply (fault_of blame)) new acts → P acts
-    pub lack : outcome ≡ Lacked → (acts : List Act) → LineEnds key sealed own (lines.Size k size) given all false true replies.WordsFault new acts → P acts
-    pub memory : ¬ (outcome ≡ Wanted)
-
+module _ (own : OwnSeat) (size : ℕ) where
   -- the steps that are left go on those that were made
   abbrev pub GoesOn : SessionState → List Step → Type 0
   GoesOn old made = (steps : List Step) → IsResize size old.tree.size steps → IsResize size (length own.content) (made ++ steps)
-
-  -- all was made
-  ends_here : (old : SessionState) → new ≡ old → (made : List Step) (words : List (List ℕ)) (sheets : List Sheet) (base : Sheet) → Made sealed own old made words sheets base → IsResize size (length own.content) made → all ≡ words
-      → LineEnds key sealed own (lines.Size k size) given all false false (replies.Sized size) new (flushes own sheets)
-  ends_here old is made words sheets base was asks words_are =
-      subst (λ (s : SessionState). LineEnds key sealed own (lines.Size k size) given all false false (replies.Sized size) s (flushes own sheets)) (sym is)
-      (subst (λ (w : List (List ℕ)). LineEnds key sealed own (lines.Size k size) given w false false (replies.Sized size) old (flushes own sheets)) (sym words_are)
-      (all_made key sealed own (lines.Size k size) given old made words sheets base was asks (replies.Sized size) (to_size k size) passes))
 
   -- the steps from the next one on
   pub next_steps : (old : SessionState) (n : ℕ) → IsNextSize size old.tree.size n → n ≢ old.tree.size → (made : List Step) → GoesOn old made → (steps : List Step) × IsResize size (length own.content) (made ++ Size n ∷ steps)
@@ -72,20 +57,36 @@ module _ (key : List ℕ) (sealed : List Sheet) (own : OwnSeat) (k size : ℕ) (
   last_step old n (last_size few is) other whole made on = subst (λ m. IsResize size (length own.content) (made ++ Size m ∷ [])) (sym is) (on (Size size ∷ []) (last old.tree.size (λ e. other (is ∙ e)) few))
   last_step old n (piece_size more is) other whole made on = absurd (omega (arith, more, is, whole))
 
+module _ (key : List ℕ) (sealed : List Sheet) (own : OwnSeat) (k size : ℕ) (given : List Answer) (all : List (List ℕ)) (P : List Act → Type 0) (passes : (these : List Answer) → NoneRefuses (rules key false (Own own) (lines.Size k size) these)) (new : SessionState) where
+  -- what is to be shown of each way to end
+  pub record Finishes (outcome : Outcome) : Type 0 where
+    pub went : (flushed : Bool) → outcome ≡ Went flushed → (acts : List Act) → LineEnds key sealed own (lines.Size k size) given all false false (replies.Sized size) new acts → P acts
+    pub broke : (blame : Blame) → outcome ≡ Broke blame → (acts : List Act) → LineEnds key sealed own (lines.Size k size) given all (host_blamed blame) false (flush_reply (fault_of blame)) new acts → P acts
+    pub lack : outcome ≡ Lacked → (acts : List Act) → LineEnds key sealed own (lines.Size k size) given all false true replies.WordsFault new acts → P acts
+    pub memory : ¬ (outcome ≡ Wanted)
+
+  -- all was made
+  ends_here : (old : SessionState) → new ≡ old → (made : List Step) (words : List (List ℕ)) (sheets : List Sheet) (base : Sheet) → Made sealed own old made words sheets base → IsResize size (length own.content) made → all ≡ words
+      → LineEnds key sealed own (lines.Size k size) given all false false (replies.Sized size) new (flushes own sheets)
+  ends_here old is made words sheets base was asks words_are =
+      subst (λ (s : SessionState). LineEnds key sealed own (lines.Size k size) given all false false (replies.Sized size) s (flushes own sheets)) (sym is)
+      (subst (λ (w : List (List ℕ)). LineEnds key sealed own (lines.Size k size) given w false false (replies.Sized size) old (flushes own sheets)) (sym words_are)
+      (all_made key sealed own (lines.Size k size) given old made words sheets base was asks (replies.Sized size) (to_size k size) passes))
+
   pub size_ends : (old : SessionState) (these : List Answer) (more : List (List ℕ)) (outcome : Outcome) → SizeTold size old new these more outcome → Finishes outcome
-      → (made : List Step) (words : List (List ℕ)) (sheets : List Sheet) (base : Sheet) → Made sealed own old made words sheets base → GoesOn old made → (before_it : List Answer) → given ≡ before_it ++ these → all ≡ words ++ more
+      → (made : List Step) (words : List (List ℕ)) (sheets : List Sheet) (base : Sheet) → Made sealed own old made words sheets base → GoesOn own size old made → (before_it : List Answer) → given ≡ before_it ++ these → all ≡ words ++ more
       → Unfolds key sealed P given (flushes own sheets)
   size_ends old _ _ _ (told_same _ _ size_is is) fin made words sheets base was on before_it split words_are =
       in_the_end (flushes own sheets)
       (λ unforged. fin.went false refl (flushes own sheets)
       (ends_here old is made words sheets base was (subst (λ (s : List Step). IsResize size (length own.content) s) (append-nil made) (on [] (same old.tree.size size_is))) (words_are ∙ append-nil words)))
   size_ends old these more outcome (told_change _ _ n _ _ _ next other whole told) fin made words sheets base was on before_it split words_are =
-      let steps = next_steps old n next other made on in
+      let steps = next_steps own size old n next other made on in
       change_ends key sealed own (lines.Size k size) given before_it these [] (split ∙ sym (append-nil (before_it ++ these))) P old made words sheets base was (Size n) steps.0 steps.1 new more outcome
       (record {
         went = λ flushed is sheets' base' grew made'.
             in_the_end (flushes own sheets')
-            (λ unforged. fin.went flushed is (flushes own sheets') (ends_here new refl (made ++ Size n ∷ []) (words ++ more) sheets' base' made' (last_step old n next other (whole flushed is) made on) words_are));
+            (λ unforged. fin.went flushed is (flushes own sheets') (ends_here new refl (made ++ Size n ∷ []) (words ++ more) sheets' base' made' (last_step own size old n next other (whole flushed is) made on) words_are));
         broke = λ blame is acts ends. fin.broke blame is acts
             (subst (λ (w : List (List ℕ)). LineEnds key sealed own (lines.Size k size) given w (host_blamed blame) false (flush_reply (fault_of blame)) new acts) (sym words_are) ends);
         lack = λ is acts ends. fin.lack is acts (subst (λ (w : List (List ℕ)). LineEnds key sealed own (lines.Size k size) given w false true replies.WordsFault new acts) (sym words_are) ends);

@@ -1,5 +1,5 @@
 -- The line `size` under a book, from the pieces that were set.
-use Rattle.std.proofs.Common.{◌≡◌, ◌≢◌, ◌+◌, ◌≤◌, ◌^◌, inl, Bool, true, false, List, [], ◌∷◌, ◌++◌, ℕ, refl, sym, ◌∙◌, ap, subst, Some, Result, arith, length, append_assoc}
+use Rattle.std.proofs.Common.{◌≡◌, ◌≢◌, ◌+◌, ◌≤◌, ◌^◌, inl, Bool, true, false, List, [], ◌∷◌, ◌++◌, ℕ, refl, sym, ◌∙◌, subst, Some, Result, arith, length, append_assoc}
 use Rattle.std.proofs.lemmas.List.{append-nil}
 use Rattle.std.specs.Prelude.{Contains}
 use Rattle.node_tree.specs.Applying.{Step, Size}
@@ -35,19 +35,22 @@ use Rattle.pf_script.proofs.CallKeeping.{at_both, on_to, read_image}
 use Rattle.pf_script.proofs.ChangeLine.{outcome_reply}
 use Rattle.pf_script.proofs.ChangeLeft.{ChangeLeft}
 use Rattle.pf_script.proofs.ChangeTold.{Outcome, Went, Broke, Lacked, Wanted, host_in, words_in}
+use Rattle.pf_script.proofs.ChangeOver.{begins_over, ends_over, on_files}
 use Rattle.pf_script.proofs.ChangeUnder.{Progress, Fell, change_known}
 use Rattle.pf_script.proofs.Flushed.{host_blamed, fault_of}
-use Rattle.pf_script.proofs.LineUnder.{begins, changed_over, fell_under}
+use Rattle.pf_script.proofs.LineUnder.{begins, fell_under}
+use Rattle.pf_script.proofs.OverGiven.{no_words_fault}
 use Rattle.pf_script.proofs.SeatCalls.{seen_by}
 use Rattle.pf_script.proofs.SizeKeeping.{size_keeps}
 use Rattle.pf_script.proofs.SizeLeft.{SizeLeft, kept_size, one_change, one_piece, size_in}
 use Rattle.pf_script.proofs.SizeLine.{line_passes, goes_on_now}
+use Rattle.pf_script.proofs.SizeOver.{same_host, size_over}
 use Rattle.pf_script.proofs.SizeSeen.{sized, size_result}
-use Rattle.pf_script.proofs.SizeTold.{resize_steps, next_steps, last_step}
-use Rattle.pf_script.proofs.Under.{OnBase, on_disk_by}
+use Rattle.pf_script.proofs.SizeTold.{resize_steps, GoesOn, next_steps, last_step}
+use Rattle.pf_script.proofs.Under.{blame_answered, OnBase, on_disk_by}
 
 module _ (key : List ℕ) (k size : ℕ) (own : OwnSeat) (book : Book) (seats : List Seal) (a : Honest) (agrees : Agrees book seats a.now) (image : IsImage a.now (reading a.now)) (first : Sheet) (target : IsTarget own.name) (standing : Standing)
-    (passes : NoneRefuses (rules key false (Own own) (lines.Size k size) [])) (b : Honest) (new : SessionState) (all : List (List ℕ)) where
+    (passes : (these : List Answer) → NoneRefuses (rules key false (Own own) (lines.Size k size) these)) (b : Honest) (new : SessionState) (all : List (List ℕ)) where
   abbrev At : Honest → SessionState → List Step → List (List ℕ) → List Sheet → Sheet → Type 0
   At m old made words sheets base = Progress key own (lines.Size k size) book seats a agrees image first target standing m old made words sheets base
 
@@ -69,43 +72,37 @@ module _ (key : List ℕ) (k size : ℕ) (own : OwnSeat) (book : Book) (seats : 
   SizeKnown Lacked = Ends false true replies.WordsFault
   SizeKnown Wanted = Unit {0}
 
-  abbrev OnNow : SessionState → List Step → Type 0
-  OnNow old made = (steps : List Step) → IsResize size old.tree.size steps → IsResize size (length own.content) (made ++ steps)
-
   module _ (old : SessionState) (before after : HostState) (m : Honest) (is_m : before.honest ≡ Some m) (is_b : after.honest ≡ Some b) (mine : IsOfScript old) (made : List Step) (words more : List (List ℕ)) (sheets : List Sheet) (base : Sheet)
-      (progress : At m old made words sheets base) (on : OnNow old made) (words_are : all ≡ words ++ more) (n : ℕ) (next : IsNextSize size old.tree.size n) (other : n ≢ old.tree.size) (others : Ran (LeavesApart old.name) (KeepsApart old.name) m b) (well : IsImage b.now (reading b.now)) where
+      (progress : At m old made words sheets base) (on : GoesOn own size old made) (words_are : all ≡ words ++ more) (n : ℕ) (next : IsNextSize size old.tree.size n) (other : n ≢ old.tree.size) (others : Ran (LeavesApart old.name) (KeepsApart old.name) m b) (well : IsImage b.now (reading b.now)) where
     abbrev steps : (steps : List Step) × IsResize size (length own.content) (made ++ Size n ∷ steps)
-    steps = next_steps key (first ∷ []) own k size [] all (λ _. Unit {0}) passes new old n next other made on
+    steps = next_steps own size old n next other made on
 
     one_known : (outcome : Outcome) → ((flushed : Bool) → outcome ≡ Went flushed → n ≡ size) → ChangeLeft (Size n) old new before after more outcome → SizeKnown outcome
     one_known (Went flushed) whole left =
-        let out = change_known key own (lines.Size k size) book seats a agrees image first target standing m b old new made words more sheets base (Size n) steps.0 steps.1 mine progress before after is_m is_b others well (Went flushed) left in
+        let out = change_known key own (lines.Size k size) book seats a agrees image first target standing m b old new made words more sheets base (Size n) steps.0 steps.1 passes mine progress before after is_m is_b others well (Went flushed) left in
         record {
           made = made ++ Size n ∷ [];
           sheets = out.sheets_now;
           base = out.base_now;
           progress = subst (λ (w : List (List ℕ)). At b new (made ++ Size n ∷ []) w out.sheets_now out.base_now) (sym words_are) out.progress_now;
-          asks = last_step key (first ∷ []) own k size [] all (λ _. Unit {0}) passes new old n next other (whole flushed refl) made on;
+          asks = last_step own size old n next other (whole flushed refl) made on;
         }
     one_known (Broke blame) whole left =
         subst (λ (w : List (List ℕ)). Fell key own (lines.Size k size) book seats a agrees image first target standing b new w (host_blamed blame) false (flush_reply (fault_of blame))) (sym words_are)
-        (change_known key own (lines.Size k size) book seats a agrees image first target standing m b old new made words more sheets base (Size n) steps.0 steps.1 mine progress before after is_m is_b others well (Broke blame) left)
+        (change_known key own (lines.Size k size) book seats a agrees image first target standing m b old new made words more sheets base (Size n) steps.0 steps.1 passes mine progress before after is_m is_b others well (Broke blame) left)
     one_known Lacked whole left =
         subst (λ (w : List (List ℕ)). Fell key own (lines.Size k size) book seats a agrees image first target standing b new w false true replies.WordsFault) (sym words_are)
-        (change_known key own (lines.Size k size) book seats a agrees image first target standing m b old new made words more sheets base (Size n) steps.0 steps.1 mine progress before after is_m is_b others well Lacked left)
+        (change_known key own (lines.Size k size) book seats a agrees image first target standing m b old new made words more sheets base (Size n) steps.0 steps.1 passes mine progress before after is_m is_b others well Lacked left)
     one_known Wanted whole left = tt
 
-  same_host : (before after : HostState) (m : Honest) → before.honest ≡ Some m → after.honest ≡ Some b → after ≡ before → b ≡ m
-  same_host before after m is_m is_b stays = let e : Some b ≡ Some m = sym is_b ∙ ap (λ (h : HostState). h.honest) stays ∙ is_m in cc
-
   pub size_known : (old : SessionState) (before after : HostState) (more : List (List ℕ)) (outcome : Outcome) → SizeLeft size old new before after more outcome → (m : Honest) → before.honest ≡ Some m → after.honest ≡ Some b
-      → (made : List Step) (words : List (List ℕ)) (sheets : List Sheet) (base : Sheet) → At m old made words sheets base → OnNow old made → all ≡ words ++ more → SizeKnown outcome
+      → (made : List Step) (words : List (List ℕ)) (sheets : List Sheet) (base : Sheet) → At m old made words sheets base → GoesOn own size old made → all ≡ words ++ more → SizeKnown outcome
   size_known old before after _ _ (kept_size _ _ _ _ size_is is stays) m is_m is_b made words sheets base progress on words_are = record {
     made = made;
     sheets = sheets;
     base = base;
     progress = subst (λ (w : List (List ℕ)). At b new made w sheets base) (sym (words_are ∙ append-nil words))
-        (subst (λ (h : Honest). At h new made words sheets base) (sym (same_host before after m is_m is_b stays)) (subst (λ (s : SessionState). At m s made words sheets base) (sym is) progress));
+        (subst (λ (h : Honest). At h new made words sheets base) (sym (same_host b before after m is_m is_b stays)) (subst (λ (s : SessionState). At m s made words sheets base) (sym is) progress));
     asks = subst (λ (s : List Step). IsResize size (length own.content) s) (append-nil made) (on [] (same old.tree.size size_is));
   }
   size_known old before after more outcome (one_change _ _ _ _ n _ _ mine next other whole aside reads left) m is_m is_b made words sheets base progress on words_are =
@@ -114,7 +111,7 @@ module _ (key : List ℕ) (k size : ℕ) (own : OwnSeat) (book : Book) (seats : 
       let t = on_to (Ran (LeavesApart old.name) (KeepsApart old.name)) before.honest between.honest m is_m aside in
       let steps = resize_steps size size (old.tree.size + 32768) (omega arith) in
       let out = change_known key own (lines.Size k size) book seats a agrees image first target standing m t.0 old mid made words one sheets base (Size (old.tree.size + 32768)) steps.0
-      (on (Size (old.tree.size + 32768) ∷ steps.0) (piece old.tree.size steps.0 far steps.1)) mine progress before between is_m t.1 t.2 (read_image between.honest t.0 t.1 reads) (Went flushed) left in
+      (on (Size (old.tree.size + 32768) ∷ steps.0) (piece old.tree.size steps.0 far steps.1)) passes mine progress before between is_m t.1 t.2 (read_image between.honest t.0 t.1 reads) (Went flushed) left in
       size_known mid between after more outcome rest t.0 t.1 is_b (made ++ Size (old.tree.size + 32768) ∷ []) (words ++ one) out.sheets_now out.base_now out.progress_now
       (λ left is_left.
       subst (λ (s : List Step). IsResize size (length own.content) s) (sym (append_assoc made (Size (old.tree.size + 32768) ∷ []) left))
@@ -128,9 +125,9 @@ module _ (key : List ℕ) (k size : ℕ) (small : size ≤ 2 ^ 32) (old new : Se
 
   module _ (these : List Answer) (words : List (List ℕ)) (outcome : Outcome) (left : SizeLeft size old new before after words outcome) where
     known : (seen : Seen) (reply : Reply) (a b : Honest) → before.honest ≡ Some a → after.honest ≡ Some b → (book : Book) (seats : List Seal) (agrees : Agrees book seats a.now) (base : Sheet) (on : OnBase key false line seen reply old whole (Some new) a b book seats base)
-        → SizeKnown key k size (seat_on base old) book seats a agrees on.image base seated.of_script.is_target (stands_on key (reading a.now)) (line_passes key k size small old new whole base []) b new words outcome
+        → SizeKnown key k size (seat_on base old) book seats a agrees on.image base seated.of_script.is_target (stands_on key (reading a.now)) (line_passes key k size small old new whole base) b new words outcome
     known seen reply a b is_a is_b book seats agrees base on =
-        size_known key k size (seat_on base old) book seats a agrees on.image base seated.of_script.is_target (stands_on key (reading a.now)) (line_passes key k size small old new whole base []) b new words old before after words outcome left a is_a is_b
+        size_known key k size (seat_on base old) book seats a agrees on.image base seated.of_script.is_target (stands_on key (reading a.now)) (line_passes key k size small old new whole base) b new words old before after words outcome left a is_a is_b
         [] [] [] base (begins key line seen reply old whole (Some new) a b book seats agrees base on seated (stands_on key (reading a.now))) (λ steps is. goes_on_now key k size small old new whole base steps is) refl
 
   -- what is known of any host
@@ -145,7 +142,7 @@ module _ (key : List ℕ) (k size : ℕ) (small : size ≤ 2 ^ 32) (old new : Se
   by_outcome (Went flushed) these words told taken on_host on_words left = record {
     seen = seen_by these words false false;
     was_seen = record { answers = told; words = taken; of_host = on_host; of_words = on_words };
-    under = on_disk_by Anything key false line (seen_by these words false false) (replies.Sized size) old whole (Some new) before after keeps anything
+    under = on_disk_by Anything key false line (seen_by these words false false) (replies.Sized size) old whole (Some new) before after tt keeps anything
         (λ a b is_a is_b ran book seats agrees base on.
         let own = seat_on base old in
         let out = known these words (Went flushed) left (seen_by these words false false) (replies.Sized size) a b is_a is_b book seats agrees base on in
@@ -158,29 +155,38 @@ module _ (key : List ℕ) (k size : ℕ) (small : size ≤ 2 ^ 32) (old new : Se
               (subst (λ (k : List ℕ). Contains then.left (seat_of k new.name out.base)) (sym then.was.key_is) (subst (λ (n : Name). Contains then.left (seat_of old.key n out.base)) (sym then.was.name_is) then.seated)) then.was.kept refl refl;
           spares = then.spares;
           concerned = λ n among. inl (then.only n among);
+          idle = tt;
           turn = λ _.
               accepted (line_passes key k size small old new whole base these) (record { host = refl; random = refl })
               (changed own (seat_on out.base new) line (replies.Sized size) out.made out.sheets out.asks then.was.makes (to_size k size));
-          over = λ _ calm.
-              changed_over key line (replies.Sized size) own (seat_on out.base new) out.made words out.sheets book seats then.left a b (λ given. line_passes key k size small old new whole base given) out.asks then.was.makes
-              (to_size k size) agrees on.image then.did on.entry on.was;
         });
+    over = on_files Anything key line (seen_by these words false false) (replies.Sized size) old whole new before after anything
+        (λ a b is_a is_b ran calm base on.
+        let out = size_over key k size (seat_on base old) (reading a.now) base b new words old before after words (Went flushed) left a is_a is_b [] [] [] base
+        (begins_over key line (seen_by these words false false) (replies.Sized size) old whole new a b base on) (λ steps is. goes_on_now key k size small old new whole base steps is) refl in
+        ends_over key line these (replies.Sized size) (seat_on base old) base new a b out.made words out.sheets out.base out.so_far (line_passes key k size small old new whole base) out.asks (to_size k size));
   }
   by_outcome (Broke blame) these words told taken on_host on_words left = record {
     seen = seen_by these words (host_blamed blame) false;
     was_seen = record { answers = told; words = taken; of_host = on_host; of_words = on_words };
-    under = on_disk_by Anything key false line (seen_by these words (host_blamed blame) false) (flush_reply (fault_of blame)) old whole (Some new) before after keeps anything
+    under = on_disk_by Anything key false line (seen_by these words (host_blamed blame) false) (flush_reply (fault_of blame)) old whole (Some new) before after (blame_answered blame) keeps anything
         (λ a b is_a is_b ran book seats agrees base on.
-        fell_under key line old new seated (seen_by these words (host_blamed blame) false) (flush_reply (fault_of blame)) these words (host_blamed blame) false refl a b book seats agrees base on.image
+        fell_under key line old new seated (seen_by these words (host_blamed blame) false) (flush_reply (fault_of blame)) (blame_answered blame) these words (host_blamed blame) false refl a b book seats agrees base on.image
         (known these words (Broke blame) left (seen_by these words (host_blamed blame) false) (flush_reply (fault_of blame)) a b is_a is_b book seats agrees base on));
+    over = on_files Anything key line (seen_by these words (host_blamed blame) false) (flush_reply (fault_of blame)) old whole new before after anything
+        (λ a b is_a is_b ran calm base on.
+        absurd
+        (size_over key k size (seat_on base old) (reading a.now) base b new words old before after words (Broke blame) left a is_a is_b [] [] [] base
+        (begins_over key line (seen_by these words (host_blamed blame) false) (flush_reply (fault_of blame)) old whole new a b base on) (λ steps is. goes_on_now key k size small old new whole base steps is) refl calm.host));
   }
   by_outcome Lacked these words told taken on_host on_words left = record {
     seen = seen_by these words false true;
     was_seen = record { answers = told; words = taken; of_host = on_host; of_words = on_words };
-    under = on_disk_by Anything key false line (seen_by these words false true) replies.WordsFault old whole (Some new) before after keeps anything
+    under = on_disk_by Anything key false line (seen_by these words false true) replies.WordsFault old whole (Some new) before after tt keeps anything
         (λ a b is_a is_b ran book seats agrees base on.
-        fell_under key line old new seated (seen_by these words false true) replies.WordsFault these words false true refl a b book seats agrees base on.image
+        fell_under key line old new seated (seen_by these words false true) replies.WordsFault tt these words false true refl a b book seats agrees base on.image
         (known these words Lacked left (seen_by these words false true) replies.WordsFault a b is_a is_b book seats agrees base on));
+    over = on_files Anything key line (seen_by these words false true) replies.WordsFault old whole new before after anything (λ a b is_a is_b ran calm base on. absurd (no_words_fault calm));
   }
   by_outcome Wanted these words told taken on_host on_words left = tt
 

@@ -76,17 +76,17 @@ module _ (key : List ℕ) (sealed : List Sheet) (own : OwnSeat) (line : ScriptLi
       ((unforged_gives key (sealed ++ sheets) given (subst (λ (s : List Sheet). Unforged key (sealed ++ s) given) (sheets_flushed own sheets) unforged)).nodes name sheet among))
 
   -- the turn of a line that failed
-  pub fails_turn : NoneRefuses (rules key false (Own own) line given) → (words : List (List ℕ)) (blame : Blame) (acts : List Act) (left : Seat) → Fails key (seen_by given words (host_blamed blame) false) blame (Own own) line acts left
+  pub fails_turn : ((these : List Answer) → NoneRefuses (rules key false (Own own) line these)) → (words : List (List ℕ)) (blame : Blame) (acts : List Act) (left : Seat) → Fails key (seen_by given words (host_blamed blame) false) blame (Own own) line acts left
       → SeatTurn (on_carried key sealed) key false (Own own) line (seen_by given words (host_blamed blame) false) (flush_reply (fault_of blame)) acts left
-  fails_turn passes words ByHost acts left fails = host_failed (record { host = refl; random = refl }) fails refl
-  fails_turn passes words (ByDamage damage) acts left fails = was_damaged damage passes (record { host = refl; random = refl }) fails refl
+  fails_turn passes words ByHost acts left fails = host_failed (passes []) (record { host = refl; random = refl }) fails refl
+  fails_turn passes words (ByDamage damage) acts left fails = was_damaged damage (passes given) (record { host = refl; random = refl }) fails refl
 
   module _ (old : SessionState) (made : List Step) (words : List (List ℕ)) (sheets : List Sheet) (base : Sheet) (was : Made sealed own old made words sheets base) where
     -- all steps were made
-    pub all_made : AsksFor line (length own.content) made → (reply : Reply) → IsChangeReply sheets line reply → NoneRefuses (rules key false (Own own) line given) → LineEnds words false false reply old (flushes own sheets)
+    pub all_made : AsksFor line (length own.content) made → (reply : Reply) → IsChangeReply sheets line reply → ((these : List Answer) → NoneRefuses (rules key false (Own own) line these)) → LineEnds words false false reply old (flushes own sheets)
     all_made asks reply is_reply passes = (
       Own (seat_on base old),
-      accepted passes (record { host = refl; random = refl }) (changed own (seat_on base old) line reply made sheets asks was.makes is_reply),
+      accepted (passes given) (record { host = refl; random = refl }) (changed own (seat_on base old) line reply made sheets asks was.makes is_reply),
       whole_file base old was.whole (subst (λ (s : List Sheet). Contains (sealed ++ s) base) (sym (sheets_flushed own sheets)) was.among) was.linked was.kept refl refl,
     )
 
@@ -98,7 +98,7 @@ module _ (key : List ℕ) (sealed : List Sheet) (own : OwnSeat) (line : ScriptLi
       broken_shows acts shown key_of name_of broken = broken_file (broken_seat shown) new broken refl (key_of ∙ sym key_is) (name_of ∙ sym name_is) refl refl
 
       -- a fetch failed
-      pub fetch_failed : NoneRefuses (rules key false (Own own) line given) → (blame : Blame) → Fits (length (now base old.tree)) old.tree.dirty step → BlamesFetch base own.name given blame → new.broken ≡ true
+      pub fetch_failed : ((these : List Answer) → NoneRefuses (rules key false (Own own) line these)) → (blame : Blame) → Fits (length (now base old.tree)) old.tree.dirty step → BlamesFetch base own.name given blame → new.broken ≡ true
           → LineEnds words (host_blamed blame) false (flush_reply (fault_of blame)) new (flushes own sheets)
       fetch_failed passes blame fits blames broken = (
         Own (broken_seat (seat_on base old)),
@@ -107,16 +107,16 @@ module _ (key : List ℕ) (sealed : List Sheet) (own : OwnSeat) (line : ScriptLi
       )
 
       -- no word came for the flush before
-      pub no_word : (lost : List (List ℕ)) → FlushesFirst (length (now base old.tree)) old.tree.dirty step → new ≡ old → LineEnds (words ++ lost) false true replies.WordsFault new (flushes own sheets)
-      no_word lost first same = (
+      pub no_word : ((these : List Answer) → NoneRefuses (rules key false (Own own) line these)) → (lost : List (List ℕ)) → FlushesFirst (length (now base old.tree)) old.tree.dirty step → new ≡ old → LineEnds (words ++ lost) false true replies.WordsFault new (flushes own sheets)
+      no_word passes lost first same = (
         Own (seat_on base old),
-        words_failed (record { host = refl; random = refl }) (no_flush_before own (seat_on base old) line step words lost sheets some first refl) refl,
+        words_failed (passes given) (record { host = refl; random = refl }) (no_flush_before own (seat_on base old) line step words lost sheets some first refl) refl,
         subst (λ (s : SessionState). Shows (sealed ++ sheets_of (flushes own sheets)) (Own (seat_on base old)) (Some s)) (sym same)
             (whole_file base old was.whole (subst (λ (s : List Sheet). Contains (sealed ++ s) base) (sym (sheets_flushed own sheets)) was.among) was.linked was.kept refl refl),
       )
 
       -- the flush before failed
-      pub flush_failed : NoneRefuses (rules key false (Own own) line given) → (blame : Blame) (more : List (List ℕ)) (next : Sheet) → FlushesFirst (length (now base old.tree)) old.tree.dirty step → Seals (seat_on base old) more next → BlamesFlush own.name given blame → new.broken ≡ true
+      pub flush_failed : ((these : List Answer) → NoneRefuses (rules key false (Own own) line these)) → (blame : Blame) (more : List (List ℕ)) (next : Sheet) → FlushesFirst (length (now base old.tree)) old.tree.dirty step → Seals (seat_on base old) more next → BlamesFlush own.name given blame → new.broken ≡ true
           → LineEnds (words ++ more) (host_blamed blame) false (flush_reply (fault_of blame)) new (flushes own sheets ++ record { deed = Flush (seat_of own.key own.name next); done = false } ∷ [])
       flush_failed passes blame more next first seals blames broken =
           let acts : List Act = flushes own sheets ++ record { deed = Flush (seat_of own.key own.name next); done = false } ∷ [] in (
@@ -126,7 +126,7 @@ module _ (key : List ℕ) (sealed : List Sheet) (own : OwnSeat) (line : ScriptLi
           )
 
       -- a fetch failed after it
-      pub fetch_failed_after : NoneRefuses (rules key false (Own own) line given) → (blame : Blame) (more : List (List ℕ)) (next : Sheet) → FlushesFirst (length (now base old.tree)) old.tree.dirty step → Seals (seat_on base old) more next → BlamesFetch next own.name given blame
+      pub fetch_failed_after : ((these : List Answer) → NoneRefuses (rules key false (Own own) line these)) → (blame : Blame) (more : List (List ℕ)) (next : Sheet) → FlushesFirst (length (now base old.tree)) old.tree.dirty step → Seals (seat_on base old) more next → BlamesFetch next own.name given blame
           → new.broken ≡ true → LineEnds (words ++ more) (host_blamed blame) false (flush_reply (fault_of blame)) new (flushes own (sheets ++ next ∷ []))
       fetch_failed_after passes blame more next first seals blames broken = (
         Own (broken_seat (resealed (seat_on base old) next)),

@@ -2,7 +2,7 @@
 use Rattle.std.proofs.Common.{◌≡◌, ◌⊎◌, inl, inr, Bool, true, false, List, [], ◌∷◌, ℕ, refl, sym, ◌∙◌, ap, subst, Option, Some, None, Result}
 use Rattle.std.specs.Prelude.{Contains, IsSome}
 use Rattle.node_tree.specs.Sheet.{Sheet}
-use Rattle.pf_io.specs.Disk.{Name, IsImage, reading}
+use Rattle.pf_io.specs.Disk.{Name, Files, IsImage, reading}
 use Rattle.pf_io.specs.Host.{HostState, OnDisk}
 use Rattle.pf_io.specs.Moments.{Honest, Ran}
 use Rattle.pf_io.specs.Names.{IsTarget}
@@ -14,16 +14,17 @@ use Rattle.pf_session.specs.Moving.{IsKeptOn}
 use Rattle.pf_session.specs.Reopening.{Stood}
 use Rattle.pf_session.specs.State.{SessionState}
 use Rattle.pf_script.specs.Book.{Book, Entry, Seal, Agrees}
-use Rattle.pf_script.specs.BookActs.{Deed, Flush, Among, booked_all}
-use Rattle.pf_script.specs.BookDebts.{Flushes, DidAll, Owes, seat_of, seal_of}
+use Rattle.pf_script.specs.BookActs.{Deed, Flush, Act, Among, booked_all}
+use Rattle.pf_script.specs.BookDebts.{Unchanged, Flushes, DidAll, Owes, seat_of, seal_of}
 use Rattle.pf_script.specs.BookSeats.{Covering, Covers, KeepsUnder}
-use Rattle.pf_script.specs.BookTurns.{ShowsUnder, no_file, of_book, other_file, Knows, LineUnder, SeatUnder, SeatAgrees, SeatBooked}
-use Rattle.pf_script.specs.FileTurns.{answers_of}
+use Rattle.pf_script.specs.BookTurns.{ShowsUnder, no_file, of_book, other_file, Knows, IdleIfRefused, LineUnder, SeatUnder, SeatAgrees, SeatBooked}
+use Rattle.pf_script.specs.FileTurns.{stands_on, answers_of, ShowsOver, no_file as no_file_over, whole_file, broken_file, SeatFiles}
 use Rattle.pf_script.specs.Desk.{seat_on}
 use Rattle.pf_script.specs.DeskSteps.{CoversSome, Concerns}
 use Rattle.pf_script.specs.Rules.{IsFirst, rules}
 use Rattle.pf_script.specs.Script.{Seat, Empty, Own}
-use Rattle.pf_script.specs.Turns.{Seen, refused}
+use Rattle.pf_script.specs.SeatReplies.{flush_reply}
+use Rattle.pf_script.specs.Turns.{Seen, Blame, ByHost, ByDamage, SeatTurn, refused}
 use Rattle.pf_script.specs.declared.line.ScriptLine.{ScriptLine}
 use Rattle.pf_script.specs.declared.reply.Reply.{Reply}
 use Rattle.pf_script.specs.declared.reply.Reply.TheVariants as replies
@@ -31,6 +32,7 @@ use Rattle.pf_script.specs.declared.reply.Why.{Why}
 use Rattle.pf_script.proofs.ActKeeping.{no_sheet, one_act, unchanged_now}
 use Rattle.pf_script.proofs.CallKeeping.{at_both, both_with}
 use Rattle.pf_script.proofs.FlushLine.{flush_act}
+use Rattle.pf_script.proofs.Flushed.{fault_of}
 use Rattle.pf_script.proofs.OverGiven.{first_unasked, over_idle}
 use Rattle.pf_script.proofs.Refusing.{idle_seen, none_taken}
 use Rattle.pf_script.proofs.Seats.{seats_after, seat_is_left}
@@ -54,6 +56,30 @@ looks_like book seats seat (Some s) (other_file shown own free key name broken i
     let same = same_session s own some in
     record { shown = shown; key_is = key ∙ ap (λ (x : SessionState). x.key) same; name_is = name ∙ ap (λ (x : SessionState). x.name) same; broken_is = broken ∙ ap (λ (x : SessionState). x.broken) same; seat_is = is }
 
+-- so over files
+pub looks_over : (files : Files) (seat : Seat) (session : Option SessionState) → ShowsOver files seat session → LooksLike session seat
+looks_over files seat None (no_file_over is none) = is
+looks_over files seat None (whole_file sheet own whole path reopens kept is some) = absurd (cc)
+looks_over files seat None (broken_file shown own is_broken broken key name is some) = absurd (cc)
+looks_over files seat (Some s) (no_file_over is none) = absurd (cc)
+looks_over files seat (Some s) (whole_file sheet own whole path reopens kept is some) =
+    let same = same_session s own some in
+    record { shown = seat_on sheet own; key_is = ap (λ (x : SessionState). x.key) same; name_is = ap (λ (x : SessionState). x.name) same; broken_is = ap (λ (x : SessionState). x.broken) same; seat_is = is }
+looks_over files seat (Some s) (broken_file shown own is_broken broken key name is some) =
+    let same = same_session s own some in
+    record {
+      shown = shown;
+      key_is = key ∙ ap (λ (x : SessionState). x.key) same;
+      name_is = name ∙ ap (λ (x : SessionState). x.name) same;
+      broken_is = broken ∙ sym is_broken ∙ ap (λ (x : SessionState). x.broken) same;
+      seat_is = is;
+    }
+
+-- a reply that is no refusal
+abbrev pub IsAnswered : Reply → Type 0
+IsAnswered (replies.Refused why) = ⊥
+IsAnswered other = Unit {0}
+
 -- a seat for a session that is covered
 record SeatAfter (book : Book) (seats : List Seal) (new : Option SessionState) : Type 0 where
   after : Seat
@@ -74,14 +100,56 @@ seat_after book seats (Some s) covers = by_broken s.broken refl
     by_broken true is = free (inl is)
     by_broken false is = by_entry is (book s.name) refl
 
+pub idle_answered : (reply : Reply) → IsAnswered reply → (acts : List Act) → IdleIfRefused reply acts
+idle_answered replies.None answered acts = tt
+idle_answered replies.Created answered acts = tt
+idle_answered (replies.Opened size) answered acts = tt
+idle_answered (replies.Viewed size logged) answered acts = tt
+idle_answered (replies.Given bytes) answered acts = tt
+idle_answered (replies.Written count flushed) answered acts = tt
+idle_answered (replies.Sized size) answered acts = tt
+idle_answered replies.Flushed answered acts = tt
+idle_answered replies.Moved answered acts = tt
+idle_answered (replies.Drawn nonce) answered acts = tt
+idle_answered (replies.Closed lost) answered acts = tt
+idle_answered (replies.Refused why) answered acts = absurd answered
+idle_answered (replies.DamagedNode damage) answered acts = tt
+idle_answered (replies.DamagedChunk chunk) answered acts = tt
+idle_answered replies.HostFault answered acts = tt
+idle_answered replies.WordsFault answered acts = tt
+
+-- a flush that failed after its words
+pub blame_answered : (blame : Blame) → IsAnswered (flush_reply (fault_of blame))
+blame_answered ByHost = tt
+blame_answered (ByDamage damage) = tt
+
+-- without acts
+pub idle_none : (reply : Reply) → IdleIfRefused reply []
+idle_none replies.None = tt
+idle_none replies.Created = tt
+idle_none (replies.Opened size) = tt
+idle_none (replies.Viewed size logged) = tt
+idle_none (replies.Given bytes) = tt
+idle_none (replies.Written count flushed) = tt
+idle_none (replies.Sized size) = tt
+idle_none replies.Flushed = tt
+idle_none replies.Moved = tt
+idle_none (replies.Drawn nonce) = tt
+idle_none (replies.Closed lost) = tt
+idle_none (replies.Refused why) = refl
+idle_none (replies.DamagedNode damage) = tt
+idle_none (replies.DamagedChunk chunk) = tt
+idle_none replies.HostFault = tt
+idle_none replies.WordsFault = tt
+
 module _ (key : List ℕ) (taken : Bool) (line : ScriptLine) (seen : Seen) (reply : Reply) where
   -- where the book does not tell what the line comes to, it is kept
-  pub unknown_under : (before : Covering) (old new : Option SessionState) (a b : Honest) → KeepsUnder before (CoversSome new) (Concerns taken line old) a b
+  pub unknown_under : IsAnswered reply → (before : Covering) (old new : Option SessionState) (a b : Honest) → KeepsUnder before (CoversSome new) (Concerns taken line old) a b
       → (book : Book) (seats : List Seal) (seat : Seat) → Agrees book seats a.now → IsImage a.now (reading a.now) → before book seats → ¬ (Knows book key seat line reply) → LineUnder key taken line seen reply old new book seats seat a b
-  unknown_under before old new a b keeps book seats seat agrees reads covers unknown =
+  unknown_under answered before old new a b keeps book seats seat agrees reads covers unknown =
       let kept = keeps book seats agrees reads covers in
       let then = seat_after (booked_all kept.0 book) kept.1 new kept.3 in
-      record { acts = kept.0; left = kept.1; after = then.after; did = kept.2; shows = then.shows; spares = kept.4; concerned = kept.5; turn = λ knows. absurd (unknown knows); over = λ knows. absurd (unknown knows) }
+      record { acts = kept.0; left = kept.1; after = then.after; did = kept.2; shows = then.shows; spares = kept.4; concerned = kept.5; idle = idle_answered reply answered kept.0; turn = λ knows. absurd (unknown knows) }
 
   -- a line on a whole session
   module _ (old : SessionState) (whole : old.broken ≡ false) (new : Option SessionState) (a b : Honest) where
@@ -110,11 +178,13 @@ module _ (key : List ℕ) (taken : Bool) (line : ScriptLine) (seen : Seen) (repl
         by_case (inl broken) = not_broken (sym looks.broken_is ∙ broken)
         by_case (inr has) = let e : false ≡ true = subst (λ (o : Option Entry). IsSome o) (ap book looks.name_is ∙ none) has in absurd (cc)
 
-    pub own_under : KeepsUnder (Covers old) (CoversSome new) (Concerns taken line (Some old)) a b → KnownUnder → SeatUnder key taken line seen reply (Some old) new a b
-    own_under keeps known book seats seat agrees reads shows = by_shows shows
+    by_known : ((book : Book) (seats : List Seal) (seat : Seat) → Agrees book seats a.now → IsImage a.now (reading a.now) → ShowsUnder book seats seat (Some old) → book old.name ≡ None → ¬ (Knows book key seat line reply)
+        → LineUnder key taken line seen reply (Some old) new book seats seat a b)
+        → KnownUnder → SeatUnder key taken line seen reply (Some old) new a b
+    by_known free known book seats seat agrees reads shows = by_shows shows
       where
         unknown : book old.name ≡ None → LineUnder key taken line seen reply (Some old) new book seats seat a b
-        unknown none = unknown_under (Covers old) (Some old) new a b keeps book seats seat agrees reads (no_entry book seats none) (unknown_own book seat (looks_like book seats seat (Some old) shows) none)
+        unknown none = free book seats seat agrees reads shows none (unknown_own book seat (looks_like book seats seat (Some old) shows) none)
 
         by_entry : (sheet : Sheet) → Contains seats (seat_of old.key old.name sheet) → IsKeptOn sheet old → seat ≡ Own (seat_on sheet old) → (o : Option Entry) → book old.name ≡ o → LineUnder key taken line seen reply (Some old) new book seats seat a b
         by_entry sheet seated kept is None was = unknown was
@@ -130,24 +200,58 @@ module _ (key : List ℕ) (taken : Bool) (line : ScriptLine) (seen : Seen) (repl
         by_shows (other_file shown own (inl broken) key_is name_is broken_is is some) = let same = same_session old own some in absurd (not_broken (sym (ap (λ (s : SessionState). s.broken) same) ∙ broken))
         by_shows (other_file shown own (inr none) key_is name_is broken_is is some) = unknown (subst (λ (s : SessionState). book s.name ≡ None) (same_session old own some) none)
 
+    -- a line that is no refusal
+    pub own_under : IsAnswered reply → KeepsUnder (Covers old) (CoversSome new) (Concerns taken line (Some old)) a b → KnownUnder → SeatUnder key taken line seen reply (Some old) new a b
+    own_under answered keeps known =
+        by_known (λ book seats seat agrees reads shows none unknown. unknown_under answered (Covers old) (Some old) new a b keeps book seats seat agrees reads (no_entry book seats none) unknown) known
+
+  -- a line that does nothing, on a whole session: it has this turn on the sheet of the seat
+  pub own_idle : (old : SessionState) → old.broken ≡ false → (new : Option SessionState) → new ≡ Some old → (a b : Honest) → Unchanged a b
+      → ((base : Sheet) → SeatTurn (stands_on key (reading a.now)) key taken (Own (seat_on base old)) line seen reply [] (Own (seat_on base old))) → SeatUnder key taken line seen reply (Some old) new a b
+  own_idle old whole new same a b only turn =
+      subst (λ (o : Option SessionState). SeatUnder key taken line seen reply (Some old) o a b) (sym same)
+      (by_known old whole (Some old) a b
+      (λ book seats seat agrees reads shows none unknown. record {
+        acts = [];
+        left = seats;
+        after = seat;
+        did = (only, λ s has. has);
+        shows = shows;
+        spares = λ s has apart. has;
+        concerned = λ n among. absurd among;
+        idle = idle_none reply;
+        turn = λ knows. absurd (unknown knows);
+      })
+      (λ book seats agrees base on. record {
+        acts = [];
+        left = seats;
+        after = Own (seat_on base old);
+        did = (only, λ s has. has);
+        shows = of_book base old whole on.seated on.kept refl refl;
+        spares = λ s has apart. has;
+        concerned = λ n among. absurd among;
+        idle = idle_none reply;
+        turn = λ _. turn base;
+      }))
+
 -- so of a call on a host
 pub on_disk_by : (P : Honest → Honest → Type 0) (key : List ℕ) (taken : Bool) (line : ScriptLine) (seen : Seen) (reply : Reply) (old : SessionState) (whole : old.broken ≡ false) (new : Option SessionState) (before after : HostState)
-    → OnDisk before after (KeepsUnder (Covers old) (CoversSome new) (λ name. name ≡ old.name)) → OnDisk before after P
+    → IsAnswered reply → OnDisk before after (KeepsUnder (Covers old) (CoversSome new) (λ name. name ≡ old.name)) → OnDisk before after P
     → ((a b : Honest) → before.honest ≡ Some a → after.honest ≡ Some b → P a b → KnownUnder key taken line seen reply old whole new a b) → OnDisk before after (SeatUnder key taken line seen reply (Some old) new)
-on_disk_by P key taken line seen reply old whole new before after keeps holds known =
+on_disk_by P key taken line seen reply old whole new before after answered keeps holds known =
     both_with P (SeatUnder key taken line seen reply (Some old) new) before.honest after.honest holds
     (λ a b is is2 p.
-    own_under key taken line seen reply old whole new a b
+    own_under key taken line seen reply old whole new a b answered
     (keeps_more (Covers old) (CoversSome new) (λ name. name ≡ old.name) (Concerns taken line (Some old)) a b (λ name same. inl same)
     (at_both (KeepsUnder (Covers old) (CoversSome new) (λ name. name ≡ old.name)) before.honest after.honest a b is is2 keeps))
     (known a b is is2 p))
 
 -- of one that changes the session's name alone
 pub on_disk : (key : List ℕ) (taken : Bool) (line : ScriptLine) (seen : Seen) (reply : Reply) (old : SessionState) (whole : old.broken ≡ false) (new : Option SessionState) (before after : HostState)
-    → OnDisk before after (KeepsUnder (Covers old) (CoversSome new) (λ name. name ≡ old.name)) → Aside old.name before after
+    → IsAnswered reply → OnDisk before after (KeepsUnder (Covers old) (CoversSome new) (λ name. name ≡ old.name)) → Aside old.name before after
     → ((a b : Honest) → before.honest ≡ Some a → after.honest ≡ Some b → Ran (LeavesApart old.name) (KeepsApart old.name) a b → KnownUnder key taken line seen reply old whole new a b)
     → OnDisk before after (SeatUnder key taken line seen reply (Some old) new)
-on_disk key taken line seen reply old whole new before after keeps aside known = on_disk_by (Ran (LeavesApart old.name) (KeepsApart old.name)) key taken line seen reply old whole new before after keeps aside known
+on_disk key taken line seen reply old whole new before after answered keeps aside known = on_disk_by (Ran (LeavesApart old.name) (KeepsApart old.name)) key taken line seen reply old whole new before after answered keeps aside known
 
 -- no act is of any name, and one flush is of the session's
 pub none_concerned : (taken : Bool) (line : ScriptLine) (old : Option SessionState) (name : Name) → Among [] name → Concerns taken line old name
@@ -187,10 +291,16 @@ refused_agrees key taken line why old host words first = record {
         shows = shows;
         spares = λ s has apart. has;
         concerned = λ name none. absurd none;
+        idle = refl;
         turn = λ _. refused why (first seat (looks_like book seats seat old shows)) (record { host = refl; random = refl }) refl refl refl refl;
-        over = λ knows calm.
-            over_idle key taken seat line [] (replies.Refused why) seat a a (unchanged_now a)
-            (refused why (first_unasked key taken seat line (answers_of (reading a.now) line) why (first seat (looks_like book seats seat old shows))) (record { host = refl; random = refl }) refl refl refl refl);
+      });
+  over = both_same (SeatFiles key taken line idle_seen (replies.Refused why) old old) host.honest host.honest refl
+      (λ a seat calm shows opened. record {
+        acts = [];
+        after = seat;
+        over = over_idle key taken seat line [] (replies.Refused why) seat a a (unchanged_now a)
+            (refused why (first_unasked key taken seat line (answers_of (reading a.now) line) why (first seat (looks_over (reading a.now) seat old shows))) (record { host = refl; random = refl }) refl refl refl refl);
+        shows = shows;
       });
 }
 

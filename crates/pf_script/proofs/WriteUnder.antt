@@ -15,10 +15,9 @@ use Rattle.pf_session.specs.State.{SessionState}
 use Rattle.pf_session.specs.declared.fault.Written.{Written}
 use Rattle.pf_session.specs.declared.fault.WriteFault.{WriteFault}
 use Rattle.pf_script.specs.BookSeats.{Covers, KeepsUnder}
-use Rattle.pf_script.specs.BookTurns.{of_book, SeatUnder, SeatBooked}
+use Rattle.pf_script.specs.BookTurns.{SeatUnder, SeatBooked}
 use Rattle.pf_script.specs.Desk.{IsSeated, seat_on}
-use Rattle.pf_script.specs.DeskSteps.{Concerns}
-use Rattle.pf_script.specs.FileTurns.{stands_on, answers_of}
+use Rattle.pf_script.specs.FileTurns.{stands_on, answers_of, SeatFiles}
 use Rattle.pf_script.specs.Rules.{writing_rules}
 use Rattle.pf_script.specs.Script.{Own}
 use Rattle.pf_script.specs.SeatReplies.{write_reply}
@@ -35,9 +34,10 @@ use Rattle.pf_script.proofs.ChangeTold.{Outcome, outcome_of, flush_outcome, Grew
 use Rattle.pf_script.proofs.Flushed.{flush_ends}
 use Rattle.pf_script.proofs.LineUnder.{line_under}
 use Rattle.pf_script.proofs.OfScript.{of_flushed}
-use Rattle.pf_script.proofs.Refusing.{idle_seen, none_taken, same_keeps, first_then}
+use Rattle.pf_script.proofs.Refusing.{idle_seen, none_taken, first_then}
+use Rattle.pf_script.proofs.OverFiles.{own_over, still_over}
 use Rattle.pf_script.proofs.SeatCalls.{seen_by}
-use Rattle.pf_script.proofs.Under.{own_under, none_concerned}
+use Rattle.pf_script.proofs.Under.{own_idle}
 use Rattle.pf_script.proofs.WriteLine.{IsWriteLine, write_asks, write_first, write_replies, written, stepped_reply, unflushed_reply, why_refused, passes}
 
 -- nothing was done, on a seat whose content is known
@@ -47,18 +47,10 @@ idle_booked key line reply old whole host words turn = record {
   seen = idle_seen;
   was_seen = record { answers = told_none host host refl; words = none_taken words; of_host = refl; of_words = refl };
   under = both_same (SeatUnder key false line idle_seen reply (Some old) (Some old)) host.honest host.honest refl
-      (λ a. own_under key false line idle_seen reply old whole (Some old) a a (same_keeps (Covers old) (Concerns false line (Some old)) a)
-      (λ book seats agrees base on. record {
-        acts = [];
-        left = seats;
-        after = Own (seat_on base old);
-        did = (unchanged_now a, λ s has. has);
-        shows = of_book base old whole on.seated on.kept refl refl;
-        spares = λ s has apart. has;
-        concerned = none_concerned false line (Some old);
-        turn = λ _. turn (stands_on key (reading a.now)) base [];
-        over = λ _ calm. record { turn = turn (stands_on key (reading a.now)) base (answers_of (reading a.now) line); files = λ name. refl };
-      }));
+      (λ a. own_idle key false line idle_seen reply old whole (Some old) refl a a (unchanged_now a) (λ base. turn (stands_on key (reading a.now)) base []));
+  over = both_same (SeatFiles key false line idle_seen reply (Some old) (Some old)) host.honest host.honest refl
+      (λ a. own_over key false line idle_seen reply old whole (Some old) a a
+      (λ calm base on. still_over key false line idle_seen reply old old a a (unchanged_now a) base whole on refl refl whole on.kept (turn (stands_on key (reading a.now)) base (answers_of (reading a.now) line))));
 }
 
 -- as the call says
@@ -93,7 +85,7 @@ module _ (key : List ℕ) (at : ℕ) (bytes : List ℕ) (line : ScriptLine) (cou
         → (outcome : Outcome) → ChangeIn (Write at bytes) old new outcome before after random random' → SeatBooked key false line (outcome_reply (written count) outcome) (Some old) (Some new) before after random random'
     some_under some new before after random random' keeps aside reads =
         line_under key line old new seated whole before after random random' keeps aside reads (Write at bytes) (written count) (λ size. write_asks at bytes line count is_line size (Write at bytes ∷ []) (at_place some refl)) replied
-        (passes key at bytes line count is_line old seated whole free)
+        (passes key at bytes line count is_line old seated whole free) (λ flushed. tt)
       where
         replied : (flushed : Bool) (sheets : List Sheet) → Grew flushed [] sheets → IsChangeReply sheets line (replies.Written count flushed)
         replied false sheets grew = subst (λ (s : List Sheet). IsChangeReply s line (replies.Written count false)) (sym grew) (write_replies at bytes line count is_line [])

@@ -1,10 +1,13 @@
 -- A run of a script over files in which nothing fails.
 use Rattle.std.specs.Prelude.{◌≡◌, ℕ, List, [], ◌∷◌, ◌++◌, length, map}
 use Rattle.std.specs.List.{flat_map}
-use Rattle.pf_io.specs.Disk.{Files}
+use Rattle.node_tree.specs.Sheet.{Sheet}
+use Rattle.pf_io.specs.Disk.{Name, Files}
+use Rattle.pf_io.specs.Names.{IsTarget, recovery_of}
+use Rattle.pf_session.specs.Reopening.{Reopens}
 use Rattle.pf_script.specs.BookActs.{Act}
 use Rattle.pf_script.specs.FileTurns.{TurnOver, ReopensOpened}
-use Rattle.pf_script.specs.Script.{ScriptState, Empty, seat_at}
+use Rattle.pf_script.specs.Script.{OwnSeat, Seat, Empty, Own, ScriptState, seat_at}
 use Rattle.pf_script.specs.ScriptRuns.{Exchange}
 
 -- Each exchange is the turn that the files then give, from the state and the files that the one before left.
@@ -25,9 +28,26 @@ pub record TakesWords (exchanges : List Exchange) (words : List (List ℕ)) : Ty
   pub left : List (List ℕ)
   pub in_order : words ≡ flat_map (λ exchange. exchange.seen.words) exchanges ++ left
 
--- Files, lines and words have one run from empty seats: the replies of two are the same.
+-- Both have the same bytes at the name, or both reopen under the key as one content, with the name as path.
+pub data AreAlike (key : List ℕ) (name : Name) (files others : Files) : Type 0 where
+  in_bytes : files name ≡ others name → AreAlike key name files others
+  in_content : (content : List ℕ) → Reopens key name content (files name) (files (recovery_of name)) → Reopens key name content (others name) (others (recovery_of name)) → AreAlike key name files others
+
+-- both are empty, or they differ in their sheets alone
+pub data SameButSheet : Seat → Seat → Type 0 where
+  no_file : SameButSheet Empty Empty
+  other_sheet : (own : OwnSeat) (sheet : Sheet) → SameButSheet (Own own) (Own (record own { sheet = sheet }))
+
+-- Two runs have the same replies and take the same words; their seats are then the same but for the sheets, and their protected files alike.
+pub record RunsAgree (key : List ℕ) (exchanges those : List Exchange) (after other : ScriptState) (new others : Files) : Type 0 where
+  pub replies : map (λ exchange. exchange.reply) exchanges ≡ map (λ exchange. exchange.reply) those
+  pub words : map (λ exchange. exchange.seen.words) exchanges ≡ map (λ exchange. exchange.seen.words) those
+  pub seats : (k : ℕ) → SameButSheet (seat_at after k) (seat_at other k)
+  pub files : (name : Name) → IsTarget name → AreAlike key name new others
+
+-- Files, lines and words have one run from empty seats.
 abbrev pub OneRun : Type 0
 OneRun =
     (state after other : ScriptState) (files new others : Files) (words : List (List ℕ)) (exchanges those : List Exchange) → length state.key ≡ 16 → ((k : ℕ) → seat_at state k ≡ Empty)
     → map (λ exchange. exchange.line) exchanges ≡ map (λ exchange. exchange.line) those → TakesWords exchanges words → TakesWords those words → RunsOver state exchanges files after new → RunsOver state those files other others
-    → map (λ exchange. exchange.reply) exchanges ≡ map (λ exchange. exchange.reply) those
+    → RunsAgree state.key exchanges those after other new others

@@ -15,7 +15,7 @@ use Rattle.pf_tool.specs.Encrypting.{IsInput, EncryptRefused, no_key, names_unfi
 use Rattle.pf_tool.proofs.KeyOver.{absent_of, key_over_one, key_refused_over, key_read_over}
 
 -- nothing is put out
-key_unput : (key : Name) (es : List Event) (ending : Ending) → KeyRefused key es ending → pieces_in es ≡ []
+pub key_unput : (key : Name) (es : List Event) (ending : Ending) → KeyRefused key es ending → pieces_in es ≡ []
 key_unput key es ending (key_unnamed u is ends) = ap (λ (l : List Event). pieces_in l) is
 key_unput key es ending (key_absent named is ends) = ap (λ (l : List Event). pieces_in l) is
 key_unput key es ending (key_length n named other is ends) = ap (λ (l : List Event). pieces_in l) is

@@ -71,8 +71,13 @@ mod ScriptBooks
 mod EncryptRuns
 mod EncryptClauses
 mod RunChoices
+mod ScriptSpares
 mod RunDisk
 pub mod ContentRuns
 mod ScriptUnder
 mod ScriptBooked
 mod ScriptKeeping
+mod ScriptSaw
+mod SeatClosings
+mod ScriptUnread
+mod ScriptOver

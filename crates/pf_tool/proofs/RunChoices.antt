@@ -4,7 +4,7 @@ use Rattle.std.specs.List.{concat}
 use Rattle.std.proofs.lemmas.List.Elements.{filter-append}
 use Rattle.node_layout.specs.Metadata.{MOST_SIZE}
 use Rattle.pf_io.specs.Disk.{Name}
-use Rattle.pf_io.specs.Host.{Answer, Both, IsMore}
+use Rattle.pf_io.specs.Host.{Answer, Both, IsMore, ReadsAsImage}
 use Rattle.pf_io.specs.Answered.{WereTold}
 use Rattle.pf_io.specs.Streams.{SinkState}
 use Rattle.pf_io.specs.Unchanged.{KeepsDisk}
@@ -36,7 +36,8 @@ use Rattle.pf_tool.proofs.ManifestLaws.{GivenText, manifest_given, manifest_undr
 use Rattle.pf_tool.proofs.MeasureLaws.{measure_undrawn, measure_put}
 use Rattle.pf_tool.proofs.PlainWriting.{ran_weaker}
 use Rattle.pf_tool.proofs.ScriptCauses.{run_script_causes}
-use Rattle.pf_tool.proofs.ScriptKey.{script_by_words, script_decided, script_honest}
+use Rattle.pf_tool.proofs.ScriptKey.{script_by_words, script_decided, script_refused}
+use Rattle.pf_tool.proofs.ScriptOver.{script_over}
 use Rattle.pf_tool.proofs.ScriptContent.{script_content}
 use Rattle.pf_tool.proofs.RunClauses.{events_causes, events_by_words, events_decided, events_honest, events_not_two}
 use Rattle.pf_tool.proofs.RunStops.{said, status_of, input_kept, undrawn, unput, done_at_zero}
@@ -179,13 +180,16 @@ run_decided (Manifest values template output) old new status run = events_decide
 run_decided (Sums manifest output) old new status run = events_decided (Sums manifest output) old new status run
 run_decided (Measure layout) old new status run = events_decided (Measure layout) old new status run
 
-pub run_honest : (request : Request) (old new : World) (status : ℕ) → Runs request old new status → Honest request old new status
-run_honest (Decrypt key input) old new status run = events_honest (Decrypt key input) old new status run
-run_honest (Encrypt key input output) old new status run = sealing_honest key input output old new status run.ended run.goes run.concludes
-run_honest (Session key) old new status run = script_honest key old new status run.ending run.goes run.says
-run_honest (Manifest values template output) old new status run = events_honest (Manifest values template output) old new status run
-run_honest (Sums manifest output) old new status run = events_honest (Sums manifest output) old new status run
-run_honest (Measure layout) old new status run = events_honest (Measure layout) old new status run
+pub run_honest : (request : Request) (old new : World) (status : ℕ) → ReadsAsImage old.host → Runs request old new status → Honest request old new status
+run_honest (Decrypt key input) old new status image run = events_honest (Decrypt key input) old new status run
+run_honest (Encrypt key input output) old new status image run = sealing_honest key input output old new status run.ended run.goes run.concludes
+run_honest (Session key) old new status image run = λ files is none. record {
+  refused = script_refused key old new status run.ending run.goes run.says files is none;
+  runs = λ user over rose. script_over key old new status image run files is user over rose;
+}
+run_honest (Manifest values template output) old new status image run = events_honest (Manifest values template output) old new status run
+run_honest (Sums manifest output) old new status image run = events_honest (Sums manifest output) old new status run
+run_honest (Measure layout) old new status image run = events_honest (Measure layout) old new status run
 
 pub run_not_two : (request : Request) (old new : World) (status : ℕ) → Runs request old new status → status ≡ 2 → ⊥
 run_not_two (Decrypt key input) old new status run = events_not_two (Decrypt key input) old new status run

@@ -27,6 +27,7 @@ use Rattle.manifest_model.specs.Listed.{Seen}
 use Rattle.pf_tool.specs.ManifestFiles.{ManifestReads, manifest_unread, no_manifest, manifest_seen}
 use Rattle.pf_tool.specs.Summing as sums
 use Rattle.pf_tool.specs.Summing.{line_pieces, FilesLead, file_absent, files_summed, SumsLead, manifest_fails, manifest_there, IsSummed}
+use Rattle.pf_tool.proofs.ScriptSpares.{script_spares}
 use Rattle.pf_tool.proofs.ScriptKeeping.{script_keeps}
 use Rattle.pf_tool.proofs.Asking.{asked_then}
 use Rattle.pf_tool.proofs.EntryReading.{IsAsk, gives_asks, end_asks}
@@ -221,7 +222,7 @@ module _ (output : Name) (Leading : List Event → Ending → Type 0) (swaps : (
 pub run_disk : (request : Request) (old new : World) (status : ℕ) → ReadsAsImage old.host → Runs request old new status → OnDisks request old new status
 run_disk (Decrypt key input) old new status image run = run.outcome.leaves
 run_disk (Encrypt key input output) old new status image run = sealing_disk key input output old new status run.ended run.goes run.concludes
-run_disk (Session key) old new status image run = script_keeps key old new status image run
+run_disk (Session key) old new status image run = record { books = script_keeps key old new status image run; spares = script_spares key old new status run }
 run_disk (Manifest values template None) old new status image run = run.outcome.leaves
 run_disk (Manifest values template (Some output)) old new status image run =
     side_disk output (ManifestLeads values template (Some output)) (manifest_swaps values template output) old new status run.outcome.events run.stop run.outcome.stands run.outcome.happened run.reports

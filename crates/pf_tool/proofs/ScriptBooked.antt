@@ -1,17 +1,15 @@
 -- What a session does under a book with which it may begin.
-use Rattle.std.proofs.Common.{◌≡◌, ◌⊎◌, inl, inr, ℕ, Bool, true, false, List, [], ◌∷◌, ◌++◌, map, refl, sym, ◌∙◌, ap, subst, Option, Some, None, Result, Ok, Err}
+use Rattle.std.proofs.Common.{◌≡◌, inl, inr, ℕ, true, false, List, [], refl, sym, ◌∙◌, ap, subst, Option, Some, None}
 use Rattle.std.specs.Prelude.{Contains, IfSome}
 use Rattle.std.specs.List.{flat_map}
-use Rattle.std.proofs.lemmas.List.{append-nil}
 use Rattle.pf_io.specs.Disk.{Disk, IsImage, reading}
 use Rattle.pf_io.specs.Host.{HostState, Both, ReadsAsImage}
-use Rattle.pf_io.specs.Moments.{Honest, LeavesOnly}
+use Rattle.pf_io.specs.Moments.{Honest}
 use Rattle.pf_io.specs.Unchanged.{KeepsDisk}
 use Rattle.node_tree.specs.Sheet.{Sheet}
 use Rattle.pf_session.specs.Moving.{IsKeptOn}
 use Rattle.pf_session.specs.State.{SessionState}
-use Rattle.pf_script.specs.Book.{Book, Entry, Seal, ImageFits, Agrees}
-use Rattle.pf_script.specs.BookActs.{FitsDuring, booked_all}
+use Rattle.pf_script.specs.Book.{Book, Seal, Agrees}
 use Rattle.pf_script.specs.BookDebts.{Unchanged, seat_of}
 use Rattle.pf_script.specs.BookLaws.{StartsWith}
 use Rattle.pf_script.specs.BookRuns.{FollowsUnder}
@@ -20,15 +18,14 @@ use Rattle.pf_script.specs.BookTurns.{ShowsUnder, no_file, of_book, other_file, 
 use Rattle.pf_script.specs.Desk.{DeskState, session_at}
 use Rattle.pf_script.specs.DeskSteps.{KeepsBooks as KeepsDesk, CoversDesk, AnyName}
 use Rattle.pf_script.specs.Script.{Seat, Empty, ScriptState}
-use Rattle.pf_script.specs.ScriptRuns.{Exchange}
 use Rattle.pf_script.specs.Words.{SEATS}
 use Rattle.pf_script.proofs.ActKeeping.{unchanged_now}
 use Rattle.pf_script.proofs.BookRunning.{IsUnder, under_as}
 use Rattle.pf_script.proofs.Composing.{all_agrees, all_leaves}
 use Rattle.pf_script.proofs.Starting.{starts}
-use Rattle.pf_tool.specs.BookScripts.{StopsUnder, RunsUnder}
-use Rattle.pf_tool.specs.Scripting.{At, begins, KeyRead}
-use Rattle.pf_tool.specs.Transcripts.{empty_seats}
+use Rattle.pf_tool.specs.BookScripts.{AreClosings, StopsUnder, RunsUnder}
+use Rattle.pf_tool.specs.Scripting.{At, begins}
+use Rattle.pf_tool.specs.Transcripts.{Transcript, exchange_of, empty_seats}
 use Rattle.pf_tool.specs.World.{World}
 use Rattle.pf_tool.proofs.ScriptContent.{same_all}
 use Rattle.pf_tool.proofs.ScriptUnder.{Under}
@@ -43,7 +40,7 @@ stops_idle starved desk host after book state d b is at_end same =
       left = is.seats;
       leaves = all_leaves book is.seats [] is.seats d d is.agrees is.image (unchanged_now d, λ seat has. has);
       agrees = is.agrees;
-      none = inl refl;
+      none = inl (refl, refl);
     })
 
 -- the seats of a state under a book are covered by it
@@ -87,12 +84,14 @@ begun_under user begun book s agrees image is = record {
   is_disk = is;
 }
 
--- the exchanges behind the key, and how they stop
-pub runs_under : (starved : Type 0) (user : List ℕ) (exchanges : List Exchange) (begun : World) (last : At) (before : HostState) (book : Book) (a b : Honest) → before.honest ≡ Some a → ReadsAsImage before → StartsWith book a.now → KeepsDisk before begun.host
-    → Under exchanges (begins user begun) last → ((final : Book) (state : ScriptState) (d : Honest) → IsUnder last.desk last.world.host final state d → StopsUnder starved final state d b) → RunsUnder user exchanges starved book a b
-runs_under starved user exchanges begun last before book a b is reads start kept under stops = by_disk before.honest begun.host.honest is refl kept reads
+-- the exchanges of the lines, then those of the closings, and how they stop
+pub runs_under : (starved : Type 0) (user : List ℕ) (transcript : Transcript) (begun : World) (read : At) (before : HostState) (book : Book) (a b : Honest) → before.honest ≡ Some a → ReadsAsImage before → StartsWith book a.now → KeepsDisk before begun.host
+    → Under (flat_map exchange_of transcript.items) (begins user begun) read
+    → ((later : Book) (state : ScriptState) (mid : Honest) → IsUnder read.desk read.world.host later state mid → AreClosings transcript state × FollowsUnder later state transcript.closed mid (λ last after end. StopsUnder starved last after end b))
+    → RunsUnder user transcript starved book a b
+runs_under starved user transcript begun read before book a b is reads start kept under closes = by_disk before.honest begun.host.honest is refl kept reads
   where
-    by_disk : (o p : Option Honest) → o ≡ Some a → begun.host.honest ≡ p → Both o p Unchanged → IfSome o (λ host. IsImage host.now (reading host.now)) → RunsUnder user exchanges starved book a b
+    by_disk : (o p : Option Honest) → o ≡ Some a → begun.host.honest ≡ p → Both o p Unchanged → IfSome o (λ host. IsImage host.now (reading host.now)) → RunsUnder user transcript starved book a b
     by_disk (Some c) (Some s) same at both image =
         let one : c ≡ a = cc in
         let unchanged : Unchanged a s = subst (λ (z : Honest). Unchanged z s) one both in
@@ -102,9 +101,10 @@ runs_under starved user exchanges begun last before book a b is reads start kept
         record {
           start = s;
           reads = all_leaves book [] [] [] a s agrees well (unchanged, λ seat has. has);
+          same = unchanged.ends;
           agrees = agrees_s;
-          follows = under_as book (empty_seats user []) exchanges s (λ final state d is_last. stops final state d is_last)
-              (under book (empty_seats user []) s (begun_under user begun book s agrees_s (subst (λ (x : Disk). IsImage x (reading x)) (sym unchanged.ends) well) at));
+          follows = under_as book (empty_seats user []) (flat_map exchange_of transcript.items) s (λ later state mid is_mid. closes later state mid is_mid)
+              (under.follows book (empty_seats user []) s (begun_under user begun book s agrees_s (subst (λ (x : Disk). IsImage x (reading x)) (sym unchanged.ends) well) at));
         }
     by_disk (Some c) None same at both image = absurd both
     by_disk None p same at both image = absurd (cc)

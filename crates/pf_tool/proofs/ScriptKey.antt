@@ -19,7 +19,7 @@ use Rattle.pf_tool.specs.Encrypting.{no_key as no_key_at_all}
 use Rattle.pf_tool.specs.Keys.{IsKeyOf, KeyRefused, key_unnamed, key_absent, key_length, key_short, key_events, KeyOver}
 use Rattle.pf_tool.specs.Outcomes.{SaysScript}
 use Rattle.pf_tool.specs.Requests.{Session}
-use Rattle.pf_tool.specs.Runs.{ByWords, DecidedByEvents, NoneCounted, Honestly, HonestScript, Honest}
+use Rattle.pf_tool.specs.Runs.{ByWords, DecidedByEvents, NoneCounted, Honestly}
 use Rattle.pf_tool.specs.Scripting.{At, begins, Nothing, Answers as AnswersBytes, NextAnswered, LineAnswered, Lines, none_yet, one_more, LineStops, not_read, not_answered, not_said, AllLines, SeatClosed, Closings, none_closed, one_closed, ClosingStops, KeyRead, ScriptRead, ScriptGoes, no_key, no_reader, no_line, no_closing, no_end, done}
 use Rattle.pf_tool.specs.declared.fault.Fault.{Fault}
 use Rattle.pf_tool.proofs.EncryptLaws.{words_alone}
@@ -96,21 +96,25 @@ module _ (key : Name) (old new : World) (status : ℕ) where
   script_by_words ending (no_end s more read last begun closings failed same is) says = read_speaks begun.user begun.begun begun.read
   script_by_words ending (done s more read last begun closings wrote same is) says = read_speaks begun.user begun.begun begun.read
 
+  -- what is said where files give no key
+  abbrev HonestRefusal : Type 0
+  HonestRefusal = (files : Files) → files_of old.host ≡ Some files → NoneCounted old new → (ending : Ending) → KeyOver files key (Err ending) → Honestly (Session key) files old new status
+
   -- files that give a key refuse none
-  read_honest : (user : List ℕ) (mid : World) → KeyRead key user old mid → Honest (Session key) old new status
+  read_honest : (user : List ℕ) (mid : World) → KeyRead key user old mid → HonestRefusal
   read_honest user mid read files is none ending over =
       let first : List Answer = LengthWas key (Some 16) ∷ Gave key 0 16 user ∷ [] in
       let answers = all_of files (files_of old.host) first is read.passed.host.honest in
       let same : Err ending ≡ Ok user = key_over_one files key (Err ending) (Ok user) over (key_read_over files key user [] read.is_key answers) in
       absurd (cc)
 
-  pub script_honest : (ending : Result ℕ Fault) → ScriptGoes key ending old Now → Ended ending → Honest (Session key) old new status
-  script_honest ending (no_key fault falls is) says = λ files given none other over. events_honest (Session key) old new status (key_run key old new status fault falls (subst Ended is says)) files given none
-  script_honest ending (no_reader user read is) says = read_honest user Now read
-  script_honest ending (no_line user begun s last now fault read lines stops same is) says = read_honest user begun read
-  script_honest ending (no_closing s seat more read last now begun closings stops same is) says = read_honest begun.user begun.begun begun.read
-  script_honest ending (no_end s more read last begun closings failed same is) says = read_honest begun.user begun.begun begun.read
-  script_honest ending (done s more read last begun closings wrote same is) says = read_honest begun.user begun.begun begun.read
+  pub script_refused : (ending : Result ℕ Fault) → ScriptGoes key ending old Now → Ended ending → HonestRefusal
+  script_refused ending (no_key fault falls is) says = λ files given none other over. events_honest (Session key) old new status (key_run key old new status fault falls (subst Ended is says)) files given none
+  script_refused ending (no_reader user read is) says = read_honest user Now read
+  script_refused ending (no_line user begun s last now fault read lines stops same is) says = read_honest user begun read
+  script_refused ending (no_closing s seat more read last now begun closings stops same is) says = read_honest begun.user begun.begun begun.read
+  script_refused ending (no_end s more read last begun closings failed same is) says = read_honest begun.user begun.begun begun.read
+  script_refused ending (done s more read last begun closings wrote same is) says = read_honest begun.user begun.begun begun.read
 
   -- the answers of a key that was read are none of a refusal
   not_of_key : (user : List ℕ) (more : List Answer) (events : List Event) (ending : Ending) → KeyRefused key events ending → length user ≡ 16 → answers_in events ≡ LengthWas key (Some 16) ∷ Gave key 0 16 user ∷ more → ⊥

@@ -71,7 +71,7 @@ both_last P Q (Some a) (Some b) both go = go a b both
 both_last P Q None (Some b) both go = absurd both
 both_last P Q o None both go = tt
 
-never_more : (items : List Item) → ((lines_only items).closed ≢ []) ⊎ ((lines_only items).ended ≡ true) → ⊥
+pub never_more : (items : List Item) → ((lines_only items).closed ≢ []) ⊎ ((lines_only items).ended ≡ true) → ⊥
 never_more items (inl some) = some refl
 never_more items (inr is) = absurd (cc)
 

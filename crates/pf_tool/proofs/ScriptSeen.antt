@@ -37,7 +37,7 @@ pub record Spoke (xs : List Exchange) (before after : HostState) (random random'
   pub host_counts : after.faults ≡ counts_after (host_flags xs) before.faults
   pub words_counts : random'.faults ≡ counts_after (words_flags xs) random.faults
 
-counts_on : (f : Exchange → Bool) (xs ys : List Exchange) (count : ℕ) → counts_after (map f (xs ++ ys)) count ≡ counts_after (map f ys) (counts_after (map f xs) count)
+pub counts_on : (f : Exchange → Bool) (xs ys : List Exchange) (count : ℕ) → counts_after (map f (xs ++ ys)) count ≡ counts_after (map f ys) (counts_after (map f xs) count)
 counts_on f [] ys count = refl
 counts_on f (x ∷ xs) ys count = counts_on f xs ys (cond (f x) (counted count) count)
 
@@ -60,7 +60,7 @@ spoke_none before h0 h1 r0 r1 was host random = record {
   words_counts = ap (λ (r : WordsState). r.faults) random;
 }
 
-taken_on : (xs ys : List Exchange) (a b c : List (List ℕ)) → IsTaken (words_seen xs) a b → IsTaken (words_seen ys) b c → IsTaken (words_seen (xs ++ ys)) a c
+pub taken_on : (xs ys : List Exchange) (a b c : List (List ℕ)) → IsTaken (words_seen xs) a b → IsTaken (words_seen ys) b c → IsTaken (words_seen (xs ++ ys)) a c
 taken_on xs ys a b c first second =
     first ∙ ap (λ (l : List (List ℕ)). words_seen xs ++ l) second ∙ sym (append_assoc (words_seen xs) (words_seen ys) c) ∙ ap (λ (l : List (List ℕ)). l ++ c) (sym (flat_map-append (λ exchange. exchange.seen.words) xs ys))
 
@@ -78,7 +78,7 @@ both_some P (Some x) (Some b) a is both = let same : x ≡ a = cc in (b, refl, s
 both_some P (Some x) None a is both = absurd both
 both_some P None p a is both = absurd (cc)
 
-count_is : (flag : Bool) (before now : ℕ) → CountsFault flag before now → now ≡ cond flag (counted before) before
+pub count_is : (flag : Bool) (before now : ℕ) → CountsFault flag before now → now ≡ cond flag (counted before) before
 count_is true before now is = is
 count_is false before now is = is
 

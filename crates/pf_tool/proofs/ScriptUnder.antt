@@ -1,7 +1,6 @@
 -- The lines and closings of a script under a book.
-use Rattle.std.proofs.Common.{◌≡◌, ◌≢◌, ◌⊎◌, inl, inr, ℕ, zero, suc, ◌<◌, List, [], ◌∷◌, ◌++◌, length, map, refl, sym, ◌∙◌, ap, subst, arith, append_assoc, Option, Some, None, Result, Ok, Err}
+use Rattle.std.proofs.Common.{◌≡◌, ◌≢◌, ◌↔◌, ◌⊎◌, inl, inr, ℕ, zero, suc, ◌≤◌, ◌<◌, List, [], ◌∷◌, ◌++◌, length, map, refl, sym, ◌∙◌, ap, subst, arith, append_assoc, Option, Some, None, Result, Ok, Err}
 use Rattle.std.specs.List.{flat_map}
-use Rattle.std.proofs.lemmas.Grind.{flat_map-append}
 use Rattle.std.proofs.lemmas.List.{append-nil, map-append}
 use Rattle.pf_io.specs.Host.{HostState, Both, ReadsAsImage}
 use Rattle.pf_io.specs.Lines.{lines_of}
@@ -10,10 +9,11 @@ use Rattle.pf_io.specs.Streams.{SourceState, SinkState}
 use Rattle.pf_io.specs.Words.{WordsState}
 use Rattle.pf_io.proofs.Telling.{both_same, both_then, both_weaker}
 use Rattle.pf_io.proofs.Writing.{wrote_both}
+use Rattle.pf_session.specs.State.{SessionState}
 use Rattle.pf_script.specs.Book.{Book}
 use Rattle.pf_script.specs.BookRuns.{FollowsUnder}
-use Rattle.pf_script.specs.BookTurns.{EndBooked}
-use Rattle.pf_script.specs.Desk.{DeskState}
+use Rattle.pf_script.specs.BookTurns.{DeskAgrees, EndBooked}
+use Rattle.pf_script.specs.Desk.{DeskState, session_at}
 use Rattle.pf_script.specs.DeskSteps.{EndGoes}
 use Rattle.pf_script.specs.LineReading.{GoesOn}
 use Rattle.pf_script.specs.Script.{ScriptState}
@@ -33,17 +33,36 @@ use Rattle.pf_tool.specs.Transcripts.{Item, NoLine, Said, exchange_of, item_text
 use Rattle.pf_tool.proofs.RunStops.{wrote_nothing}
 use Rattle.pf_tool.proofs.ScriptReading.{IsSettled, NextLineIs, FirstLinesAre, read_settled, each_on, items_on, status_on, text_on}
 use Rattle.pf_tool.proofs.ScriptClosing.{closing_texts, closing_statuses, closing_texts_on}
+use Rattle.pf_tool.proofs.ScriptSaw.{Saw, saw_none, saw_on, saw_one}
+use Rattle.pf_tool.proofs.SeatClosings.{lines_in, closing_at, desk_closings, closings_more}
 
--- under each book, state and disk that are those of a desk on its host
-abbrev pub Under : List Exchange → At → At → Type 0
-Under exchanges old new = (book : Book) (state : ScriptState) (disk : Honest) → IsUnder old.desk old.world.host book state disk → FollowsUnder book state exchanges disk (IsUnder new.desk new.world.host)
+-- Under each book, state and disk that are those of a desk on its host; and what was seen.
+pub record Under (exchanges : List Exchange) (old new : At) : Type 0 where
+  pub follows : (book : Book) (state : ScriptState) (disk : Honest) → IsUnder old.desk old.world.host book state disk → FollowsUnder book state exchanges disk (IsUnder new.desk new.world.host)
+  pub saw : Saw exchanges old.world.host new.world.host old.world.random new.world.random
 
 pub idle_under : (old new : At) → NothingAsked old.desk new.desk old.world.host new.world.host old.world.random new.world.random → Under [] old new
-idle_under old new nothing book state disk is = subst (λ (d : DeskState). IsUnder d new.world.host book state disk) (sym nothing.same_desk) (subst (λ (h : HostState). IsUnder old.desk h book state disk) (sym nothing.same_host) is)
+idle_under old new nothing = record {
+  follows = λ book state disk is. subst (λ (d : DeskState). IsUnder d new.world.host book state disk) (sym nothing.same_desk) (subst (λ (h : HostState). IsUnder old.desk h book state disk) (sym nothing.same_host) is);
+  saw = saw_none old.world.host new.world.host old.world.random new.world.random nothing.same_host nothing.same_random;
+}
+
+pub none_under : (place : At) → Under [] place place
+none_under place = idle_under place place (record { same_desk = refl; same_host = refl; same_random = refl })
 
 pub then_under : (xs ys : List Exchange) (old mid new : At) → Under xs old mid → Under ys mid new → Under (xs ++ ys) old new
-then_under xs ys old mid new first second book state disk is =
-    under_on (IsUnder new.desk new.world.host) book state xs ys disk (under_as book state xs disk (λ b s d is_mid. second b s d is_mid) (first book state disk is))
+then_under xs ys old mid new first second = record {
+  follows = λ book state disk is. under_on (IsUnder new.desk new.world.host) book state xs ys disk (under_as book state xs disk (λ b s d is_mid. second.follows b s d is_mid) (first.follows book state disk is));
+  saw = saw_on xs ys old.world.host mid.world.host new.world.host old.world.random mid.world.random new.world.random first.saw second.saw;
+}
+
+-- a line that was replied to
+told_under : (line : ScriptLine) (reply : Reply) (old new : At) (agrees : DeskAgrees line reply old.desk new.desk old.world.host new.world.host old.world.random new.world.random) → ReadsAsImage new.world.host
+    → Under (record { line = line; seen = agrees.seen; reply = reply } ∷ []) old new
+told_under line reply old new agrees image = record {
+  follows = one_under line reply old.desk new.desk old.world.host new.world.host old.world.random new.world.random agrees image;
+  saw = saw_one (record { line = line; seen = agrees.seen; reply = reply }) old.world.host new.world.host old.world.random new.world.random agrees.was_seen;
+}
 
 -- a line that was answered
 pub record LineUnder (reply : Option Reply) (old new : At) : Type 0 where
@@ -97,7 +116,7 @@ line_under reply old new answered = by_next answered.next reply answered.reads a
           text_is = refl;
           status_is = refl;
           settled = read.0;
-          under = one_under answers.0 said old.desk new.desk old.world.host new.world.host old.world.random new.world.random answers.3 answered.image;
+          under = told_under answers.0 said old new answers.3 answered.image;
         }
 
 -- one line more
@@ -130,7 +149,7 @@ lines_under start status now ready (none_yet _ _ zero_is same) = subst (λ (n : 
   items = [];
   reads = both_same (λ before left. (first : List (List ℕ)) × (lines_of (start.reader.pending ++ before) ≡ first ++ lines_of (start.reader.pending ++ left)) × AnswerEach first []) start.world.input.left start.world.input.left refl (λ bytes. ([], refl, tt));
   settled = inl ready;
-  under = λ book state disk is. is;
+  under = none_under start;
   said = wrote_nothing start.world.out start.world.out refl;
   status_is = zero_is;
 })
@@ -150,47 +169,74 @@ lines_under start status now ready (one_more earlier _ reply mid _ so_far goes i
     }
 
 -- a seat that was closed
-pub record SeatUnder (reply : Option Reply) (old new : At) : Type 0 where
+pub record SeatUnder (k : ℕ) (reply : Option Reply) (old new : At) : Type 0 where
   pub closed : List Exchange
   pub under : Under closed old new
+  pub lines_are : lines_in closed ≡ closing_at k (session_at old.desk k)
+  pub others : (other : ℕ) → other ≢ k → session_at new.desk other ≡ session_at old.desk other
   pub text_is : closing_texts closed ≡ closed_text reply
   pub status_is : status_of (closing_statuses closed) ≡ closed_status reply
 
-pub seat_under : (k : ℕ) (reply : Option Reply) (old new : At) → SeatClosed k reply old new → SeatUnder reply old new
-seat_under k reply old new seat = by_reply reply seat.ends seat.booked
+pub seat_under : (k : ℕ) (reply : Option Reply) (old new : At) → SeatClosed k reply old new → SeatUnder k reply old new
+seat_under k reply old new seat = by_reply reply seat.none seat.ends seat.booked
   where
-    by_reply : (reply : Option Reply) → EndGoes k reply old.desk new.desk old.world.host new.world.host old.world.random new.world.random → EndBooked k reply old.desk new.desk old.world.host new.world.host old.world.random new.world.random
-        → SeatUnder reply old new
-    by_reply None ends booked = record {
+    some_closing : (k : ℕ) (said : Reply) (o : Option SessionState) → (Some said ≡ None) ↔ (o ≡ None) → lines.Close k ∷ [] ≡ closing_at k o
+    some_closing k said (Some session) none = refl
+    some_closing k said None none = let never : Some said ≡ None = none.1 refl in absurd (cc)
+
+    by_reply : (reply : Option Reply) → (reply ≡ None) ↔ (session_at old.desk k ≡ None) → EndGoes k reply old.desk new.desk old.world.host new.world.host old.world.random new.world.random → EndBooked k reply old.desk new.desk old.world.host new.world.host old.world.random new.world.random
+        → SeatUnder k reply old new
+    by_reply None none ends booked = record {
       closed = [];
+      lines_are = ap (closing_at k) (sym (none.0 refl));
+      others = seat.others;
       under = idle_under old new (record { same_desk = ends.0; same_host = ends.1; same_random = ends.2 });
       text_is = refl;
       status_is = refl;
     }
-    by_reply (Some said) ends booked =
+    by_reply (Some said) none ends booked =
         let exchange : Exchange = record { line = lines.Close k; seen = booked.seen; reply = said } in
         record {
           closed = exchange ∷ [];
-          under = one_under (lines.Close k) said old.desk new.desk old.world.host new.world.host old.world.random new.world.random booked seat.image;
+          under = told_under (lines.Close k) said old new booked seat.image;
+          lines_are = some_closing k said (session_at old.desk k) none;
+          others = seat.others;
           text_is = append-nil (closing_text said);
           status_is = refl;
         }
 
-pub record SeatsUnder (start : At) (status : ℕ) (now : At) : Type 0 where
+pub record SeatsUnder (start : At) (count status : ℕ) (now : At) : Type 0 where
   pub closed : List Exchange
   pub under : Under closed start now
+  pub lines_are : lines_in closed ≡ desk_closings count 0 start.desk
+  pub later : (other : ℕ) → count ≤ other → session_at now.desk other ≡ session_at start.desk other
   pub said : WroteAll (closing_texts closed) start.world.out now.world.out
   pub status_is : status ≡ status_of (closing_statuses closed)
 
-pub seats_under : (start : At) (count status : ℕ) (now : At) → Closings start count status now → SeatsUnder start status now
-seats_under start count status now (none_closed _ _ _ no_seat zero_is same) =
-    subst (λ (n : At). SeatsUnder start status n) (sym same) (record { closed = []; under = λ book state disk is. is; said = wrote_nothing start.world.out start.world.out refl; status_is = zero_is })
+-- one seat more
+pub closings_under : (start mid now : At) (seat earlier : ℕ) (reply : Option Reply) (so_far : SeatsUnder start seat earlier mid) (one : SeatUnder seat reply mid now) → lines_in (so_far.closed ++ one.closed) ≡ desk_closings (suc seat) 0 start.desk
+closings_under start mid now seat earlier reply so_far one =
+    let e : seat ≤ seat = omega arith in
+    map-append (λ (exchange : Exchange). exchange.line) so_far.closed one.closed ∙ ap (λ (l : List ScriptLine). l ++ lines_in one.closed) so_far.lines_are
+    ∙ ap (λ (l : List ScriptLine). desk_closings seat 0 start.desk ++ l) (one.lines_are ∙ ap (closing_at seat) (so_far.later seat e)) ∙ sym (closings_more start.desk seat)
+
+pub seats_under : (start : At) (count status : ℕ) (now : At) → Closings start count status now → SeatsUnder start count status now
+seats_under start count status now (none_closed _ _ _ no_seat zero_is same) = subst (λ (n : At). SeatsUnder start count status n) (sym same) (record {
+  closed = [];
+  under = none_under start;
+  lines_are = ap (λ (n : ℕ). desk_closings n 0 start.desk) (sym no_seat);
+  later = λ other far. refl;
+  said = wrote_nothing start.world.out start.world.out refl;
+  status_is = zero_is;
+})
 seats_under start count status now (one_closed seat _ earlier _ reply mid _ so_far goes wrote next is) =
     let old = seats_under start seat earlier mid so_far in
     let one = seat_under seat reply mid now goes in
     record {
       closed = old.closed ++ one.closed;
       under = then_under old.closed one.closed start mid now old.under one.under;
+      lines_are = closings_under start mid now seat earlier reply old one ∙ ap (λ (n : ℕ). desk_closings n 0 start.desk) (sym next);
+      later = λ other far. one.others other (λ e. omega (arith, far, next, e)) ∙ old.later other (omega (arith, far, next));
       said = subst (λ (l : List ℕ). WroteAll l start.world.out now.world.out) (sym (closing_texts_on old.closed one.closed))
           (wrote_both (closing_texts old.closed) (closing_texts one.closed) start.world.out mid.world.out now.world.out old.said (subst (λ (l : List ℕ). WroteAll l mid.world.out now.world.out) (sym one.text_is) wrote));
       status_is = is ∙ ap (λ (n : ℕ). first_of n (closed_status reply)) old.status_is ∙ ap (λ (n : ℕ). first_of (status_of (closing_statuses old.closed)) n) (sym one.status_is)

@@ -4,12 +4,13 @@ use Rattle.std.specs.List.{flat_map}
 use Rattle.pf_io.specs.Counts.{counted}
 use Rattle.pf_io.specs.Disk.{Name, Files, reading}
 use Rattle.pf_io.specs.Host.{OnHonest}
-use Rattle.pf_io.specs.Moments.{Honest, LeavesOnly}
+use Rattle.pf_io.specs.Moments.{Honest, LeavesOnly, Ran}
 use Rattle.pf_script.specs.Book.{Book, Seal, ImageFits, Agrees}
-use Rattle.pf_script.specs.BookActs.{Act, booked_all, FitsDuring}
-use Rattle.pf_script.specs.BookRuns.{FollowsUnder}
+use Rattle.pf_script.specs.BookActs.{Act, Among, booked_all, FitsDuring}
+use Rattle.pf_script.specs.BookDebts.{AreApart, LeavesOthers, KeepsOthers}
+use Rattle.pf_script.specs.BookRuns.{AreSeated, FollowsUnder}
 use Rattle.pf_script.specs.FileRuns.{FollowsOver, TakesWords}
-use Rattle.pf_script.specs.Script.{ScriptState, Seat, Empty, Own, seat_at}
+use Rattle.pf_script.specs.Script.{OwnSeat, ScriptState, Seat, Empty, Own, seat_at}
 use Rattle.pf_script.specs.ScriptRuns.{Exchange}
 use Rattle.pf_script.specs.Words.{SEATS}
 use Rattle.pf_script.specs.declared.line.ScriptLine.{ScriptLine}
@@ -34,13 +35,14 @@ pub record AreClosings (transcript : Transcript) (state : ScriptState) : Type 0 
   pub in_order : closings SEATS 0 state ≡ map (λ exchange. exchange.line) transcript.closed ++ rest
   pub all : transcript.ended ≡ true → rest ≡ []
 
--- behind the last exchange nothing is done but where there was no memory for a step
+-- Behind the last exchange nothing is done; where there was no memory for a change of a seat, there may be acts of its name.
 pub record StopsUnder (starved : Type 0) (book : Book) (state : ScriptState) (old new : Honest) : Type 0 where
   pub acts : List Act
   pub left : List Seal
   pub leaves : LeavesOnly (FitsDuring book acts) old new
+  pub spares : Ran (LeavesOthers (AreApart acts)) (KeepsOthers (AreApart acts)) old new
   pub agrees : Agrees (booked_all acts book) left new.now
-  pub none : ((acts ≡ []) × (new.now ≡ old.now)) ⊎ starved
+  pub none : ((acts ≡ []) × AreSeated book state left) ⊎ (starved × ((k : ℕ) × (own : OwnSeat) × (seat_at state k ≡ Own own) × ((name : Name) → Among acts name → name ≡ own.name)))
 
 -- The key is read, then the lines follow each other, and then the closings.
 pub record RunsUnder (user : List ℕ) (transcript : Transcript) (starved : Type 0) (book : Book) (old new : Honest) : Type 0 where
@@ -66,12 +68,12 @@ pub data KeepsScript (key : Name) (old new : World) (status : ℕ) (book : Book)
 abbrev pub FilesAre : Files → World → Type 0
 FilesAre files new = OnHonest new.host (λ now. (name : Name) → now name ≡ files name)
 
--- A run over files in which nothing fails: each line of the input is answered as the files then give, with the random words in order, and then the seats are closed. Of its text the output
--- took all, with the status of its replies; where there was no memory, a front.
-pub record GivesScript (user : List ℕ) (book : Book) (files : Files) (old new : World) (status : ℕ) : Type 0 where
+-- A run over files in which nothing fails: each line of the input is answered as the files then give, with the random words in order, and then the seats are closed, as long as each file that is
+-- opened reopens under the key. Of its text the output took all, with the status of its replies; where there was no memory, a front.
+pub record GivesScript (user : List ℕ) (files : Files) (old new : World) (status : ℕ) : Type 0 where
   pub transcript : Transcript
   pub lines : IfSome old.input.left (AnswersFirst transcript)
   pub words : IfSome old.random.left (TakesWords (exchanges_of transcript))
   pub put : PutOut transcript old new status
-  pub runs : FollowsOver book (empty_seats user []) (flat_map exchange_of transcript.items) files
-      (λ later state mid. AreClosings transcript state × FollowsOver later state transcript.closed mid (λ last after left. FilesAre left new ⊎ IsStarved old new status))
+  pub runs : FollowsOver (empty_seats user []) (flat_map exchange_of transcript.items) files
+      (λ state mid. AreClosings transcript state × FollowsOver state transcript.closed mid (λ after left. FilesAre left new ⊎ IsStarved old new status))

@@ -190,10 +190,10 @@ pub record NoneRose (old new : World) : Type 0 where
   pub host : ¬ (Rose old.host.faults new.host.faults)
   pub random : ¬ (Rose old.random.faults new.random.faults)
 
--- So for a session: what is said where files give no key, and the run of its script where they do, for each book with which it may begin.
+-- So for a session: what is said where files give no key, and the run of its script where they do.
 pub record HonestScript (key : Name) (files : Files) (old new : World) (status : ℕ) : Type 0 where
   pub refused : (ending : Ending) → KeyOver files key (Err ending) → Honestly (Session key) files old new status
-  pub runs : (user : List ℕ) → KeyOver files key (Ok user) → NoneRose old new → OnDiskNow old.host (λ disk. (book : Book) → StartsWith book disk → GivesScript user book files old new status)
+  pub runs : (user : List ℕ) → KeyOver files key (Ok user) → NoneRose old new → GivesScript user files old new status
 
 abbrev pub GivesHonestly : Request → Files → World → World → ℕ → Type 0
 GivesHonestly (Decrypt key input) files old new status = Honestly (Decrypt key input) files old new status

@@ -126,6 +126,7 @@ pub record SeatClosed (seat : ℕ) (reply : Option Reply) (old new : At) : Type 
   pub ends : EndGoes seat reply old.desk new.desk old.world.host new.world.host old.world.random new.world.random
   pub booked : EndBooked seat reply old.desk new.desk old.world.host new.world.host old.world.random new.world.random
   pub none : (reply ≡ None) ↔ (session_at old.desk seat ≡ None)
+  pub others : (other : ℕ) → other ≢ seat → session_at new.desk other ≡ session_at old.desk other
   pub reader : new.reader ≡ old.reader
   pub input : new.world.input ≡ old.world.input
   pub log : new.world.log ≡ old.world.log

@@ -143,6 +143,8 @@ pub record SeenUntil (key : Name) (user : List ℕ) (exchanges : List Exchange) 
   pub more : List Answer
   pub seen : SeenIn exchanges given old until
   pub told : Both old.host.given new.host.given (IsMore (key_and key user (given ++ more)))
+  pub host_still : until.host.faults ≡ new.host.faults
+  pub words_still : until.random.faults ≡ new.random.faults
   pub to_the_end : ((more ≡ []) × (until.host ≡ new.host) × (until.random ≡ new.random)) ⊎ IsStarved old new status
 
 abbrev pub TookScript : Name → World → World → ℕ → Type 0

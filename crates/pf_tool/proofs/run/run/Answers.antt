@@ -77,7 +77,7 @@ returns-in-Some-clause-honest g c other asks =
     let new = world_of (g.H.Host.state c.run_command.new.host) (g.S.Source.state c.run_command.new.input) (g.K.Sink.state c.run_command.new.out) (g.L.Sink.state c.run_command.new.log) (g.R.Words.state c.run_command.new.random) in
     let status = c.run_command.result in
     let run : Runs request old new status = c.run_command.ensures in
-    subst (λ (r : Request). Honest r old new status) (one_request (texts c.args.words.now) request other c.in-Some.ensures.found asks) (run_honest request old new status run)
+    subst (λ (r : Request). Honest r old new status) (one_request (texts c.args.words.now) request other c.in-Some.ensures.found asks) (run_honest request old new status (g.met.H.Host.reads_as_image c.args.host.now) run)
 
 pub returns-in-Some-clause-one_ending : goal.returns-in-Some-clause-one_ending
 returns-in-Some-clause-one_ending g c =

@@ -10,4 +10,4 @@ returns g c reader input log =
     let r0 = g.R.Words.state c.args.random.now in
     let r1 = g.R.Words.state c.end-reply.new.random in
     let ends = c.end-reply.ensures in
-    closing_goes c.args.seat c.say_closing.result c.end-reply.result c.args.desk.now c.end-reply.new.self reader h0 h1 input o0 o1 log r0 r1 ends.none ends.goes ends.booked (g.met.H.Host.reads_as_image c.end-reply.new.host) c.say_closing.ensures
+    closing_goes c.args.seat c.say_closing.result c.end-reply.result c.args.desk.now c.end-reply.new.self reader h0 h1 input o0 o1 log r0 r1 ends.none ends.others ends.goes ends.booked (g.met.H.Host.reads_as_image c.end-reply.new.host) c.say_closing.ensures
