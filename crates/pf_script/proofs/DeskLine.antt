@@ -71,25 +71,3 @@ line_stays inside desk old is k below d taken line names says result before afte
   where
     same : desk_with inside k (get_or inside.seats k d) ≡ inside
     same = ap (λ (s : List (Option SessionState)). desk_of inside.key s) (set-get_or inside.seats k d)
-
--- a line of which nothing is said under a book
-pub record LineGoes (line : ScriptLine) (result : Result Reply Memory) (old new : DeskState) (before after : HostState) (random random' : WordsState) : Type 0 where
-  pub well : IsDesk new
-  pub goes : DeskGoes line result old new before after random random'
-
-pub line_goes : (inside : DeskState) → IsDesk inside → (old : DeskState) → inside ≡ old → (k : ℕ) → k < SEATS → (d : Option SessionState) (taken : Bool) (line : ScriptLine) → seat_of_line line ≡ Some k → SaysOther old k (name_of_line line) taken
-    → (left : Option SessionState) (result : Result Reply Memory) (before after : HostState) (random random' : WordsState)
-    → (IsSeatOf inside.key (get_or inside.seats k d) → SeatGoes inside.key taken line result (get_or inside.seats k d) left before after random random') → LineGoes line result old (desk_with inside k left) before after random random'
-line_goes inside desk old is k below d taken line names says left result before after random random' lent =
-    subst (λ (o : DeskState). LineGoes line result o (desk_with inside k left) before after random random') is (record {
-      well = desk_after inside desk k below taken line names says_inside left result before after random random' goes;
-      goes = desk_goes inside desk k below taken line names says_inside left result before after random random' goes;
-    })
-  where
-    says_inside : SaysOther inside k (name_of_line line) taken
-    says_inside = subst (λ (o : DeskState). SaysOther o k (name_of_line line) taken) (sym is) says
-
-    goes : SeatGoes inside.key taken line result (session_at inside k) left before after random random'
-    goes =
-        subst (λ (o : Option SessionState). IsSeatOf inside.key o → SeatGoes inside.key taken line result o left before after random random') (get_or_default inside.seats k d None (subst (λ n. k < n) (sym desk.eight) below)) lent
-        (seat_of_desk inside desk k)

@@ -1,8 +1,8 @@
 -- A line on one seat of a desk, as one on the desk.
-use Rattle.std.proofs.Common.{◌≡◌, ◌≢◌, ◌⊎◌, inl, inr, ⊎_elim, Bool, true, false, List, [], ◌++◌, ℕ, ◌<◌, refl, sym, ◌∙◌, ap, subst, Option, Some, None, Result, Ok, Err, get_or, set, length}
+use Rattle.std.proofs.Common.{◌≡◌, ◌≢◌, ◌⊎◌, inl, inr, ⊎_elim, Bool, true, false, List, [], ◌++◌, ℕ, ◌<◌, refl, sym, ◌∙◌, ap, subst, Option, Some, None, Result, Ok, Err, set, length}
 use Rattle.std.specs.Prelude.{IsTrue, ◌↔◌, IfSome}
 use Rattle.std.proofs.lemmas.Bool.Decides.{eqb_tells}
-use Rattle.std.proofs.lemmas.List.{get_or-set_same, get_or-set_other, get_or_default, length-set}
+use Rattle.std.proofs.lemmas.List.{get_or-set_same, get_or-set_other, length-set}
 use Rattle.std.proofs.lemmas.Option.{IfSome_then}
 use Rattle.node_tree.specs.Sheet.{Sheet}
 use Rattle.pf_io.specs.Disk.{Name}
@@ -234,15 +234,3 @@ seat_of_desk old desk k = by_session (session_at old k) refl
     by_session : (o : Option SessionState) → session_at old k ≡ o → IsSeatOf old.key o
     by_session None is = tt
     by_session (Some s) is = desk.seated k s is
-
--- what a function says of the seat that it was lent
-pub lent_goes : (old : DeskState) → IsDesk old → (k : ℕ) → k < SEATS → (d : Option SessionState) (taken : Bool) (line : ScriptLine) (result : Result Reply Memory) (left : Option SessionState) (before after : HostState) (random random' : WordsState)
-    → (IsSeatOf old.key (get_or old.seats k d) → SeatGoes old.key taken line result (get_or old.seats k d) left before after random random') → SeatGoes old.key taken line result (session_at old k) left before after random random'
-lent_goes old desk k below d taken line result left before after random random' goes =
-    let same : get_or old.seats k d ≡ session_at old k = get_or_default old.seats k d None (subst (λ n. k < n) (sym desk.eight) below) in
-    subst (λ (o : Option SessionState). IsSeatOf old.key o → SeatGoes old.key taken line result o left before after random random') same goes (seat_of_desk old desk k)
-
--- as contracts see the desk before it
-pub desk_from : (line : ScriptLine) (result : Result Reply Memory) (inside old new : DeskState) (before after : HostState) (random random' : WordsState) → inside ≡ old
-    → DeskGoes line result inside new before after random random' → DeskGoes line result old new before after random random'
-desk_from line result inside old new before after random random' is goes = subst (λ (d : DeskState). DeskGoes line result d new before after random random') is goes

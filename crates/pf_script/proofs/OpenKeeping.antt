@@ -17,7 +17,7 @@ use Rattle.pf_session.specs.Restored.{Ready}
 use Rattle.pf_script.specs.Book.{Book, Entry, Seal, Alone, Agrees}
 use Rattle.pf_script.specs.BookActs.{Opening, Among, Act, opened, booked, speaks, without_partner, dropped}
 use Rattle.pf_script.specs.BookDebts.{Unchanged, SparesOthers, KeepsOpened, OpensOn, Owes, DidAll, seat_of}
-use Rattle.pf_script.specs.BookSeats.{IsOfScript, Covers, CoversNone, CoversMade, Kept, KeepsUnder}
+use Rattle.pf_script.specs.BookSeats.{Covers, CoversNone, CoversMade, Kept, KeepsUnder}
 use Rattle.pf_script.proofs.During.{leaves_more}
 use Rattle.pf_script.proofs.NameMaps.{set_at-same}
 use Rattle.pf_script.proofs.Opened as openings
@@ -68,12 +68,6 @@ was_opened key name before after session (length_failed good asked said) = absur
 was_opened key name before after session (read_failed size good asked said) = absurd (cc)
 was_opened key name before after session (no_names good stays said) = absurd (cc)
 was_opened key name before after session (no_tree size block secret good asked openable is said) = absurd (cc)
-
--- it is a session of a script
-pub of_opened : (key : List ℕ) (name : Name) (before after : HostState) (session : SessionState) → Opens key name (Some name) before after (Ok session) → IsOfScript session
-of_opened key name before after session goes =
-    let was_one = was_opened key name before after session goes in
-    record { is_target = subst IsTarget (sym was_one.name_is) was_one.target; path_is = was_one.path_is ∙ sym was_one.name_is; named = was_one.named }
 
 module _ (key : List ℕ) (name : Name) (session : SessionState) (was_one : WasOpened key name session) (a b : Honest) (either : OpensEither session a b) (only : Unchanged a b) where
   there_now : a.now name ≢ None

@@ -67,7 +67,3 @@ four_parts a b c d end = simp append_assoc
 pub given_some : (bytes : List ℕ) → length bytes ≢ 0 → given_words bytes ≡ codes "ok read " ++ decimal (length bytes) ++ codes " " ++ encode_lower bytes
 given_some [] some = absurd (some refl)
 given_some (byte ∷ bytes) some = refl
-
-pub given_none : (bytes : List ℕ) → length bytes ≡ 0 → given_words bytes ≡ codes "ok read 0"
-given_none [] none = refl
-given_none (byte ∷ bytes) none = absurd (cc none)

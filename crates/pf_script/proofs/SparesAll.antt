@@ -1,6 +1,5 @@
 -- What some deeds, one after the other, leave of all names that each of them leaves alone.
 use Rattle.std.proofs.Common.{List, [], ◌∷◌, ◌∙◌, ap, subst, Option}
-use Rattle.std.specs.Prelude.{Contains}
 use Rattle.std.proofs.lemmas.List.Elements.{Contains-append_left, Contains-append_right, Contains-push}
 use Rattle.pf_io.specs.Disk.{Name, File, Disk, IsImageAt}
 use Rattle.pf_io.specs.Moments.{Honest, Ran}

@@ -32,12 +32,6 @@ use Rattle.pf_script.proofs.Flushed.{length_now}
 use Rattle.pf_script.proofs.OfScript.{file_named}
 use Rattle.pf_script.proofs.SeatCalls.{own_with}
 
-pub both_also : {A : Type 0} (P Q : A → A → Type 0) (o p : Option A) → Both o p P → Both o p Q → Both o p (λ a b. P a b × Q a b)
-both_also P Q (Some a) (Some b) one two = (one, two)
-both_also P Q None None one two = tt
-both_also P Q (Some a) None one two = absurd one
-both_also P Q None (Some b) one two = absurd one
-
 -- two facts of the answers of a call
 pub told_also : (P Q R : List Answer → Type 0) (old new : HostState) → WhereTold old new P → WhereTold old new Q → ((these : List Answer) → P these → Q these → R these) → WhereTold old new R
 told_also P Q R old new one two go = by_given old.given new.given one two
