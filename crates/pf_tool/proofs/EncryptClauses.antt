@@ -12,8 +12,10 @@ use Rattle.pf_io.specs.Host.{Answer, LengthWas, Gave, HostState, Both, IsMore, f
 use Rattle.pf_io.specs.Moments.{Honest, Ran}
 use Rattle.pf_io.specs.Steps.{Stays}
 use Rattle.pf_io.specs.Streams.{SinkState, TakesFront}
+use Rattle.pf_io.specs.Words.{WordsState}
 use Rattle.pf_io.proofs.Runs.{goes_on_ran}
 use Rattle.pf_io.proofs.Telling.{both_then, both_weaker, both_same}
+use Rattle.pf_session.specs.Asking.{IsTaken}
 use Rattle.pf_tool.specs.World.{World, with_log, with_host, with_random}
 use Rattle.pf_tool.specs.Events.{Event, Answers, answers_in}
 use Rattle.pf_tool.specs.Endings.{Ending, Done, Refused, TooLarge, AtEnd}
@@ -97,12 +99,12 @@ module _ (key input output : Name) (old new : World) (status : ℕ) (ended : Res
       (all.1.1, all.1.0, append_cancel_left all.0 these (First ++ all.1.1) all.1.2, all.1.3)
 
   -- the key and the pieces were given, and what was sealed has them
-  pub found_content : (these : List Answer) → WereTold these old.host new.host → status ≡ 0 → GaveSealed key input output these new.random
+  pub found_content : (these : List Answer) → WereTold these old.host new.host → status ≡ 0 → GaveSealed key input output these old.random new.random
   found_content these were zero_is = by_end (seal_end ended mid.host new.host mid.random new.random s.counts) where
-    by_end : SealEnd ended mid.host new.host mid.random new.random → GaveSealed key input output these new.random
+    by_end : SealEnd ended mid.host new.host mid.random new.random → GaveSealed key input output these old.random new.random
     by_end (was_done is host random) =
-        let b = behind (λ before those. (content : List ℕ) × TakenInPieces input those content × SealedLast user output content those new.random) these
-        (both_weaker (TellsSealed user input output new.random) (λ before now. (those : List Answer) × (now ≡ before ++ those) × ((content : List ℕ) × TakenInPieces input those content × SealedLast user output content those new.random))
+        let b = behind (λ before those. (content : List ℕ) × TakenInPieces input those content × SealedLast user output content those mid.random new.random) these
+        (both_weaker (TellsSealed user input output mid.random new.random) (λ before now. (those : List Answer) × (now ≡ before ++ those) × ((content : List ℕ) × TakenInPieces input those content × SealedLast user output content those mid.random new.random))
         mid.host.given new.host.given (s.gave is) (λ a c t. (t.0, t.1, (t.2, t.3, t.4)))) were in
         let taken = b.3.1 in
         let sealed = b.3.2 in
@@ -124,9 +126,11 @@ module _ (key input output : Name) (old new : World) (status : ℕ) (ended : Res
             tree = sealed.tree;
             linked = sealed.linked;
             backs = sealed.backs;
+            earlier = sealed.earlier;
+            before = sealed.before;
+            taken = subst (λ (r : WordsState). Both r.left sealed.before.left (IsTaken sealed.earlier)) (found.passed.random.untouched refl) sealed.taken;
             nonce = sealed.nonce;
             keys = sealed.keys;
-            before = sealed.before;
             words_came = sealed.words_came;
             next = sealed.next;
             is_next = sealed.is_next;

@@ -17,6 +17,7 @@ use Rattle.pf_session.specs.Aside.{LeavesOthers}
 use Rattle.pf_session.specs.Reopening.{HasSheet}
 use Rattle.pf_session.specs.Restored.{KeepsBeside}
 use Rattle.pf_session.specs.State.{SessionState}
+use Rattle.pf_session.proofs.Words.{took_none}
 use Rattle.pf_tool.specs.SealingInput.{GavePiece, PieceWritten, PiecesWritten, none_yet, one_more}
 use Rattle.pf_tool.proofs.PieceAnswers.{tells_piece}
 use Rattle.pf_tool.proofs.SheetWrites.{Standing, Went, went_same, went_then, write_stands}
@@ -41,7 +42,8 @@ module _ (input : Name) (user : List ℕ) (output : Name) where
   pub gave_went : (sheet : Sheet) (at : ℕ) (piece : List ℕ) (before after : HostState) (random : WordsState) → GavePiece input at piece before after → Went input user output sheet sheet at (piece ∷ []) before after random random
   gave_went sheet at piece before after random gave = record {
     calm = gave.passed.calm;
-    words_calm = refl;
+    drew = [];
+    took = took_none random;
     told = tells_piece input at piece before after gave.passed.told;
     alone = kept_alone output before after gave.disk;
     stands = kept_stands user (side_of output) sheet before after gave.disk;

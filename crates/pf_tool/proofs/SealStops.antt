@@ -64,7 +64,7 @@ module _ (input user : List ℕ) (output : Name) (first : Sheet) (old : SessionS
       let other = host_fault fault is in
       let small = pieces_small input old before random earlier mid between random' so_far in
       record {
-        counts = counts_after fault before between after random random' random' i.went.calm i.went.words_calm (subst (λ (f : Fault). CountsFault f between after random' random') (sym is) counts);
+        counts = counts_after fault before between after random random' random' i.went.calm i.went.took.calm (subst (λ (f : Fault). CountsFault f between after random' random') (sym is) counts);
         told = both_weaker (TellsPieces input 0 (i.pieces ++ [])) (TellsUpTo input fault) before.given after.given
             (tells_then input 0 i.pieces [] before between after i.went.told (tells_none input (0 + length (concat i.pieces)) [] between after refl (told_none between after failed.failed.told)))
             (λ a b t. (t.0, t.1, i.pieces, t.2 ∙ ap (λ (l : List (List ℕ)). piece_answers input 0 l) (append-nil i.pieces), inl (let e = ap (λ (l : List ℕ). length l) i.together in omega (arith, e, small), other)));
@@ -80,7 +80,7 @@ module _ (input user : List ℕ) (output : Name) (first : Sheet) (old : SessionS
       let pieces = i.pieces ++ piece ∷ [] in
       let end : length (concat pieces) ≡ length earlier + length piece = ap (λ (l : List ℕ). length l) (joined i.pieces piece earlier i.together) ∙ length-append earlier piece in
       record {
-        counts = counts_after fault before given after random words random' went.calm went.words_calm fails.0.counts;
+        counts = counts_after fault before given after random words random' went.calm went.took.calm fails.0.counts;
         told = both_weaker (TellsPieces input 0 (pieces ++ [])) (TellsUpTo input fault) before.given after.given (tells_then input 0 pieces [] before given after went.told (fails.0.told (0 + length (concat pieces))))
             (λ a b t. (t.0, t.1, pieces, t.2 ∙ ap (λ (l : List (List ℕ)). piece_answers input 0 l) (append-nil pieces), subst (λ (n : ℕ). FitsOr n fault) (sym end) fails.1));
         alone = alone_then output before given after went.alone fails.0.alone;

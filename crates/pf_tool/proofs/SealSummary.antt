@@ -16,7 +16,7 @@ use Rattle.pf_io.specs.Names.{side_of}
 use Rattle.pf_io.specs.Words.{WordsState}
 use Rattle.pf_io.proofs.Telling.{both_then, both_weaker, told_on}
 use Rattle.pf_io.proofs.Writing.{once_after}
-use Rattle.pf_session.specs.Asking.{NoCall, AnotherCall, Asked}
+use Rattle.pf_session.specs.Asking.{NoCall, AnotherCall, Asked, Took}
 use Rattle.pf_session.specs.Aside.{ChangesTwo}
 use Rattle.pf_session.specs.Creating.{BeginsOn, empty_sheet, empty_node}
 use Rattle.pf_session.specs.Drawing.{WordsCame}
@@ -32,6 +32,7 @@ use Rattle.pf_session.specs.declared.fault.BesideFault.{BesideFault}
 use Rattle.pf_session.specs.declared.fault.BesideFault.TheVariants as besides
 use Rattle.pf_session.specs.declared.fault.FlushFault.{FlushFault}
 use Rattle.pf_session.specs.declared.fault.FlushFault.TheVariants as flushes
+use Rattle.pf_session.proofs.Words.{took_then}
 use Rattle.pf_tool.specs.Faults.{beside_fault, flush_fault}
 use Rattle.pf_tool.specs.Runs.{OutputLeft, OutputEnds}
 use Rattle.pf_tool.specs.SealedContents.{is_piece_of, piece_answers, TakenInPieces, SealedLast}
@@ -75,15 +76,15 @@ pub data SealDisk (user : List ℕ) (input output : Name) (ended : Result (Unit 
       → SealDisk user input output ended before after
 
 -- what was given and sealed
-abbrev pub TellsSealed : List ℕ → Name → Name → WordsState → List Answer → List Answer → Type 0
-TellsSealed user input output words before now = (these : List Answer) × (now ≡ before ++ these) × (content : List ℕ) × TakenInPieces input these content × SealedLast user output content these words
+abbrev pub TellsSealed : List ℕ → Name → Name → WordsState → WordsState → List Answer → List Answer → Type 0
+TellsSealed user input output old new before now = (these : List Answer) × (now ≡ before ++ these) × (content : List ℕ) × TakenInPieces input these content × SealedLast user output content these old new
 
 pub record Sealing (user : List ℕ) (input output : Name) (ended : Result (Unit {0}) Fault) (before after : HostState) (random random' : WordsState) : Type 0 where
   pub counts : CountsEnd ended before after random random'
   pub told : Both before.given after.given (TellsEnd input ended)
   pub over : OnHonest before (λ files. SizeOver ended (contents (files input)))
   pub disk : SealDisk user input output ended before after
-  pub gave : ended ≡ Ok tt → Both before.given after.given (TellsSealed user input output random')
+  pub gave : ended ≡ Ok tt → Both before.given after.given (TellsSealed user input output random random')
 
 as_err : (fault : Fault) (ended : Result (Unit {0}) Fault) → ended ≡ Err fault → ended ≡ Ok tt → ⊥
 as_err fault ended is same = cc
@@ -164,8 +165,15 @@ module _ (user : List ℕ) (input output : Name) (ne : input ≢ side_of output)
       copied_calm : copied.faults ≡ before.faults
       copied_calm = c.went.calm ∙ b.asked.faults
 
+      -- the words of the first nonce, and those of flushes
+      abbrev Earlier : List (List ℕ)
+      Earlier = (b.drawn.first ∷ b.drawn.second ∷ []) ++ c.went.drew
+
+      earlier_took : Took Earlier random more
+      earlier_took = took_then (b.drawn.first ∷ b.drawn.second ∷ []) c.went.drew random words more b.drawn.took c.went.took
+
       words_calm : more.faults ≡ random.faults
-      words_calm = c.went.words_calm ∙ b.drawn.took.calm
+      words_calm = earlier_took.calm
 
       small : length (concat Given) ≤ MOST_SIZE
       small =
@@ -260,7 +268,7 @@ module _ (user : List ℕ) (input output : Name) (ne : input ≢ side_of output)
                 });
                 disk = new_out content of_file (done_left user output content whole next c.stands.key_is c.stands.name_is path_is content_is c.sheet before copied between after copied_alone has_base keeps two
                     (MayBe (Ok tt) before after) (Ok tt ≡ Ok tt) (inl refl) publishes);
-                gave = λ is. both_then (TellsPieces input 0 Given) (IsMore (steps ++ swap)) (TellsSealed user input output random') before.given copied.given after.given copied_told behind
+                gave = λ is. both_then (TellsPieces input 0 Given) (IsMore (steps ++ swap)) (TellsSealed user input output random random') before.given copied.given after.given copied_told behind
                     (λ a d e one two. (
                       one.0 ++ (steps ++ swap),
                       two ∙ ap (λ (l : List Answer). l ++ (steps ++ swap)) one.1 ∙ append_assoc a one.0 (steps ++ swap),
@@ -278,9 +286,11 @@ module _ (user : List ℕ) (input output : Name) (ne : input ≢ side_of output)
                         tree = whole.tree;
                         linked = c.stands.linked;
                         backs = c.stands.backed.backs;
+                        earlier = Earlier;
+                        before = more;
+                        taken = earlier_took.told;
                         nonce = nonce;
                         keys = keys;
-                        before = more;
                         words_came = subst (λ (o : Option (List ℕ)). WordsCame o (length whole.tree.dirty) nonce keys more random') c.stands.drawn_is came;
                         next = next;
                         is_next = subst (λ (p : List ℕ). NextSheet c.sheet whole.tree p nonce keys next) c.stands.path_is is_next;

@@ -16,6 +16,7 @@ use Rattle.pf_io.specs.Steps.{KeepsOthers}
 use Rattle.pf_io.specs.Words.{WordsState}
 use Rattle.pf_io.proofs.Runs.{started, goes_on_ran}
 use Rattle.pf_io.proofs.Telling.{both_then, both_weaker, both_same}
+use Rattle.pf_session.specs.Asking.{Took}
 use Rattle.pf_session.specs.Aside.{LeavesOthers}
 use Rattle.pf_session.specs.Backing.{IsBacked}
 use Rattle.pf_session.specs.Changing.{StepGoes, WriteGoes, refused, unchanged, changed, not_flushed, flushed_and_changed}
@@ -30,6 +31,7 @@ use Rattle.pf_session.specs.declared.fault.Written.{Written}
 use Rattle.pf_session.proofs.Disks.{leaves_others}
 use Rattle.pf_session.proofs.Published.{has_reads}
 use Rattle.pf_session.proofs.Versions.{file_beside}
+use Rattle.pf_session.proofs.Words.{took_none, took_then}
 use Rattle.pf_tool.proofs.HeldTree.{HoldsAll, step_still, step_holds, step_backs, step_size}
 use Rattle.pf_tool.proofs.PieceAnswers.{TellsPieces, tells_none, tells_same, tells_then, none_of_flush}
 use Rattle.pf_tool.proofs.SessionWrites.{step_was_made}
@@ -46,10 +48,11 @@ pub record Standing (user : List ℕ) (output : Name) (sheet : Sheet) (content :
   pub size_is : session.tree.size ≡ length content
   pub holds : HoldsAll session.tree
 
--- nothing failed, and nothing but the side file was changed; where it stood for the one sheet, it stands for the other
+-- Nothing failed, these words were taken, and nothing but the side file was changed; where it stood for the one sheet, it stands for the other.
 pub record Went (input : Name) (user : List ℕ) (output : Name) (sheet next : Sheet) (at : ℕ) (pieces : List (List ℕ)) (before after : HostState) (random random' : WordsState) : Type 0 where
   pub calm : after.faults ≡ before.faults
-  pub words_calm : random'.faults ≡ random.faults
+  pub drew : List (List ℕ)
+  pub took : Took drew random random'
   pub told : Both before.given after.given (TellsPieces input at pieces)
   pub alone : KeepsBeside output before after
   pub stands : OnDisk before after (Where (HasSheet user (side_of output) sheet) (Ends (λ _. HasSheet user (side_of output) next)))
@@ -74,7 +77,8 @@ module _ (input : Name) (user : List ℕ) (output : Name) where
   pub went_same : (sheet : Sheet) (at : ℕ) (before after : HostState) (random random' : WordsState) → after ≡ before → random' ≡ random → Went input user output sheet sheet at [] before after random random'
   went_same sheet at before after random random' same words = record {
     calm = ap (λ (s : HostState). s.faults) same;
-    words_calm = ap (λ (r : WordsState). r.faults) words;
+    drew = [];
+    took = subst (λ (r : WordsState). Took [] random r) (sym words) (took_none random);
     told = tells_same input at before after same;
     alone = same_alone output before after same;
     stands = same_stands user (side_of output) sheet before after same;
@@ -84,7 +88,8 @@ module _ (input : Name) (user : List ℕ) (output : Name) where
       → Went input user output mid_sheet next (at + length (concat xs)) ys mid after words random' → Went input user output sheet next at (xs ++ ys) before after random random'
   went_then sheet mid_sheet next at xs ys before mid after random words random' one two = record {
     calm = two.calm ∙ one.calm;
-    words_calm = two.words_calm ∙ one.words_calm;
+    drew = one.drew ++ two.drew;
+    took = took_then one.drew two.drew random words random' one.took two.took;
     told = tells_then input at xs ys before mid after one.told two.told;
     alone = alone_then output before mid after one.alone two.alone;
     stands = both_then (Where (HasSheet user (side_of output) sheet) (Ends (λ _. HasSheet user (side_of output) mid_sheet))) (Where (HasSheet user (side_of output) mid_sheet) (Ends (λ _. HasSheet user (side_of output) next)))
@@ -130,11 +135,11 @@ step_stands user output sheet content bytes old new before after stands goes =
 module _ (input : Name) (user : List ℕ) (output : Name) (sheet : Sheet) (content : List ℕ) where
   -- a flush
   module _ (old new : SessionState) (stands : Standing user output sheet content old) (before after : HostState) (random random' : WordsState) where
-    seal_stands : (nonce : List ℕ) (keys : List (List ℕ)) → random'.faults ≡ random.faults → SealGoes (Ok tt) nonce keys old new before after
+    seal_stands : (nonce : List ℕ) (keys drew : List (List ℕ)) → Took drew random random' → SealGoes (Ok tt) nonce keys old new before after
         → (next : Sheet) × Standing user output next content new × ((at : ℕ) → Went input user output sheet next at [] before after random random')
-    seal_stands nonce keys calm (node_short damage named short each state is) = absurd (apart _ is)
-    seal_stands nonce keys calm (call_failed stopped keeps each shape state is) = absurd (apart _ is)
-    seal_stands nonce keys calm (flushed mid done keeps settled each state is) =
+    seal_stands nonce keys drew took (node_short damage named short each state is) = absurd (apart _ is)
+    seal_stands nonce keys drew took (call_failed stopped keeps each shape state is) = absurd (apart _ is)
+    seal_stands nonce keys drew took (flushed mid done keeps settled each state is) =
         let seals = each sheet stands.linked stands.backed in
         let on = seals.on_next refl in
         let size : new.tree.size ≡ old.tree.size = settled.size ∙ done.shape.size in (
@@ -156,7 +161,8 @@ module _ (input : Name) (user : List ℕ) (output : Name) (sheet : Sheet) (conte
           },
           λ at. record {
             calm = done.asked.faults;
-            words_calm = calm;
+            drew = drew;
+            took = took;
             told = tells_none input at _ before after (none_of_flush input old nonce keys done.blocks mid stands.beside_is) done.asked.told;
             alone = subst (λ (n : Name). KeepsBeside n before after) stands.name_is (keeps stands.beside_is);
             stands =
@@ -169,7 +175,7 @@ module _ (input : Name) (user : List ℕ) (output : Name) (sheet : Sheet) (conte
 
     pub flush_stands : FlushGoes (Ok tt) old new before after random random' → (next : Sheet) × Standing user output next content new × ((at : ℕ) → Went input user output sheet next at [] before after random random')
     flush_stands (no_words lacked same still is) = absurd (apart _ is)
-    flush_stands (had_words nonce keys came goes) = seal_stands nonce keys came.took.calm goes
+    flush_stands (had_words nonce keys came goes) = seal_stands nonce keys (came.words ++ keys) came.took goes
 
   -- a write at the content's end
   pub write_stands : (w : Written) (bytes : List ℕ) (old new : SessionState) (before after : HostState) (random random' : WordsState) → Standing user output sheet content old → WriteGoes (Ok w) (length content) bytes old new before after random random'

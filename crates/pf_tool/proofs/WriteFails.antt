@@ -42,7 +42,7 @@ still_fails input output fault before after random random' (inr is) same words =
 pub fails_after : (input user : List ℕ) (output : Name) (sheet next : Sheet) (fault : Fault) (before mid after : HostState) (random words random' : WordsState) → ((at : ℕ) → Went input user output sheet next at [] before mid random words) → Fails input output fault mid after words random'
     → Fails input output fault before after random random'
 fails_after input user output sheet next fault before mid after random words random' went fails = record {
-  counts = counts_after fault before mid after random words random' (went 0).calm (went 0).words_calm fails.counts;
+  counts = counts_after fault before mid after random words random' (went 0).calm (went 0).took.calm fails.counts;
   told = λ at. tells_then input at [] [] before mid after (went at).told (fails.told (at + 0));
   alone = alone_then output before mid after (went 0).alone fails.alone;
 }

@@ -144,7 +144,7 @@ ByWords request old new status = (ending : Ending) → Leads request [] ending �
 -- files.
 abbrev pub Content : Request → World → World → ℕ → Type 0
 Content (Decrypt key input) old new status = TookContent key input old new status
-Content (Encrypt key input output) old new status = (these : List Answer) → WereTold these old.host new.host → status ≡ 0 → GaveSealed key input output these new.random
+Content (Encrypt key input output) old new status = (these : List Answer) → WereTold these old.host new.host → status ≡ 0 → GaveSealed key input output these old.random new.random
 Content (Session key) old new status = TookScript key old new status
 Content (Manifest values template output) old new status = (these : List Answer) → WereTold these old.host new.host → status ≡ 0 → GaveRendered values template output these old.out new.out
 Content (Sums manifest output) old new status = (these : List Answer) → WereTold these old.host new.host → status ≡ 0 → PutSums manifest output these old.out new.out

@@ -7,9 +7,10 @@ use Rattle.node_tree.specs.Parts.{PIECE}
 use Rattle.node_tree.specs.Sheet.{Sheet, IsLinked}
 use Rattle.node_tree.specs.State.{TreeState}
 use Rattle.pf_io.specs.Disk.{Name}
-use Rattle.pf_io.specs.Host.{Answer, LengthWas, Gave, Wrote, WasCut, Synced, Made, Swapped, Removed}
+use Rattle.pf_io.specs.Host.{Answer, LengthWas, Gave, Wrote, WasCut, Synced, Made, Swapped, Removed, Both}
 use Rattle.pf_io.specs.Names.{side_of}
 use Rattle.pf_io.specs.Words.{WordsState}
+use Rattle.pf_session.specs.Asking.{IsTaken}
 use Rattle.pf_session.specs.Drawing.{WordsCame}
 use Rattle.pf_session.specs.Steps.{seal_steps}
 
@@ -42,17 +43,19 @@ pub record TakenInPieces (input : Name) (these : List Answer) (content : List �
   pub gave : GavePieces input these (whole ++ last ∷ [])
   pub content_is : content ≡ concat (whole ++ last ∷ [])
 
--- The last sealing: on a sheet that backs the tree, of the next one, which has the output's name as path and this content. Its nonce is the first two of the words that were taken last, and its
--- dirty nodes have the words behind as keys. Its nodes were written to the side file, which then took the name.
-pub record SealedLast (user : List ℕ) (output : Name) (content : List ℕ) (these : List Answer) (words : WordsState) : Type 0 where
+-- The last sealing: on a sheet that backs the tree, of the next one, which has the output's name as path and this content. Of the words that were taken from the old ones on, its nonce and its keys
+-- are the last: behind some earlier words came two for the nonce, then one for each dirty node as its key, and none after them. Its nodes were written to the side file, which then took the name.
+pub record SealedLast (user : List ℕ) (output : Name) (content : List ℕ) (these : List Answer) (old new : WordsState) : Type 0 where
   pub base : Sheet
   pub tree : TreeState
   pub linked : IsLinked base
   pub backs : Backs base tree
+  pub earlier : List (List ℕ)
+  pub before : WordsState
+  pub taken : Both old.left before.left (IsTaken earlier)
   pub nonce : List ℕ
   pub keys : List (List ℕ)
-  pub before : WordsState
-  pub words_came : WordsCame None (length tree.dirty) nonce keys before words
+  pub words_came : WordsCame None (length tree.dirty) nonce keys before new
   pub next : Sheet
   pub is_next : NextSheet base tree output nonce keys next
   pub content_is : next.content ≡ content
@@ -62,9 +65,9 @@ pub record SealedLast (user : List ℕ) (output : Name) (content : List ℕ) (th
   pub last_calls : these ≡ front ++ (seal_steps user output nonce (side_of output) tree.dirty keys sealed ++ Swapped (side_of output) output ∷ [])
 
 -- At status 0 the answers have this: a key was given, and the pieces of a content; and the last version that was sealed under the key, with the output's name as path, has this content.
-pub record GaveSealed (key input output : Name) (these : List Answer) (words : WordsState) : Type 0 where
+pub record GaveSealed (key input output : Name) (these : List Answer) (old new : WordsState) : Type 0 where
   pub user : List ℕ
   pub content : List ℕ
   pub key_given : Contains these (Gave key 0 16 user)
   pub taken : TakenInPieces input these content
-  pub sealed : SealedLast user output content these words
+  pub sealed : SealedLast user output content these old new
