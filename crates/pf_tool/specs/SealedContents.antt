@@ -43,8 +43,8 @@ pub record TakenInPieces (input : Name) (these : List Answer) (content : List �
   pub gave : GavePieces input these (whole ++ last ∷ [])
   pub content_is : content ≡ concat (whole ++ last ∷ [])
 
--- The last sealing: on a sheet that backs the tree, of the next one, which has the output's name as path and this content. Of the words that were taken from the old ones on, its nonce and its keys
--- are the last: behind some earlier words came two for the nonce, then one for each dirty node as its key, and none after them. Its nodes were written to the side file, which then took the name.
+-- The last sealing: on a sheet that backs the tree, of the next one, which has the output's name as path and this content. Behind earlier words, the first that were taken of the old ones, came
+-- two for its nonce, and then one for each dirty node as its key; no word was taken after these. Its nodes were written to the side file, which then took the name.
 pub record SealedLast (user : List ℕ) (output : Name) (content : List ℕ) (these : List Answer) (old new : WordsState) : Type 0 where
   pub base : Sheet
   pub tree : TreeState
