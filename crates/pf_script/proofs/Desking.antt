@@ -187,14 +187,22 @@ module _ (old : DeskState) (desk : IsDesk old) (k : ℕ) (below : k < SEATS) (ta
     all_asks (Err fault) told = tt
 
     wants_on : SeatWants line (session_at old k) left before after random random' → Wants line old new before after random random'
-    wants_on wants = record { takes = wants.takes; told = wants.told; ends = ⊎_elim (λ idle. inl (nothing idle)) (λ breaks. inr (breaks.0, broken breaks.1)) wants.ends }
+    wants_on wants = record {
+      takes = wants.takes;
+      told = wants.told;
+      ends = ⊎_elim (λ idle. inl (nothing idle)) (λ breaks. inr (breaks.0, broken breaks.1)) wants.ends;
+      others = λ j other. off j (λ e. other (names ∙ ap (λ (i : ℕ). Some i) (sym e)));
+    }
       where
+        off : (j : ℕ) → j ≢ k → KeepsSession (session_at old j) (session_at new j)
+        off j apart = subst (λ (o : Option SessionState). KeepsSession (session_at old j) o) (sym (there j apart)) (keeps_same (session_at old j))
+
         nothing : SeatIdle (session_at old k) left before after random random' → NothingDone old new before after random random'
         nothing idle = record {
           key_is = refl;
           seats = λ j. ⊎_elim
               (λ e. subst (λ i. KeepsSession (session_at old i) (session_at new i)) (sym e) (subst (λ (o : Option SessionState). KeepsSession (session_at old k) o) (sym here) idle.seat))
-              (λ apart. subst (λ (o : Option SessionState). KeepsSession (session_at old j) o) (sym (there j apart)) (keeps_same (session_at old j))) (same_or_not j k);
+              (off j) (same_or_not j k);
           disk = idle.disk;
           words = idle.words;
         }

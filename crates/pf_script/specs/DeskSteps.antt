@@ -165,11 +165,12 @@ pub record NothingDone (old new : DeskState) (before after : HostState) (random 
 abbrev pub BreaksSeat : ScriptLine → DeskState → Type 0
 BreaksSeat line new = (k : ℕ) × (session : SessionState) × (seat_of_line line ≡ Some k) × (session_at new k ≡ Some session) × (session.broken ≡ true)
 
--- want of memory; what the host tells goes on
+-- want of memory; what the host tells goes on, and each other seat is as before
 pub record Wants (line : ScriptLine) (old new : DeskState) (before after : HostState) (random random' : WordsState) : Type 0 where
   pub takes : ¬ (TakesNone line)
   pub told : WhereTold before after (λ given. ⊤)
   pub ends : NothingDone old new before after random random' ⊎ (IsChange line × BreaksSeat line new)
+  pub others : (j : ℕ) → seat_of_line line ≢ Some j → KeepsSession (session_at old j) (session_at new j)
 
 abbrev pub WhereWanting : Result Reply Memory → Type 0 → Type 0
 WhereWanting (Ok reply) P = ⊤

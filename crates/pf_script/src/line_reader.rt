@@ -60,7 +60,7 @@ impl LineReader {
         })
     }
 
-    /// The line that was given last. It is empty where the last call gave none.
+    /// The line that was given last.
     pub fn line(&self) -> &[u8]
         ensures { result.now ≡ self.now.line }
     {
