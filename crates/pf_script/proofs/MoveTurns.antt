@@ -1,6 +1,6 @@
 -- The line `move` under a book: how it ends.
 use Rattle.std.proofs.Common.{◌≡◌, ◌≢◌, ◌⊎◌, inl, inr, Bool, true, false, List, [], ◌∷◌, ◌++◌, ℕ, refl, sym, ◌∙◌, ap, subst, Option, Some, None, Result, Err}
-use Rattle.std.specs.Prelude.{Contains, is_some}
+use Rattle.std.specs.Prelude.{Contains}
 use Rattle.node_tree.specs.Sheet.{Sheet}
 use Rattle.pf_io.specs.Disk.{Name, Disk, File, IsImage, reading, read_of}
 use Rattle.pf_io.specs.Host.{Answer, LengthWas, HostState, Both, IsMore, OnDisk, ReadsAsImage}
@@ -23,7 +23,7 @@ use Rattle.pf_script.specs.Book.{Book, Entry, Seal, Agrees}
 use Rattle.pf_script.specs.BookActs.{Flush, Move, Act}
 use Rattle.pf_script.specs.BookDebts.{Unchanged, DidAll, seat_of}
 use Rattle.pf_script.specs.BookSeats.{Covers, KeepsUnder}
-use Rattle.pf_script.specs.BookTurns.{SeenIn, ShowsUnder, of_book, other_file, SeatUnder, SeatAgrees, SeatBooked}
+use Rattle.pf_script.specs.BookTurns.{SeenIn, of_book, other_file, SeatUnder, SeatAgrees, SeatBooked}
 use Rattle.pf_script.specs.Desk.{IsSeated, seat_on}
 use Rattle.pf_script.specs.DeskSteps.{CountsFault, Concerns}
 use Rattle.pf_script.specs.FileTurns.{stands_on, answers_of, seen_over, SeatFiles}
@@ -177,7 +177,6 @@ module _ (key : List ℕ) (k : ℕ) (to : Name) (old : SessionState) (seated : I
               let m = on_to Unchanged before.honest start.honest a is_a free.looks.disk in
               let next = seals base on.stood.as_sheet.stands.linked on.kept.backed in
               let own = seat_on base old in
-              let stood_m = subst (λ (d : Disk). Stood old.key old.name base d) (sym m.2.ends) on.stood in
               let acts : List Act = flush_act old next.0 false ∷ [] in record {
                 acts = acts;
                 left = seats_after (Flush (seat_of old.key old.name next.0)) false seats;
