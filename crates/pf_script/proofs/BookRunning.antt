@@ -9,7 +9,7 @@ use Rattle.pf_session.specs.State.{SessionState}
 use Rattle.pf_script.specs.Book.{Book, Entry, Seal, Agrees}
 use Rattle.pf_script.specs.BookActs.{booked_all}
 use Rattle.pf_script.specs.BookDebts.{seat_of}
-use Rattle.pf_script.specs.BookRuns.{ActsIn, NamesStay, FollowsUnder}
+use Rattle.pf_script.specs.BookRuns.{NamesStay, FollowsUnder}
 use Rattle.pf_script.specs.BookTurns.{ShowsUnder, no_file, of_book, other_file, IsStateUnder, DeskUnder, DeskAgrees}
 use Rattle.pf_script.specs.Desk.{DeskState, session_at, seat_on}
 use Rattle.pf_script.specs.DeskSteps.{KeepsNames}
@@ -17,7 +17,7 @@ use Rattle.pf_script.specs.Script.{OwnSeat, Seat, Own, ScriptState, seat_at}
 use Rattle.pf_script.specs.ScriptRuns.{Exchange}
 use Rattle.pf_script.specs.declared.line.ScriptLine.{ScriptLine}
 use Rattle.pf_script.specs.declared.reply.Reply.{Reply}
-use Rattle.pf_script.proofs.CallKeeping.{at_both, read_image}
+use Rattle.pf_script.proofs.CallKeeping.{read_image}
 use Rattle.pf_script.proofs.Composing.{all_agrees, all_leaves}
 use Rattle.pf_script.proofs.DeskLooks.{looks_named}
 use Rattle.pf_script.proofs.SparesAll.{did_spares}

@@ -145,9 +145,9 @@ module _ (key : List ℕ) (sealed : List Sheet) (own : OwnSeat) (line : ScriptLi
 
   pub change_ends : (outcome : Outcome) → Continues outcome → ChangeTold step old new these more outcome → Unfolds key sealed P given (flushes own sheets)
   change_ends _ go (told_once one roomy none facts state) = once roomy none one go facts state
-  change_ends _ go (told_lacked first same) =
+  change_ends _ go (told_lacked first fewer same) =
       in_the_end (flushes own sheets)
       (λ unforged. go.lack refl (flushes own sheets)
-      (no_word key sealed own line given old made words sheets base was step steps asks new (ap (λ (s : SessionState). s.key) same) (ap (λ (s : SessionState). s.name) same) go.passes more (flushes_first base old step first) same))
+      (no_word key sealed own line given old made words sheets base was step steps asks new (ap (λ (s : SessionState). s.key) same) (ap (λ (s : SessionState). s.name) same) go.passes more (flushes_first base old step first) fewer same))
   change_ends _ go (told_unflushed blame first blames seals key_is name_is broken) = unflushed blame go first blames seals key_is name_is broken
   change_ends _ go (told_after mid one front those parts first seals same dirty facts state) = after first mid front those parts seals same dirty one go facts state

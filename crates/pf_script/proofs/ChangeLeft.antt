@@ -18,13 +18,13 @@ use Rattle.pf_script.specs.BookSeats.{IsOfScript}
 use Rattle.pf_script.specs.DeskSteps.{CountsFault}
 use Rattle.pf_script.specs.Turns.{Blame}
 use Rattle.pf_script.proofs.ChangeTold.{Outcome, Broke, Lacked, outcome_of, host_in, words_in, host_same, calm_words, flush_outcome, outcome_is, same_fault}
-use Rattle.pf_script.proofs.Flushed.{SealsWith, FlushEnds, not_begun, not_ended, was_ended, fault_of}
+use Rattle.pf_script.proofs.Flushed.{SealsWith, TooFewToFlush, FlushEnds, not_begun, not_ended, was_ended, fault_of}
 use Rattle.pf_script.proofs.Refusing.{none_taken}
 use Rattle.pf_script.proofs.StepFacts.{host_of, counts_of}
 
 pub data ChangeLeft (step : Step) (old new : SessionState) (before after : HostState) (words : List (List ℕ)) : Outcome → Type 0 where
   left_once : (one : Result (Unit {0}) TreeFault) → IsRoomy step old.tree → words ≡ [] → StepGoes one step old new before after → ChangeLeft step old new before after words (outcome_of false one)
-  left_lacked : IsFlushedFirst step old.tree → new ≡ old → after ≡ before → ChangeLeft step old new before after words Lacked
+  left_lacked : IsFlushedFirst step old.tree → TooFewToFlush old words → new ≡ old → after ≡ before → ChangeLeft step old new before after words Lacked
   left_unflushed : (blame : Blame) → IsFlushedFirst step old.tree → UndamagedFlush (Err (fault_of blame)) old before → SealsWith old words (λ base next. Replaces false old.key old.name base next before after)
       → new.key ≡ old.key → new.name ≡ old.name → new.broken ≡ true → ChangeLeft step old new before after words (Broke blame)
   left_after : (mid : SessionState) (between : HostState) (one : Result (Unit {0}) TreeFault) → IsOfScript mid → IsFlushedFirst step old.tree → SealsWith old words (λ base next. StandsOn next mid × Replaces true old.key old.name base next before between × StandsNext old.key old.name base next before between)
@@ -53,9 +53,9 @@ module _ (old : SessionState) (step : Step) (before after : HostState) (random r
   }
 
   pub in_unflushed : (new : SessionState) (fault : FlushFault) → IsFlushedFirst step old.tree → UndamagedFlush (Err fault) old before → FlushEnds (Err fault) old new before after random random' → ChangeIn step old new (flush_outcome fault) before after random random'
-  in_unflushed new fault first undamaged (not_begun words seen same stays said) =
+  in_unflushed new fault first undamaged (not_begun words fewer seen same stays said) =
       subst (λ (f : FlushFault). ChangeIn step old new (flush_outcome f) before after random random') (same_fault fault faults.Words said)
-      (record { these = []; words = words; told = seen.told; taken = seen.taken; on_host = seen.on_host; on_words = seen.on_words; left = left_lacked first same stays })
+      (record { these = []; words = words; told = seen.told; taken = seen.taken; on_host = seen.on_host; on_words = seen.on_words; left = left_lacked first fewer same stays })
   in_unflushed new fault first undamaged (not_ended blame these words seen blames seals key_is name_is broken said) =
       subst (λ (f : FlushFault). ChangeIn step old new (flush_outcome f) before after random random') (same_fault fault (fault_of blame) said)
       (subst (λ (o : Outcome). ChangeIn step old new o before after random random') (sym (outcome_is blame))
@@ -72,7 +72,7 @@ module _ (old : SessionState) (step : Step) (before after : HostState) (random r
 
   pub in_after : (mid new : SessionState) (between : HostState) (one : Result (Unit {0}) TreeFault) → IsOfScript mid → IsFlushedFirst step old.tree → FlushEnds (Ok tt) old mid before between random random' → StepGoes one step mid new between after
       → ChangeIn step old new (outcome_of true one) before after random random'
-  in_after mid new between one of_mid first (not_begun words seen same stays said) goes = absurd (cc)
+  in_after mid new between one of_mid first (not_begun words fewer seen same stays said) goes = absurd (cc)
   in_after mid new between one of_mid first (not_ended blame these words seen blames seals key_is name_is broken said) goes = absurd (cc)
   in_after mid new between one of_mid first (was_ended these words seen seals same dirty said) goes = record {
     these = these ++ goes.steps.these;

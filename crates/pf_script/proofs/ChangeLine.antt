@@ -67,7 +67,7 @@ module _ (key : List ℕ) (old : SessionState) (seated : IsSeated key old) (whol
   }
 
   flush_after : (new : SessionState) (result : Result (Unit {0}) FlushFault) (before after : HostState) (random random' : WordsState) → FlushCase result old new before after random random' → After old new
-  flush_after new result before after random random' (lacked words seen same stays said) = same_after new same
+  flush_after new result before after random random' (lacked words fewer seen same stays said) = same_after new same
   flush_after new result before after random random' (failed blame these words seen blames seals key_is name_is broken said) =
       record { key_is = key_is; name_is = name_is; clean = λ also unchanged. absurd (false_true new.broken broken also) }
   flush_after new result before after random random' (done these words seen seals same dirty said) =

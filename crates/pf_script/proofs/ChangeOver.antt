@@ -172,7 +172,7 @@ module _ (own : OwnSeat) (files : Files) (first : Sheet) where
     pub change_over : (outcome : Outcome) → ChangeLeft step old new before after more outcome → ChangedOver outcome
     change_over _ (left_once one roomy none goes) =
         once roomy none one goes (stands_at old before m base one is_m goes stands_old was.kept.backed) (at_both (Ran IsImage Stays) before.honest after.honest m b is_m is_b goes.disk)
-    change_over _ (left_lacked is_first same stays) = tt
+    change_over _ (left_lacked is_first fewer same stays) = tt
     change_over _ (left_unflushed ByHost is_first undamaged seals key_is name_is broken) = λ calm. absurd (cc)
     change_over _ (left_unflushed (ByDamage damage) is_first undamaged seals key_is name_is broken) =
         absurd

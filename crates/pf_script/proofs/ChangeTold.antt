@@ -20,7 +20,7 @@ use Rattle.pf_session.specs.declared.fault.FlushFault.TheVariants as faults
 use Rattle.pf_script.specs.BookSeats.{IsOfScript}
 use Rattle.pf_script.specs.DeskSteps.{CountsFault}
 use Rattle.pf_script.specs.Turns.{Blame, ByHost, ByDamage, BlamesFlush, BlamesFetch, IsShort}
-use Rattle.pf_script.proofs.Flushed.{SealsOwn, FlushCase, lacked, failed, done, host_blamed, fault_of}
+use Rattle.pf_script.proofs.Flushed.{SealsOwn, TooFewToFlush, FlushCase, lacked, failed, done, host_blamed, fault_of}
 use Rattle.pf_script.proofs.Refusing.{none_taken}
 use Rattle.pf_script.proofs.StepFacts.{StepFacts, host_of, counts_of, step_told}
 
@@ -52,7 +52,7 @@ words_in Wanted = false
 -- a change, by what came
 pub data ChangeTold (step : Step) (old new : SessionState) (given : List Answer) (words : List (List ℕ)) : Outcome → Type 0 where
   told_once : (one : Result (Unit {0}) TreeFault) → IsRoomy step old.tree → words ≡ [] → StepFacts one step old new given → StepState one old new → ChangeTold step old new given words (outcome_of false one)
-  told_lacked : IsFlushedFirst step old.tree → new ≡ old → ChangeTold step old new given words Lacked
+  told_lacked : IsFlushedFirst step old.tree → TooFewToFlush old words → new ≡ old → ChangeTold step old new given words Lacked
   told_unflushed : (blame : Blame) → IsFlushedFirst step old.tree → BlamesFlush old.name given blame → SealsOwn old words (λ next. Unit {0}) → new.key ≡ old.key → new.name ≡ old.name → new.broken ≡ true
       → ChangeTold step old new given words (Broke blame)
   told_after : (mid : SessionState) (one : Result (Unit {0}) TreeFault) (these those : List Answer) → given ≡ these ++ those → IsFlushedFirst step old.tree → SealsOwn old words (λ next. StandsOn next mid) → {nonce : List ℕ} {tree : TreeState}
@@ -102,14 +102,14 @@ module _ (old : SessionState) (mine : IsOfScript old) (step : Step) (before afte
   }
 
   pub seen_unflushed : (new : SessionState) (fault : FlushFault) → IsFlushedFirst step old.tree → FlushCase (Err fault) old new before after random random' → ChangeSeen step old new (flush_outcome fault) before after random random'
-  seen_unflushed new fault first (lacked words seen same stays said) =
+  seen_unflushed new fault first (lacked words fewer seen same stays said) =
       subst (λ (f : FlushFault). ChangeSeen step old new (flush_outcome f) before after random random') (same_fault fault faults.Words said)
       (record {
         words = words;
         taken = seen.taken;
         on_host = seen.on_host;
         on_words = seen.on_words;
-        told = told_by (λ given. ChangeTold step old new given words Lacked) [] before after seen.told (told_lacked first same);
+        told = told_by (λ given. ChangeTold step old new given words Lacked) [] before after seen.told (told_lacked first fewer same);
       })
   seen_unflushed new fault first (failed blame these words seen blames seals key_is name_is broken said) =
       subst (λ (f : FlushFault). ChangeSeen step old new (flush_outcome f) before after random random') (same_fault fault (fault_of blame) said)
@@ -125,7 +125,7 @@ module _ (old : SessionState) (mine : IsOfScript old) (step : Step) (before afte
 
   pub seen_after : (mid new : SessionState) (between : HostState) (one : Result (Unit {0}) TreeFault) → IsOfScript mid → IsFlushedFirst step old.tree → FlushCase (Ok tt) old mid before between random random' → StepGoes one step mid new between after
       → ChangeSeen step old new (outcome_of true one) before after random random'
-  seen_after mid new between one of_mid first (lacked words seen same stays said) goes = absurd (cc)
+  seen_after mid new between one of_mid first (lacked words fewer seen same stays said) goes = absurd (cc)
   seen_after mid new between one of_mid first (failed blame these words seen blames seals key_is name_is broken said) goes = absurd (cc)
   seen_after mid new between one of_mid first (done these words seen seals same dirty said) goes = record {
     words = words;

@@ -40,7 +40,7 @@ use Rattle.pf_script.proofs.CallKeeping.{at_both, back_to, reads_after, same_dis
 use Rattle.pf_script.proofs.ChangeLeft.{ChangeLeft, left_once, left_lacked, left_unflushed, left_after}
 use Rattle.pf_script.proofs.ChangeTold.{Outcome, Went, Broke, Lacked, Wanted, outcome_of, Grew}
 use Rattle.pf_script.proofs.Composing.{all_agrees, did_on, booked_on}
-use Rattle.pf_script.proofs.Flushed.{SealsWith, host_blamed, fault_of}
+use Rattle.pf_script.proofs.Flushed.{SealsWith, TooFewToFlush, host_blamed, fault_of}
 use Rattle.pf_script.proofs.NameMaps.{set_at-same}
 use Rattle.pf_script.proofs.SeatCalls.{seen_by}
 use Rattle.pf_script.proofs.Seats.{seats_after, seat_is_left, among_on, among_back}
@@ -215,8 +215,8 @@ module _ (key : List ℕ) (own : OwnSeat) (line : ScriptLine) (book : Book) (sea
         (at_both (Ran IsImage Stays) before.honest after.honest m b is_m is_b goes.disk)
 
     -- no word came for the flush before
-    pub change_lacked : IsFlushedFirst step old.tree → new ≡ old → after ≡ before → ChangeKnown Lacked
-    change_lacked is_first same stays =
+    pub change_lacked : IsFlushedFirst step old.tree → TooFewToFlush old more → new ≡ old → after ≡ before → ChangeKnown Lacked
+    change_lacked is_first fewer same stays =
         record {
           acts = flushes own sheets;
           left = progress.left;
@@ -227,7 +227,7 @@ module _ (key : List ℕ) (own : OwnSeat) (line : ScriptLine) (book : Book) (sea
           shows = subst (λ (s : SessionState). ShowsUnder mid_book progress.left (Own (seat_on base old)) (Some s)) (sym same)
               (of_book base old was.whole
               (subst (λ (k : List ℕ). Contains progress.left (seat_of k old.name base)) (sym was.key_is) (subst (λ (n : Name). Contains progress.left (seat_of own.key n base)) (sym was.name_is) progress.seated)) was.kept refl refl);
-          turn = λ given. words_failed (passes given) (record { host = refl; random = refl }) (no_flush_before own (seat_on base old) line step words more sheets some (flushes_first base old step is_first) refl) refl;
+          turn = λ given. words_failed (passes given) (record { host = refl; random = refl }) (no_flush_before own (seat_on base old) line step words more sheets some (flushes_first base old step is_first) refl fewer) refl;
         }
 
     -- the flush before failed; it met no damage
@@ -343,7 +343,7 @@ module _ (key : List ℕ) (own : OwnSeat) (line : ScriptLine) (book : Book) (sea
 
     pub change_known : (outcome : Outcome) → ChangeLeft step old new before after more outcome → ChangeKnown outcome
     change_known _ (left_once one roomy none goes) = change_once one roomy none goes
-    change_known _ (left_lacked is_first same stays) = change_lacked is_first same stays
+    change_known _ (left_lacked is_first fewer same stays) = change_lacked is_first fewer same stays
     change_known _ (left_unflushed blame is_first undamaged seals key_is name_is broken) = change_unflushed blame is_first undamaged seals key_is name_is broken
     change_known _ (left_after mid between one of_mid is_first seals same dirty goes) =
         let t = back_to (Ran IsImage Stays) between.honest after.honest b is_b goes.disk in

@@ -23,7 +23,7 @@ use Rattle.pf_script.specs.declared.reply.Reply.{Reply}
 use Rattle.pf_script.specs.declared.reply.Reply.TheVariants as replies
 use Rattle.pf_script.proofs.CallKeeping.{close_keeps}
 use Rattle.pf_script.proofs.FlushLine.{flush_act}
-use Rattle.pf_script.proofs.Flushed.{SealsOwn, FlushCase, lacked, failed, done, flush_case, host_blamed, fault_of}
+use Rattle.pf_script.proofs.Flushed.{SealsOwn, TooFewToFlush, FlushCase, lacked, failed, done, flush_case, host_blamed, fault_of}
 use Rattle.pf_script.proofs.Refusing.{at_last, not_empty, none_taken}
 use Rattle.pf_script.proofs.SeatCalls.{seen_by, SheetTurns, whole_turns, goes_out, host_reply, words_reply, false_true}
 use Rattle.pf_script.proofs.Showing.{shows_some}
@@ -56,9 +56,9 @@ module _ (key : List ℕ) (k : ℕ) (old : SessionState) where
   idle_turns false is (inr broken) = absurd (false_true old.broken broken is)
 
   module _ (whole : old.broken ≡ false) (was_changed : old.changed ≡ true) where
-    lacked_turns : (words : List (List ℕ)) → SheetTurns key false (lines.Close k) (seen_by [] words false true) replies.WordsFault old None []
-    lacked_turns words sealed base among linked kept =
-        at_last [] (λ unforged. (Empty, words_failed (none_to_close key k (seat_on base old)) (record { host = refl; random = refl }) (no_last_flush k (seat_on base old) was_changed whole) refl, no_file refl refl))
+    lacked_turns : (words : List (List ℕ)) → TooFewToFlush old words → SheetTurns key false (lines.Close k) (seen_by [] words false true) replies.WordsFault old None []
+    lacked_turns words fewer sealed base among linked kept =
+        at_last [] (λ unforged. (Empty, words_failed (none_to_close key k (seat_on base old)) (record { host = refl; random = refl }) (no_last_flush k (seat_on base old) was_changed whole fewer) refl, no_file refl refl))
 
     failed_turn : (sealed : List Sheet) (base next : Sheet) (these : List Answer) (words : List (List ℕ)) (blame : Blame) → Seals (seat_on base old) words next → BlamesFlush old.name these blame
         → SeatTurn (on_carried key sealed) key false (Own (seat_on base old)) (lines.Close k) (seen_by these words (host_blamed blame) false) (flush_reply (fault_of blame)) (flush_act old next false ∷ []) Empty
@@ -82,10 +82,10 @@ module _ (key : List ℕ) (k : ℕ) (old : SessionState) where
   module _ (before after : HostState) (random random' : WordsState) (aside : Aside old.name before after) (books : OnDisk before after (KeepsUnder (Covers old) CoversNone (λ name. name ≡ old.name))) where
     by_case : (result : Result (Unit {0}) FlushFault) (mid : SessionState) → old.broken ≡ false → old.changed ≡ true → FlushCase result old mid before after random random'
         → SeatGoes key false (lines.Close k) (Ok (close_result false result)) (Some old) None before after random random'
-    by_case result mid whole was_changed (lacked words seen same stays said) =
+    by_case result mid whole was_changed (lacked words fewer seen same stays said) =
         subst (λ (r : Result (Unit {0}) FlushFault). SeatGoes key false (lines.Close k) (Ok (close_result false r)) (Some old) None before after random random') (sym said)
         (goes_out key false (lines.Close k) replies.WordsFault old before after random random' aside [] words false true seen refl refl
-        (whole_turns key false (lines.Close k) (seen_by [] words false true) replies.WordsFault old None [] whole (lacked_turns whole was_changed words)) books)
+        (whole_turns key false (lines.Close k) (seen_by [] words false true) replies.WordsFault old None [] whole (lacked_turns whole was_changed words fewer)) books)
     by_case result mid whole was_changed (failed blame these words seen blames seals key_is name_is broken said) =
         subst (λ (r : Result (Unit {0}) FlushFault). SeatGoes key false (lines.Close k) (Ok (close_result false r)) (Some old) None before after random random') (sym said)
         (goes_out key false (lines.Close k) (flush_reply (fault_of blame)) old before after random random' aside these words (host_blamed blame) false seen (host_reply blame) (words_reply blame)

@@ -56,7 +56,7 @@ module _ (key : List ℕ) (k : ℕ) (old : SessionState) (seated : IsSeated key 
     line_under seen reply answered known = on_disk key false (lines.Close k) seen reply old whole None before after answered keeps aside known
 
     by_end : (result : Result (Unit {0}) FlushFault) → UndamagedFlush result old before → FlushEnds result old mid before after random random' → SeatAgrees key false (lines.Close k) (close_result false result) (Some old) None before after random random'
-    by_end result undamaged (not_begun words seen same stays said) =
+    by_end result undamaged (not_begun words fewer seen same stays said) =
         subst (λ (r : Result (Unit {0}) FlushFault). SeatAgrees key false (lines.Close k) (close_result false r) (Some old) None before after random random') (sym said)
         (record {
           seen = seen_by [] words false true;
@@ -70,7 +70,7 @@ module _ (key : List ℕ) (k : ℕ) (old : SessionState) (seated : IsSeated key 
                 shows = no_file refl refl;
                 spares = λ s has apart. has;
                 concerned = none_concerned false (lines.Close k) (Some old);
-                turn = λ _. words_failed (none_to_close key k (seat_on base old)) (record { host = refl; random = refl }) (no_last_flush k (seat_on base old) was_changed whole) refl;
+                turn = λ _. words_failed (none_to_close key k (seat_on base old)) (record { host = refl; random = refl }) (no_last_flush k (seat_on base old) was_changed whole fewer) refl;
                 idle = tt;
               });
           over = lacked_over key (lines.Close k) words replies.WordsFault old whole None before after aside;

@@ -193,7 +193,7 @@ module _ (key : List ℕ) (k : ℕ) (name : Name) (utf8 : IsUtf8 name) (before a
       subst (λ (r : Result SessionState CreateFault). Both (create_result name r) (made_seat r)) (sym said)
       (empty_idle key line name refl before after random random' replies.WordsFault (LengthWas name None ∷ []) fewer.words false true looks.disk
       (record { told = looks.asked.asked.told; taken = fewer.told; on_host = looks.asked.asked.faults; on_words = fewer.once }) refl refl
-      (λ standing. words_failed (seat_none (naming_rules name (LengthWas name None ∷ [])) (naming_none name (LengthWas name None ∷ []) good.is_target (no_length name None refl))) (record { host = refl; random = refl }) (no_creation k name) refl) (λ a is calm. absurd (no_words_fault calm)))
+      (λ standing. words_failed (seat_none (naming_rules name (LengthWas name None ∷ [])) (naming_none name (LengthWas name None ∷ []) good.is_target (no_length name None refl))) (record { host = refl; random = refl }) (no_creation k name fewer.fewer) refl) (λ a is calm. absurd (no_words_fault calm)))
   by_case result aside reads keeps (create_stopped nonce between good looks drawn stopped said) =
       let those = stopped.stopped.answered in
       let these = LengthWas name None ∷ those in

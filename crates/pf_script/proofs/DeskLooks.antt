@@ -1,5 +1,5 @@
 -- The names of a state of a script that looks as a desk does.
-use Rattle.std.proofs.Common.{◌≡◌, Bool, ℕ, sym, ◌∙◌, subst, Option, Some, None}
+use Rattle.std.proofs.Common.{Bool, ℕ, sym, ◌∙◌, subst, Option, Some, None}
 use Rattle.std.specs.Prelude.{◌↔◌}
 use Rattle.std.proofs.lemmas.Option.{IfSome_then}
 use Rattle.pf_io.specs.Disk.{Name}

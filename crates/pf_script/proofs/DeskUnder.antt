@@ -1,5 +1,5 @@
 -- A line on one seat of a desk under a book, as one on the desk.
-use Rattle.std.proofs.Common.{◌≡◌, ◌≢◌, inl, inr, ⊎_elim, Bool, false, List, [], ℕ, ◌<◌, refl, sym, ◌∙◌, ap, subst, Option, Some, None, Result, Ok, Err, length}
+use Rattle.std.proofs.Common.{◌≡◌, ◌≢◌, inl, inr, ⊎_elim, Bool, List, [], ℕ, ◌<◌, refl, sym, ◌∙◌, ap, subst, Option, Some, Result, Ok, Err, length}
 use Rattle.std.specs.Prelude.{IfSome}
 use Rattle.std.proofs.lemmas.List.{get_or-set_same, get_or-set_other, length-set}
 use Rattle.pf_io.specs.Disk.{Name, reading}

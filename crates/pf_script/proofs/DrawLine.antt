@@ -1,5 +1,5 @@
 -- The line `draw`, from the contract of a drawing.
-use Rattle.std.proofs.Common.{◌≡◌, true, false, List, [], ◌∷◌, ◌++◌, ℕ, refl, sym, ◌∙◌, ap, subst, Option, Some, None, Result, Ok, Err}
+use Rattle.std.proofs.Common.{◌≡◌, true, false, List, [], ◌∷◌, ◌++◌, length, ℕ, ◌<◌, refl, sym, ◌∙◌, ap, subst, Option, Some, None, Result, Ok, Err}
 use Rattle.node_tree.specs.Sheet.{Sheet}
 use Rattle.pf_io.specs.Host.{HostState, Both, OnDisk}
 use Rattle.pf_io.specs.Words.{WordsState}
@@ -39,12 +39,12 @@ module _ (key : List ℕ) (k : ℕ) (old : SessionState) (whole : old.broken ≡
         shows_same sealed (Own own) (Some new) (subst (λ (s : SessionState). Shows sealed (Own own) (Some s)) (sym same) (whole_file base old whole among linked kept refl refl)),
       ))
 
-  lost_turns : (words : List (List ℕ)) → old.drawn ≡ None → new ≡ old → SheetTurns key false (lines.Draw k) (seen_by [] words false true) replies.WordsFault old (Some new) []
-  lost_turns words none same sealed base among linked kept =
+  lost_turns : (words : List (List ℕ)) → length words < 2 → old.drawn ≡ None → new ≡ old → SheetTurns key false (lines.Draw k) (seen_by [] words false true) replies.WordsFault old (Some new) []
+  lost_turns words fewer none same sealed base among linked kept =
       let own = seat_on base old in
       at_last [] (λ unforged. (
         Own own,
-        words_failed (none_then [] (Own own) own refl whole tt) (record { host = refl; random = refl }) (no_nonce k own none) refl,
+        words_failed (none_then [] (Own own) own refl whole tt) (record { host = refl; random = refl }) (no_nonce k own none fewer) refl,
         shows_same sealed (Own own) (Some new) (subst (λ (s : SessionState). Shows sealed (Own own) (Some s)) (sym same) (whole_file base old whole among linked kept refl refl)),
       ))
 
@@ -104,5 +104,5 @@ draw_goes key k old new result host random random' seated whole goes = by_case g
         subst (λ (r : Result (List ℕ) WordsFault). SeatGoes key false (lines.Draw k) (Ok (draw_result r)) (Some old) (Some new) host host random random') (sym said)
         (goes_on key false (lines.Draw k) replies.WordsFault old host host random random' (aside_none old.name host) [] fewer.words false true
         (record { told = told_none host host refl; taken = fewer.told; on_host = refl; on_words = fewer.once }) refl refl new
-        (whole_turns key false (lines.Draw k) (seen_by [] fewer.words false true) replies.WordsFault old (Some new) [] whole (lost_turns key k old whole new fewer.words none same)) books
+        (whole_turns key false (lines.Draw k) (seen_by [] fewer.words false true) replies.WordsFault old (Some new) [] whole (lost_turns key k old whole new fewer.words fewer.fewer none same)) books
         (subst (λ (s : SessionState). IsSeated key s) (sym same) seated) (ap (λ (s : SessionState). s.name) same))

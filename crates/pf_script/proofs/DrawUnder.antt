@@ -1,5 +1,5 @@
 -- The line `draw` under a book and over files, from the contract of a drawing.
-use Rattle.std.proofs.Common.{◌≡◌, inl, Bool, true, false, List, [], ◌∷◌, ◌++◌, ℕ, refl, sym, ap, subst, Option, Some, None, Result}
+use Rattle.std.proofs.Common.{◌≡◌, inl, Bool, true, false, List, [], ◌∷◌, ◌++◌, length, ℕ, ◌<◌, refl, sym, ap, subst, Option, Some, None, Result}
 use Rattle.node_tree.specs.Sheet.{Sheet}
 use Rattle.pf_io.specs.Disk.{reading}
 use Rattle.pf_io.specs.Host.{HostState, Both, OnDisk}
@@ -78,9 +78,9 @@ module _ (key : List ℕ) (k : ℕ) (old : SessionState) (seated : IsSeated key 
       → SeatTurn standing key false (Own (seat_on base old)) (lines.Draw k) (seen_by [] (first ∷ second ∷ []) false false) (replies.Drawn (first ++ second)) [] (Own (record (seat_on base old) { drawn = Some (first ++ second) }))
   now_drawn first second none standing base = accepted (passes base) (record { host = refl; random = refl }) (draws_now k (seat_on base old) first second none refl)
 
-  lost : (words : List (List ℕ)) → old.drawn ≡ None → (standing : Standing) (base : Sheet)
+  lost : (words : List (List ℕ)) → length words < 2 → old.drawn ≡ None → (standing : Standing) (base : Sheet)
       → SeatTurn standing key false (Own (seat_on base old)) (lines.Draw k) (seen_by [] words false true) replies.WordsFault [] (Own (record (seat_on base old) { drawn = old.drawn }))
-  lost words none standing base = words_failed (passes base) (record { host = refl; random = refl }) (no_nonce k (seat_on base old) none) refl
+  lost words fewer none standing base = words_failed (passes base) (record { host = refl; random = refl }) (no_nonce k (seat_on base old) none fewer) refl
 
   by_case : DrawGoes result old new random random' → SeatAgrees key false (lines.Draw k) (draw_result result) (Some old) (Some new) host host random random'
   by_case (drawn_before nonce was same words said) =
@@ -105,8 +105,8 @@ module _ (key : List ℕ) (k : ℕ) (old : SessionState) (seated : IsSeated key 
       (record {
         seen = seen_by [] fewer.words false true;
         was_seen = record { answers = told_none host host refl; words = fewer.told; of_host = refl; of_words = fewer.once };
-        under = drawn_under fewer.words true replies.WordsFault old.drawn same (lost fewer.words none) tt;
-        over = drawn_over fewer.words true replies.WordsFault old.drawn same (lost fewer.words none);
+        under = drawn_under fewer.words true replies.WordsFault old.drawn same (lost fewer.words fewer.fewer none) tt;
+        over = drawn_over fewer.words true replies.WordsFault old.drawn same (lost fewer.words fewer.fewer none);
       })
 
 pub draw_under : (key : List ℕ) (k : ℕ) (old new : SessionState) (result : Result (List ℕ) WordsFault) (host : HostState) (random random' : WordsState) → IsSeated key old → old.broken ≡ false

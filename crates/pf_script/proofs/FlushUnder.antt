@@ -91,7 +91,7 @@ module _ (key : List ℕ) (k : ℕ) (old : SessionState) (seated : IsSeated key 
   line_under seen reply answered known = on_disk key false (lines.Flush k) seen reply old whole (Some new) before after answered keeps aside known
 
   by_end : (result : Result (Unit {0}) FlushFault) → UndamagedFlush result old before → FlushEnds result old new before after random random' → SeatAgrees key false (lines.Flush k) (flush_result result) (Some old) (Some new) before after random random'
-  by_end result undamaged (not_begun words seen same stays said) =
+  by_end result undamaged (not_begun words fewer seen same stays said) =
       subst (λ (r : Result (Unit {0}) FlushFault). SeatAgrees key false (lines.Flush k) (flush_result r) (Some old) (Some new) before after random random') (sym said)
       (record {
         seen = seen_by [] words false true;
@@ -105,7 +105,7 @@ module _ (key : List ℕ) (k : ℕ) (old : SessionState) (seated : IsSeated key 
               shows = subst (λ (s : SessionState). ShowsUnder book seats (Own (seat_on base old)) (Some s)) (sym same) (of_book base old whole on.seated on.kept refl refl);
               spares = λ s has apart. has;
               concerned = none_concerned false (lines.Flush k) (Some old);
-              turn = λ _. words_failed (none_then [] (Own (seat_on base old)) (seat_on base old) refl whole tt) (record { host = refl; random = refl }) (no_flush k (seat_on base old)) refl;
+              turn = λ _. words_failed (none_then [] (Own (seat_on base old)) (seat_on base old) refl whole tt) (record { host = refl; random = refl }) (no_flush k (seat_on base old) fewer) refl;
               idle = tt;
             });
         over = lacked_over key (lines.Flush k) words replies.WordsFault old whole (Some new) before after aside;

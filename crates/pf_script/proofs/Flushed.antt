@@ -1,5 +1,5 @@
 -- What a flush of a session seals, as a seat of a script sees it.
-use Rattle.std.proofs.Common.{◌≡◌, Bool, true, false, List, [], ◌∷◌, ◌++◌, ℕ, ◌*◌, ◌≤◌, refl, ap, subst, None, Result, Ok, Err, length}
+use Rattle.std.proofs.Common.{◌≡◌, Bool, true, false, List, [], ◌∷◌, ◌++◌, ℕ, ◌+◌, ◌*◌, ◌<◌, ◌≤◌, refl, ap, subst, None, Result, Ok, Err, length}
 use Rattle.std.proofs.lemmas.List.FromFn.{length-map-range_with_len}
 use Rattle.std.proofs.lemmas.List.Elements.{Contains-push}
 use Rattle.node_layout.specs.Places.{node_count}
@@ -18,7 +18,7 @@ use Rattle.pf_io.proofs.Telling.{told_none}
 use Rattle.pf_session.specs.Asking.{faults_after, kind_of, IsTaken as AreTaken}
 use Rattle.pf_session.specs.Backing.{IsBacked, StandsOn}
 use Rattle.pf_session.specs.Copying.{copied}
-use Rattle.pf_session.specs.Drawing.{WordsCame}
+use Rattle.pf_session.specs.Drawing.{WordsCame, nonce_words}
 use Rattle.pf_session.specs.Flushing.{Seals as SealsNext, FlushShort, FlushGoes, no_words, had_words, SealGoes, node_short, call_failed, flushed}
 use Rattle.pf_session.specs.Sealing.{Replaces, StandsNext}
 use Rattle.pf_session.specs.State.{SessionState}
@@ -79,9 +79,13 @@ SealsWith old words P = (base : Sheet) → IsLinked base → IsBacked base old �
 abbrev pub SealsOwn : SessionState → List (List ℕ) → (Sheet → Type 0) → Type 0
 SealsOwn old words P = SealsWith old words (λ base next. P next)
 
+-- fewer words than a flush of the session takes
+abbrev pub TooFewToFlush : SessionState → List (List ℕ) → Type 0
+TooFewToFlush old words = length words < nonce_words old.drawn + length old.tree.dirty
+
 -- how a flush ended, with what it left on the disk
 pub data FlushEnds (result : Result (Unit {0}) FlushFault) (old new : SessionState) (before after : HostState) (random random' : WordsState) : Type 0 where
-  not_begun : (words : List (List ℕ)) → SeenOf [] words false true before after random random' → new ≡ old → after ≡ before → result ≡ Err faults.Words → FlushEnds result old new before after random random'
+  not_begun : (words : List (List ℕ)) → TooFewToFlush old words → SeenOf [] words false true before after random random' → new ≡ old → after ≡ before → result ≡ Err faults.Words → FlushEnds result old new before after random random'
   not_ended : (blame : Blame) (these : List Answer) (words : List (List ℕ)) → SeenOf these words (host_blamed blame) false before after random random' → BlamesFlush old.name these blame
       → SealsWith old words (λ base next. Replaces false old.key old.name base next before after) → new.key ≡ old.key → new.name ≡ old.name → new.broken ≡ true → result ≡ Err (fault_of blame) → FlushEnds result old new before after random random'
   was_ended : (these : List Answer) (words : List (List ℕ)) → SeenOf these words false false before after random random' → SealsWith old words (λ base next. StandsOn next new × Replaces true old.key old.name base next before after × StandsNext old.key old.name base next before after) → {nonce : List ℕ} {tree : TreeState}
@@ -89,7 +93,7 @@ pub data FlushEnds (result : Result (Unit {0}) FlushFault) (old new : SessionSta
 
 -- how a flush ended: no word came; or it sealed and failed; or it sealed
 pub data FlushCase (result : Result (Unit {0}) FlushFault) (old new : SessionState) (before after : HostState) (random random' : WordsState) : Type 0 where
-  lacked : (words : List (List ℕ)) → SeenOf [] words false true before after random random' → new ≡ old → after ≡ before → result ≡ Err faults.Words → FlushCase result old new before after random random'
+  lacked : (words : List (List ℕ)) → TooFewToFlush old words → SeenOf [] words false true before after random random' → new ≡ old → after ≡ before → result ≡ Err faults.Words → FlushCase result old new before after random random'
   failed : (blame : Blame) (these : List Answer) (words : List (List ℕ)) → SeenOf these words (host_blamed blame) false before after random random' → BlamesFlush old.name these blame → SealsOwn old words (λ next. Unit {0})
       → new.key ≡ old.key → new.name ≡ old.name → new.broken ≡ true → result ≡ Err (fault_of blame) → FlushCase result old new before after random random'
   done : (these : List Answer) (words : List (List ℕ)) → SeenOf these words false false before after random random' → SealsOwn old words (λ next. StandsOn next new) → {nonce : List ℕ} {tree : TreeState}
@@ -141,7 +145,7 @@ module _ (old : SessionState) (mine : IsOfScript old) (new : SessionState) (befo
 
   pub flush_ends : (result : Result (Unit {0}) FlushFault) → FlushGoes result old new before after random random' → FlushEnds result old new before after random random'
   flush_ends result (no_words fewer same stays said) =
-      not_begun fewer.words
+      not_begun fewer.words fewer.fewer
       (record {
         told = told_none before after (ap (λ (h : HostState). h.given) stays);
         taken = fewer.told;
@@ -155,7 +159,7 @@ module _ (old : SessionState) (mine : IsOfScript old) (new : SessionState) (befo
   flush_case result goes = by_end (flush_ends result goes)
     where
       by_end : FlushEnds result old new before after random random' → FlushCase result old new before after random random'
-      by_end (not_begun words seen same stays said) = lacked words seen same stays said
+      by_end (not_begun words fewer seen same stays said) = lacked words fewer seen same stays said
       by_end (not_ended blame these words seen blames seals key_is name_is broken said) =
           failed blame these words seen blames (λ base linked backed. let on = seals base linked backed in (on.0, on.1, tt)) key_is name_is broken said
       by_end (was_ended these words seen seals same dirty said) = done these words seen (λ base linked backed. let on = seals base linked backed in (on.0, on.1, on.2.0)) same dirty said

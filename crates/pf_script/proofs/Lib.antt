@@ -17,7 +17,6 @@ pub mod Opened
 pub mod Deeds
 pub mod Moving
 pub mod Composing
-pub mod FilesLeft
 pub mod SparesAll
 pub mod Starting
 pub mod Seats

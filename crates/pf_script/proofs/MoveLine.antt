@@ -1,5 +1,5 @@
 -- The line `move`, from the contract of a move.
-use Rattle.std.proofs.Common.{◌≡◌, ◌⊎◌, inl, inr, Bool, true, false, List, [], ◌∷◌, ◌++◌, ℕ, ◌*◌, refl, sym, ◌∙◌, ap, subst, Option, Some, None, Result, Ok, Err}
+use Rattle.std.proofs.Common.{◌≡◌, ◌⊎◌, inl, inr, Bool, true, false, cond, List, [], ◌∷◌, ◌++◌, length, ℕ, ◌+◌, ◌*◌, ◌<◌, refl, sym, ◌∙◌, ap, subst, Option, Some, None, Result, Ok, Err}
 use Rattle.std.specs.Prelude.{Contains}
 use Rattle.std.proofs.lemmas.List.{append_assoc}
 use Rattle.std.proofs.lemmas.List.Elements.{Contains-push, Contains-append_right}
@@ -19,7 +19,7 @@ use Rattle.pf_session.specs.Copying.{clean_below, copied}
 use Rattle.pf_session.specs.Drawing.{IsDrawn}
 use Rattle.pf_session.specs.Flushing.{SealGoes}
 use Rattle.pf_session.specs.Making.{ReplaceShort}
-use Rattle.pf_session.specs.Moving.{IsKeptOn, FlushesFirst, as_it_is, flushed, FlushFails, IsFree, CarryGoes, Moves, MovesOn, MoveGoes, misnamed, no_memory, look_up_failed, was_there, no_words, not_flushed, not_moved, moved, renamed as renamed_session}
+use Rattle.pf_session.specs.Moving.{IsKeptOn, FlushesFirst, as_it_is, flushed, FlushFails, IsFree, flush_words, CarryGoes, Moves, MovesOn, MoveGoes, misnamed, no_memory, look_up_failed, was_there, no_words, not_flushed, not_moved, moved, renamed as renamed_session}
 use Rattle.pf_session.specs.State.{SessionState}
 use Rattle.pf_session.specs.declared.fault.FlushFault.{FlushFault}
 use Rattle.pf_session.specs.declared.fault.FlushFault.TheVariants as faults
@@ -51,7 +51,7 @@ use Rattle.pf_script.proofs.Showing.{shows_some}
 use Rattle.pf_script.proofs.Sparing.{spares_both}
 use Rattle.pf_script.proofs.WriteLine.{nothing_goes}
 use Rattle.pf_script.specs.Script.{OwnSeat, Own, Seat, sheet_of, sheets_of}
-use Rattle.pf_script.specs.SeatSteps.{SealsMoved, renamed, broken_seat}
+use Rattle.pf_script.specs.SeatSteps.{SealsMoved, renamed, broken_seat, words_of_flush, words_of_move}
 use Rattle.pf_script.specs.Turns.{FlushedToMove, as_it_was, was_changed, IsShort, Blame, ByHost, ByDamage, BlamesFlush, SeatTurn, Fails, refused, accepted, host_failed, was_damaged, words_failed, moved as moved_on, not_looked_up, not_flushed_to_move, not_moved as not_carried, no_move, flushes, on_carried}
 use Rattle.pf_script.proofs.FlushLine.{resealed_own}
 use Rattle.pf_script.proofs.Flushed.{SeenOf, counted_kind, host_blamed, fault_of, seal_ends, FlushEnds, not_begun, not_ended, was_ended}
@@ -86,7 +86,7 @@ pub record FlushedFirst (old mid : SessionState) (nonce : List ℕ) (start betwe
 
 module _ (old : SessionState) (mine : IsOfScript old) (whole : old.broken ≡ false) (undirty : old.changed ≡ false → old.tree.dirty ≡ []) (mid : SessionState) (nonce : List ℕ) (start between : HostState) (random random' : WordsState) where
   ended_first : (keys : List (List ℕ)) (middle : WordsState) → old.changed ≡ true → IsDrawn nonce middle random' → FlushEnds (Ok tt) old mid start between random middle → FlushedFirst old mid nonce start between random random'
-  ended_first keys middle was drawn (not_begun words seen same stays said) = absurd (cc)
+  ended_first keys middle was drawn (not_begun words fewer seen same stays said) = absurd (cc)
   ended_first keys middle was drawn (not_ended blame these words seen blames seals key_is name_is broken said) = absurd (cc)
   ended_first keys middle was drawn (was_ended these words seen seals same dirty said) = record {
     these = these;
@@ -195,6 +195,14 @@ blamed_reply (ByDamage damage) = refl
 abbrev pub fault_result : FlushFault → Result (Unit {0}) FlushFault
 fault_result fault = Err fault
 
+-- the words of a move, as its seat counts them
+pub too_few_to_move : (base : Sheet) (old : SessionState) (words : List (List ℕ)) → length words < flush_words old.changed old + 2 → length words < words_of_move (seat_on base old)
+too_few_to_move base old words fewer = subst (λ (n : ℕ). length words < n + 2) (by_change old.changed) fewer
+  where
+    by_change : (b : Bool) → flush_words b old ≡ cond b (words_of_flush (seat_on base old)) 0
+    by_change true = refl
+    by_change false = refl
+
 -- a flush that had its words did not want any
 pub never_lacks : (fault : FlushFault) (sealed : List ℕ) (keys : List (List ℕ)) (old new : SessionState) (before after : HostState) → SealGoes (Err fault) sealed keys old new before after → fault_result fault ≡ fault_result faults.Words → ⊥
 never_lacks fault sealed keys old new before after (node_short damage named short seals same said) is = absurd (cc)
@@ -285,7 +293,7 @@ module _ (key : List ℕ) (k : ℕ) (to : Name) (old : SessionState) (seated : I
     -- it was not flushed
     unflushed : (start : HostState) (fault : FlushFault) → IsFree to before start → (fails : FlushFails fault old new start after random random') → FlushEnds (Err fault) old new start after random fails.between
         → SeatGoes key false line (move_reply (Err (move_of_flush fault))) (Some old) (Some new) before after random random'
-    unflushed start fault free fails (not_begun words seen same stays said) = absurd (never_lacks fault fails.sealed fails.keys old new start after fails.goes said)
+    unflushed start fault free fails (not_begun words fewer seen same stays said) = absurd (never_lacks fault fails.sealed fails.keys old new start after fails.goes said)
     unflushed start fault free fails (was_ended these words seen seals same dirty said) = absurd (cc)
     unflushed start fault free fails (not_ended blame these words seen blames seals key_is name_is broken said) =
         let first = fails.drawn.first in
@@ -412,7 +420,7 @@ module _ (key : List ℕ) (k : ℕ) (to : Name) (old : SessionState) (seated : I
         subst (λ (x : Result (Unit {0}) MoveFault). SeatGoes key false line (move_reply x) (Some old) (Some new) before after random random') (sym said)
         (as_before replies.WordsFault (looked None ∷ []) fewer.words false true
         (record { told = free.looks.asked.asked.told; taken = fewer.told; on_host = free.looks.asked.asked.faults; on_words = fewer.once })
-        refl refl same (λ sealed base. words_failed (move_passes free.is_target base []) (record { host = refl; random = refl }) (no_move k to (seat_on base old)) refl))
+        refl refl same (λ sealed base. words_failed (move_passes free.is_target base []) (record { host = refl; random = refl }) (no_move k to (seat_on base old) (too_few_to_move base old fewer.words fewer.fewer)) refl))
     move_cases result (not_flushed start fault free fails said) =
         subst (λ (x : Result (Unit {0}) MoveFault). SeatGoes key false line (move_reply x) (Some old) (Some new) before after random random') (sym said)
         (unflushed start fault free fails (seal_ends old seated.of_script new start after random fails.between (Err fault) fails.sealed fails.keys fails.came fails.goes))

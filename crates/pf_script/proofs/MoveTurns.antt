@@ -1,6 +1,6 @@
 -- The line `move` under a book: how it ends.
 use Rattle.std.proofs.Common.{◌≡◌, ◌≢◌, ◌⊎◌, inl, inr, Bool, true, false, List, [], ◌∷◌, ◌++◌, ℕ, refl, sym, ◌∙◌, ap, subst, Option, Some, None, Result, Err}
-use Rattle.std.specs.Prelude.{Contains, is_some}
+use Rattle.std.specs.Prelude.{Contains}
 use Rattle.node_tree.specs.Sheet.{Sheet}
 use Rattle.pf_io.specs.Disk.{Name, Disk, File, IsImage, reading, read_of}
 use Rattle.pf_io.specs.Host.{Answer, LengthWas, HostState, Both, IsMore, OnDisk, ReadsAsImage}
@@ -23,7 +23,7 @@ use Rattle.pf_script.specs.Book.{Book, Entry, Seal, Agrees}
 use Rattle.pf_script.specs.BookActs.{Flush, Move, Act}
 use Rattle.pf_script.specs.BookDebts.{Unchanged, DidAll, seat_of}
 use Rattle.pf_script.specs.BookSeats.{Covers, KeepsUnder}
-use Rattle.pf_script.specs.BookTurns.{SeenIn, ShowsUnder, of_book, other_file, SeatUnder, SeatAgrees, SeatBooked}
+use Rattle.pf_script.specs.BookTurns.{SeenIn, of_book, other_file, SeatUnder, SeatAgrees, SeatBooked}
 use Rattle.pf_script.specs.Desk.{IsSeated, seat_on}
 use Rattle.pf_script.specs.DeskSteps.{CountsFault, Concerns}
 use Rattle.pf_script.specs.FileTurns.{stands_on, answers_of, seen_over, SeatFiles}
@@ -42,7 +42,7 @@ use Rattle.pf_script.proofs.CallKeeping.{at_both, both_with, on_to, read_image}
 use Rattle.pf_script.proofs.Composing.{did_on}
 use Rattle.pf_script.proofs.Flushed.{FlushEnds, not_begun, not_ended, was_ended, seal_ends, host_blamed, fault_of}
 use Rattle.pf_script.proofs.FlushLine.{flush_act}
-use Rattle.pf_script.proofs.MoveLine.{move_rules, not_busy, move_passes, move_unasked, never_lacks, blamed_reply, short_more, taken_then, CarryBlamed, carry_blamed}
+use Rattle.pf_script.proofs.MoveLine.{move_rules, not_busy, move_passes, move_unasked, never_lacks, too_few_to_move, blamed_reply, short_more, taken_then, CarryBlamed, carry_blamed}
 use Rattle.pf_script.proofs.MoveOver.{looked_answers, not_calm, first_over, moved_files, moved_shows}
 use Rattle.pf_script.proofs.OverFiles.{reopens_stands, files_from, KnownOver, own_over, still_over}
 use Rattle.pf_script.proofs.OverGiven.{same_over, same_files}
@@ -154,7 +154,7 @@ module _ (key : List ℕ) (k : ℕ) (to : Name) (old : SessionState) (seated : I
     -- it was not flushed
     unflushed : (start : HostState) (fault : FlushFault) → IsFree to before start → (fails : FlushFails fault old new start after random random') → FlushEnds (Err fault) old new start after random fails.between → UndamagedMove (Err (move_of_flush fault)) old before
         → SeatBooked key false line (move_reply (Err (move_of_flush fault))) (Some old) (Some new) before after random random'
-    unflushed start fault free fails (not_begun words seen same stays said) undamaged = absurd (never_lacks fault fails.sealed fails.keys old new start after fails.goes said)
+    unflushed start fault free fails (not_begun words fewer seen same stays said) undamaged = absurd (never_lacks fault fails.sealed fails.keys old new start after fails.goes said)
     unflushed start fault free fails (was_ended these words seen seals same dirty said) undamaged = absurd (cc)
     unflushed start fault free fails (not_ended blame these words seen blames seals key_is name_is broken said) undamaged =
         let first = fails.drawn.first in
@@ -177,7 +177,6 @@ module _ (key : List ℕ) (k : ℕ) (to : Name) (old : SessionState) (seated : I
               let m = on_to Unchanged before.honest start.honest a is_a free.looks.disk in
               let next = seals base on.stood.as_sheet.stands.linked on.kept.backed in
               let own = seat_on base old in
-              let stood_m = subst (λ (d : Disk). Stood old.key old.name base d) (sym m.2.ends) on.stood in
               let acts : List Act = flush_act old next.0 false ∷ [] in record {
                 acts = acts;
                 left = seats_after (Flush (seat_of old.key old.name next.0)) false seats;
@@ -369,7 +368,7 @@ module _ (key : List ℕ) (k : ℕ) (to : Name) (old : SessionState) (seated : I
     by_case result undamaged (no_words free fewer same said) =
         subst (λ (r : Result (Unit {0}) MoveFault). SeatBooked key false line (move_reply r) (Some old) (Some new) before after random random') (sym said)
         (idle replies.WordsFault (LengthWas to None ∷ []) fewer.words false true same free.looks.disk free.looks.asked.asked.told fewer.told free.looks.asked.asked.faults fewer.once
-        (λ standing base. words_failed (move_passes key k to old seated whole free.is_target base []) (record { host = refl; random = refl }) (no_move k to (seat_on base old)) refl) (λ base a is calm. absurd (false_true true refl calm.random)))
+        (λ standing base. words_failed (move_passes key k to old seated whole free.is_target base []) (record { host = refl; random = refl }) (no_move k to (seat_on base old) (too_few_to_move base old fewer.words fewer.fewer)) refl) (λ base a is calm. absurd (false_true true refl calm.random)))
     by_case result undamaged (not_flushed start fault free fails said) =
         subst (λ (r : Result (Unit {0}) MoveFault). SeatBooked key false line (move_reply r) (Some old) (Some new) before after random random') (sym said)
         (unflushed start fault free fails (seal_ends old seated.of_script new start after random fails.between (Err fault) fails.sealed fails.keys fails.came fails.goes) (subst (λ (r : Result (Unit {0}) MoveFault). UndamagedMove r old before) said undamaged))

@@ -92,7 +92,7 @@ module _ (key : List ℕ) (old : SessionState) (seated : IsSeated key old) (whol
   first_in mid nonce start between random random' (flushed sealed keys words_mid changed came drawn goes aside reads) = by_end (seal_ends old seated.of_script mid start between random words_mid (Ok tt) sealed keys came goes)
     where
       by_end : FlushEnds (Ok tt) old mid start between random words_mid → FirstIn mid nonce start between random random'
-      by_end (not_begun words seen same stays said) = absurd (cc)
+      by_end (not_begun words fewer seen same stays said) = absurd (cc)
       by_end (not_ended blame these words seen blames seals key_is name_is broken said) = absurd (cc)
       by_end (was_ended these words seen seals same dirty said) = record {
         these = these;

@@ -8,7 +8,6 @@ use Rattle.std.specs.Str.{IsUtf8}
 use Rattle.node_layout.specs.declared.damage.Damage.{Damage}
 use Rattle.node_layout.specs.declared.damage.Kind.TheVariants as kinds
 use Rattle.node_layout.specs.declared.metadata.MetaSecret.{MetaSecret}
-use Rattle.node_layout.specs.declared.metadata.PlainFault.TheVariants.{BadVersion}
 use Rattle.node_tree.specs.Backing.{now}
 use Rattle.node_tree.specs.Sheet.{Sheet}
 use Rattle.node_tree.specs.Unforged.{Unforged}

@@ -1,7 +1,6 @@
 -- A line in which nothing failed has the same turn by the answers of the files.
-use Rattle.std.proofs.Common.{◌≡◌, inl, inr, Bool, true, false, List, [], ◌∷◌, ◌++◌, ℕ, refl, sym, ◌∙◌, ap, subst, Option, Some, arith}
+use Rattle.std.proofs.Common.{◌≡◌, inl, inr, Bool, true, false, List, [], ◌∷◌, ◌++◌, ℕ, ap, subst, Option, Some, arith}
 use Rattle.std.specs.Prelude.{Contains, IfSome, option_map}
-use Rattle.node_layout.specs.declared.damage.Damage.{Damage}
 use Rattle.pf_io.specs.Disk.{Name, Disk, Files, reading}
 use Rattle.pf_io.specs.Host.{Answer, LengthWas, Gave}
 use Rattle.pf_io.specs.Moments.{Honest}
@@ -9,30 +8,16 @@ use Rattle.pf_session.specs.Carries.{IsLast}
 use Rattle.pf_script.specs.BookActs.{Act}
 use Rattle.pf_script.specs.BookDebts.{Unchanged}
 use Rattle.pf_script.specs.FileTurns.{stands_on, answers_of, seen_over, FilesAfter, SeatOver}
-use Rattle.pf_script.specs.Rules.{IsFirst, NoneRefuses, rules}
+use Rattle.pf_script.specs.Rules.{IsFirst, rules}
 use Rattle.pf_script.specs.Script.{Seat}
-use Rattle.pf_script.specs.Turns.{Seen, Failed, Accepts, created, opened, read, changed, flushed, moved, drawn_again, drawn_now, let_go, flushed_last, SeatTurn, refused, accepted, host_failed, was_damaged, words_failed}
+use Rattle.pf_script.specs.Turns.{Failed, SeatTurn}
 use Rattle.pf_script.specs.declared.line.ScriptLine.{ScriptLine}
 use Rattle.pf_script.specs.declared.line.ScriptLine.TheVariants as lines
 use Rattle.pf_script.specs.declared.reply.Reply.{Reply}
-use Rattle.pf_script.specs.declared.reply.Reply.TheVariants as replies
 use Rattle.pf_script.specs.declared.reply.Why.{Why}
 
 not_both : true ≡ false → ⊥
 not_both same = absurd (cc)
-
--- what is accepted looks at no answer where openings stand on files
-pub accepts_over : (key : List ℕ) (files : Files) (seen : Seen) (these : List Answer) (shown : Seat) (line : ScriptLine) (reply : Reply) (acts : List Act) (after : Seat) → Accepts (stands_on key files) key seen shown line reply acts after → Accepts (stands_on key files) key (record { given = these; words = seen.words; host_failed = false; words_failed = false }) shown line reply acts after
-accepts_over key files seen these shown line reply acts after (created k name sheet seals) = created k name sheet seals
-accepts_over key files seen these shown line reply acts after (opened k name sheet stands path none) = opened k name sheet stands path none
-accepts_over key files seen these shown line reply acts after (read k at count own none) = read k at count own none
-accepts_over key files seen these shown line reply acts after (changed own then of_line said steps sheets asks makes replies) = changed own then of_line said steps sheets asks makes replies
-accepts_over key files seen these shown line reply acts after (flushed k own sheet seals) = flushed k own sheet seals
-accepts_over key files seen these shown line reply acts after (moved k name own mid words more sheets sheet flushed_first seals are) = moved k name own mid words more sheets sheet flushed_first seals are
-accepts_over key files seen these shown line reply acts after (drawn_again k own nonce has none) = drawn_again k own nonce has none
-accepts_over key files seen these shown line reply acts after (drawn_now k own first second none are) = drawn_now k own first second none are
-accepts_over key files seen these shown line reply acts after (let_go k own calm none) = let_go k own calm none
-accepts_over key files seen these shown line reply acts after (flushed_last k own sheet is whole seals) = flushed_last k own sheet is whole seals
 
 pub none_contained : {answer : Answer} → Contains [] answer → ⊥
 none_contained is = absurd (omega (arith, is.1))
@@ -53,74 +38,6 @@ no_host_fault calm = not_both calm.host
 
 pub no_words_fault : {given : List Answer} {words : List (List ℕ)} {of_host : Bool} → Failed (record { given = given; words = words; host_failed = of_host; words_failed = true }) false false → ⊥
 no_words_fault calm = not_both calm.random
-
-module _ (key : List ℕ) (files : Files) (taken : Bool) (seat : Seat) (line : ScriptLine) (seen : Seen) where
-  abbrev over : Seen
-  over = seen_over files line seen.words
-
-  -- by rules that say the same of the answers of the files, where no node was damaged
-  pub calm_over : (reply : Reply) (acts : List Act) (after : Seat) → SeatTurn (stands_on key files) key taken seat line seen reply acts after → Failed seen false false
-      → ((why : Why) → IsFirst (rules key taken seat line seen.given) why → IsFirst (rules key taken seat line (answers_of files line)) why)
-      → (NoneRefuses (rules key taken seat line seen.given) → NoneRefuses (rules key taken seat line (answers_of files line)))
-      → ((damage : Damage) → reply ≡ replies.DamagedNode damage → ⊥)
-      → SeatTurn (stands_on key files) key taken seat line over reply acts after
-  calm_over reply acts after (refused why first calm none said nothing stays) none_failed same_first same_none undamaged = refused why (same_first why first) (record { host = refl; random = refl }) none said nothing stays
-  calm_over reply acts after (accepted none calm accepts) none_failed same_first same_none undamaged = accepted (same_none none) (record { host = refl; random = refl }) (accepts_over key files seen (answers_of files line) seat line reply acts after accepts)
-  calm_over reply acts after (host_failed free failed fails said) none_failed same_first same_none undamaged = absurd (not_both (sym failed.host ∙ none_failed.host))
-  calm_over reply acts after (was_damaged damage free calm fails said) none_failed same_first same_none undamaged = absurd (undamaged damage said)
-  calm_over reply acts after (words_failed free failed loses said) none_failed same_first same_none undamaged = absurd (not_both (sym failed.random ∙ none_failed.random))
-
--- lines whose rules look at no answer
-abbrev pub AsksNone : ScriptLine → Type 0
-AsksNone lines.Blank = Unit {0}
-AsksNone (lines.Create k name) = ⊥
-AsksNone (lines.Open k name) = ⊥
-AsksNone (lines.View k path) = Unit {0}
-AsksNone (lines.Read k at count) = Unit {0}
-AsksNone (lines.Write k at bytes) = Unit {0}
-AsksNone (lines.Fill k at count byte) = Unit {0}
-AsksNone (lines.Size k size) = Unit {0}
-AsksNone (lines.Flush k) = Unit {0}
-AsksNone (lines.Move k name) = ⊥
-AsksNone (lines.Draw k) = Unit {0}
-AsksNone (lines.Close k) = Unit {0}
-
-same_first : (key : List ℕ) (taken : Bool) (seat : Seat) (line : ScriptLine) (given these : List Answer) (why : Why) → AsksNone line → IsFirst (rules key taken seat line given) why → IsFirst (rules key taken seat line these) why
-same_first key taken seat lines.Blank given these why none first = first
-same_first key taken seat (lines.Create k name) given these why none first = absurd none
-same_first key taken seat (lines.Open k name) given these why none first = absurd none
-same_first key taken seat (lines.View k path) given these why none first = first
-same_first key taken seat (lines.Read k at count) given these why none first = first
-same_first key taken seat (lines.Write k at bytes) given these why none first = first
-same_first key taken seat (lines.Fill k at count byte) given these why none first = first
-same_first key taken seat (lines.Size k size) given these why none first = first
-same_first key taken seat (lines.Flush k) given these why none first = first
-same_first key taken seat (lines.Move k name) given these why none first = absurd none
-same_first key taken seat (lines.Draw k) given these why none first = first
-same_first key taken seat (lines.Close k) given these why none first = first
-
-same_none : (key : List ℕ) (taken : Bool) (seat : Seat) (line : ScriptLine) (given these : List Answer) → AsksNone line → NoneRefuses (rules key taken seat line given) → NoneRefuses (rules key taken seat line these)
-same_none key taken seat lines.Blank given these asks none = none
-same_none key taken seat (lines.Create k name) given these asks none = absurd asks
-same_none key taken seat (lines.Open k name) given these asks none = absurd asks
-same_none key taken seat (lines.View k path) given these asks none = none
-same_none key taken seat (lines.Read k at count) given these asks none = none
-same_none key taken seat (lines.Write k at bytes) given these asks none = none
-same_none key taken seat (lines.Fill k at count byte) given these asks none = none
-same_none key taken seat (lines.Size k size) given these asks none = none
-same_none key taken seat (lines.Flush k) given these asks none = none
-same_none key taken seat (lines.Move k name) given these asks none = absurd asks
-same_none key taken seat (lines.Draw k) given these asks none = none
-same_none key taken seat (lines.Close k) given these asks none = none
-
--- so of lines whose rules look at no answer
-pub calm_over_same : (key : List ℕ) (files : Files) (taken : Bool) (seat : Seat) (line : ScriptLine) (seen : Seen) (reply : Reply) (acts : List Act) (after : Seat) → AsksNone line
-    → SeatTurn (stands_on key files) key taken seat line seen reply acts after → Failed seen false false → ((damage : Damage) → reply ≡ replies.DamagedNode damage → ⊥)
-    → SeatTurn (stands_on key files) key taken seat line (seen_over files line seen.words) reply acts after
-calm_over_same key files taken seat line seen reply acts after asks turn calm undamaged =
-    calm_over key files taken seat line seen reply acts after turn calm
-    (λ why first. same_first key taken seat line seen.given (answers_of files line) why asks first)
-    (λ none. same_none key taken seat line seen.given (answers_of files line) asks none) undamaged
 
 -- what is refused before anything was asked is refused whatever the answers are
 pub first_unasked : (key : List ℕ) (taken : Bool) (seat : Seat) (line : ScriptLine) (these : List Answer) (why : Why) → IsFirst (rules key taken seat line []) why → IsFirst (rules key taken seat line these) why

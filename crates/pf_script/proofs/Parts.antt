@@ -29,7 +29,6 @@ pub cut_long : (now : ReaderState) (line : List ℕ) (reads : ℕ) (stage : Stag
     → record { line = line; pending = between start end buffer; reads = reads; stage = stage } ≡ now → at < length now.pending
     → record { line = line; pending = between (start + at + 1) end buffer; reads = reads; stage = stage } ≡ record now { pending = drop (at + 1) now.pending }
 cut_long now line reads stage buffer start end at is inside =
-    let before : ReaderState = record { line = line; pending = between start end buffer; reads = reads; stage = stage } in
     let P : ReaderState → Type 0 = λ s. at < length s.pending → record { line = line; pending = between (start + at + 1) end buffer; reads = reads; stage = stage } ≡ record s { pending = drop (at + 1) s.pending } in
     subst P is (λ i. ap (λ (p : List ℕ). record { line = line; pending = p; reads = reads; stage = stage }) (behind_place start end at buffer i)) inside
 

@@ -26,7 +26,7 @@ use Rattle.pf_script.specs.Turns.{Blame, ByHost, ByDamage, SeatTurn, accepted, h
 use Rattle.pf_script.specs.declared.line.ScriptLine.{ScriptLine}
 use Rattle.pf_script.specs.declared.reply.Reply.{Reply}
 use Rattle.pf_script.specs.declared.reply.Reply.TheVariants as replies
-use Rattle.pf_script.proofs.Flushed.{host_blamed, fault_of}
+use Rattle.pf_script.proofs.Flushed.{TooFewToFlush, host_blamed, fault_of}
 use Rattle.pf_script.proofs.FlushLine.{resealed_own}
 use Rattle.pf_script.proofs.SeatCalls.{seen_by, false_true}
 use Rattle.pf_script.proofs.StepFacts.{given_part}
@@ -107,10 +107,10 @@ module _ (key : List ℕ) (sealed : List Sheet) (own : OwnSeat) (line : ScriptLi
       )
 
       -- no word came for the flush before
-      pub no_word : ((these : List Answer) → NoneRefuses (rules key false (Own own) line these)) → (lost : List (List ℕ)) → FlushesFirst (length (now base old.tree)) old.tree.dirty step → new ≡ old → LineEnds (words ++ lost) false true replies.WordsFault new (flushes own sheets)
-      no_word passes lost first same = (
+      pub no_word : ((these : List Answer) → NoneRefuses (rules key false (Own own) line these)) → (lost : List (List ℕ)) → FlushesFirst (length (now base old.tree)) old.tree.dirty step → TooFewToFlush old lost → new ≡ old → LineEnds (words ++ lost) false true replies.WordsFault new (flushes own sheets)
+      no_word passes lost first fewer same = (
         Own (seat_on base old),
-        words_failed (passes given) (record { host = refl; random = refl }) (no_flush_before own (seat_on base old) line step words lost sheets some first refl) refl,
+        words_failed (passes given) (record { host = refl; random = refl }) (no_flush_before own (seat_on base old) line step words lost sheets some first refl fewer) refl,
         subst (λ (s : SessionState). Shows (sealed ++ sheets_of (flushes own sheets)) (Own (seat_on base old)) (Some s)) (sym same)
             (whole_file base old was.whole (subst (λ (s : List Sheet). Contains (sealed ++ s) base) (sym (sheets_flushed own sheets)) was.among) was.linked was.kept refl refl),
       )

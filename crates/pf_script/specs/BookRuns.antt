@@ -2,7 +2,7 @@
 use Rattle.std.specs.Prelude.{◌≡◌, ◌⊎◌, ℕ, false, List, [], ◌∷◌, Contains, Some, IsSome}
 use Rattle.pf_io.specs.Disk.{Name, reading}
 use Rattle.pf_io.specs.Moments.{Honest, LeavesOnly, Ran}
-use Rattle.pf_script.specs.Book.{Book, Seal, ImageFits, Agrees}
+use Rattle.pf_script.specs.Book.{Book, Seal, Agrees}
 use Rattle.pf_script.specs.BookActs.{Act, booked_all, FitsDuring}
 use Rattle.pf_script.specs.BookDebts.{seat_of, AreApart, LeavesOthers, KeepsOthers}
 use Rattle.pf_script.specs.BookTurns.{KnowsLine, OnItsSeat}

@@ -1,5 +1,5 @@
 -- Steps on the content of a seat, and the sheets that the seat seals.
-use Rattle.std.specs.Prelude.{◌≡◌, ◌≢◌, ◌⊎◌, ◌↔◌, ℕ, ◌+◌, ◌^◌, ◌<◌, ◌≤◌, true, false, List, [], ◌∷◌, ◌++◌, length, replicate, slice_index, slice_index_or, Contains, None}
+use Rattle.std.specs.Prelude.{◌≡◌, ◌≢◌, ◌⊎◌, ◌↔◌, ℕ, ◌+◌, ◌^◌, ◌<◌, ◌≤◌, true, false, cond, List, [], ◌∷◌, ◌++◌, length, replicate, slice_index, slice_index_or, Contains, None}
 use Rattle.std.specs.List.Sorted.{IsStrictlyIncreasing}
 use Rattle.node_layout.specs.Entries.{entry_at}
 use Rattle.node_layout.specs.Places.{mht_place, node_count, parent_of, slot_of}
@@ -10,7 +10,7 @@ use Rattle.node_tree.specs.Sheet.{Node, Sheet, HasNode, IsLinked}
 use Rattle.node_tree.specs.State.{MOST_DIRTY, NO_ENTRY}
 use Rattle.pf_io.specs.Disk.{Name}
 use Rattle.pf_session.specs.Creating.{empty_sheet}
-use Rattle.pf_session.specs.Drawing.{IsNonce}
+use Rattle.pf_session.specs.Drawing.{IsNonce, nonce_words}
 use Rattle.pf_script.specs.Script.{OwnSeat}
 use Rattle.pf_script.specs.declared.line.ScriptLine.{ScriptLine}
 use Rattle.pf_script.specs.declared.line.ScriptLine.TheVariants as lines
@@ -63,6 +63,13 @@ pub record Seals (own : OwnSeat) (words : List (List ℕ)) (sheet : Sheet) : Typ
   pub are_keys : AreKeys (length own.dirty) keys
   pub words_are : words ≡ of_nonce ++ keys
   pub next : IsNextSheet own.sheet own.name nonce own.content own.dirty keys sheet
+
+-- how many words a flush of the seat takes, and a move to another name, which flushes changes first
+abbrev pub words_of_flush : OwnSeat → ℕ
+words_of_flush own = nonce_words own.drawn + length own.dirty
+
+abbrev pub words_of_move : OwnSeat → ℕ
+words_of_move own = cond own.changed (words_of_flush own) 0 + 2
 
 -- the seat on the sheet that it sealed
 abbrev pub resealed : OwnSeat → Sheet → OwnSeat

@@ -16,7 +16,7 @@ use Rattle.pf_script.specs.BookActs.{Opening, Creation, Flush, Move, Act}
 use Rattle.pf_script.specs.BookDebts.{seat_of}
 use Rattle.pf_script.specs.Rules.{IsFirst, NoneRefuses, rules}
 use Rattle.pf_script.specs.Script.{OwnSeat, Seat, Empty, Own, ScriptState, seat_at, IsTaken, state_with, seat_of_line, name_of_line}
-use Rattle.pf_script.specs.SeatSteps.{FlushesFirst, Fits, Seals, resealed, SealsEmpty, SealsMoved, renamed, broken_seat, MakesAll, AsksFor, MadeSome}
+use Rattle.pf_script.specs.SeatSteps.{FlushesFirst, Fits, Seals, resealed, SealsEmpty, SealsMoved, renamed, broken_seat, MakesAll, AsksFor, MadeSome, words_of_flush, words_of_move}
 use Rattle.pf_script.specs.declared.line.ScriptLine.{ScriptLine}
 use Rattle.pf_script.specs.declared.line.ScriptLine.TheVariants as lines
 use Rattle.pf_script.specs.declared.reply.Reply.{Reply}
@@ -155,15 +155,15 @@ pub data Fails (key : List ℕ) (seen : Seen) : Blame → Seat → ScriptLine �
       → BlamesFlush own.name seen.given blame
       → Fails key seen blame (Own own) (lines.Move k name) (flushes own sheets ++ record { deed = Move own.name (seat_of own.key name sheet); done = false } ∷ []) (Own (broken_seat mid))
 
--- A line for which a random word was wanting; those that came are lost. Steps that a `size` line had made stand, and `close` leaves the seat empty.
+-- A line for which a random word was wanting: fewer came than it takes, and those are lost. Steps that a `size` line had made stand, and `close` leaves the seat empty.
 pub data Loses (key : List ℕ) (seen : Seen) : Seat → ScriptLine → List Act → Seat → Type 0 where
-  no_creation : (k : ℕ) (name : Name) → Loses key seen Empty (lines.Create k name) [] Empty
-  no_flush : (k : ℕ) (own : OwnSeat) → Loses key seen (Own own) (lines.Flush k) [] (Own own)
-  no_move : (k : ℕ) (name : Name) (own : OwnSeat) → Loses key seen (Own own) (lines.Move k name) [] (Own own)
-  no_nonce : (k : ℕ) (own : OwnSeat) → own.drawn ≡ None → Loses key seen (Own own) (lines.Draw k) [] (Own own)
-  no_last_flush : (k : ℕ) (own : OwnSeat) → own.changed ≡ true → own.broken ≡ false → Loses key seen (Own own) (lines.Close k) [] Empty
+  no_creation : (k : ℕ) (name : Name) → length seen.words < 2 → Loses key seen Empty (lines.Create k name) [] Empty
+  no_flush : (k : ℕ) (own : OwnSeat) → length seen.words < words_of_flush own → Loses key seen (Own own) (lines.Flush k) [] (Own own)
+  no_move : (k : ℕ) (name : Name) (own : OwnSeat) → length seen.words < words_of_move own → Loses key seen (Own own) (lines.Move k name) [] (Own own)
+  no_nonce : (k : ℕ) (own : OwnSeat) → own.drawn ≡ None → length seen.words < 2 → Loses key seen (Own own) (lines.Draw k) [] (Own own)
+  no_last_flush : (k : ℕ) (own : OwnSeat) → own.changed ≡ true → own.broken ≡ false → length seen.words < words_of_flush own → Loses key seen (Own own) (lines.Close k) [] Empty
   no_flush_before : (own mid : OwnSeat) (line : ScriptLine) (next : Step) (words lost : List (List ℕ)) (sheets : List Sheet) → MadeSome line own next words sheets mid → FlushesFirst (length mid.content) mid.dirty next
-      → seen.words ≡ words ++ lost → Loses key seen (Own own) line (flushes own sheets) (Own mid)
+      → seen.words ≡ words ++ lost → length lost < words_of_flush mid → Loses key seen (Own own) line (flushes own sheets) (Own mid)
 
 -- What a line may be answered on its seat, with what was done to names and the seat after it. `taken` says whether another seat has the name that the line gives. A fault of the host comes only
 -- where no rule refuses before the host is asked.
