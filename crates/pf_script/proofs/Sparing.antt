@@ -1,5 +1,5 @@
 -- Names that a step leaves as they were, since they are apart from all that it is concerned with.
-use Rattle.std.proofs.Common.{◌∙◌, ap, subst, Option}
+use Rattle.std.proofs.Common.{◌≡◌, ◌∙◌, ap, subst, Option}
 use Rattle.pf_io.specs.Disk.{Name, File, Disk, IsImage, IsImageAt}
 use Rattle.pf_io.specs.Host.{HostState}
 use Rattle.pf_io.specs.Steps.{Stays}
@@ -36,6 +36,12 @@ module _ (concerned : Name → Type 0) where
   spares_both from to of_old of_new before after aside =
       ran_weaker (LeavesApartBoth from to) (LeavesOthers (ApartFrom concerned)) (KeepsApartBoth from to) (KeepsOthers (ApartFrom concerned)) before.honest after.honest
       (λ d image left other apart. left other (record { of_old = apart from of_old; of_new = apart to of_new })) (λ d e keeps other apart. keeps other (record { of_old = apart from of_old; of_new = apart to of_new })) aside
+
+  -- one step after the other
+  pub spares_then : (before between after : HostState) → Spares concerned before between → Spares concerned between after → Spares concerned before after
+  spares_then before between after first second =
+      goes_on_ran (LeavesOthers (ApartFrom concerned)) (LeavesOthers (ApartFrom concerned)) (KeepsOthers (ApartFrom concerned)) (KeepsOthers (ApartFrom concerned)) (KeepsOthers (ApartFrom concerned)) before.honest between.honest after.honest first second
+      (λ d e keeps image left other apart. subst (λ (o : Option File). IsImageAt o (image other)) (keeps other apart) (left other apart)) (λ d e f one two other apart. two other apart ∙ one other apart)
 
 -- where more names are concerned, fewer are left alone
 pub spares_more : (concerned more : Name → Type 0) → ((name : Name) → concerned name → more name) → (before after : HostState) → Spares concerned before after → Spares more before after
