@@ -128,8 +128,16 @@ stops_wanting starved is_starved line none d0 d1 h0 h1 after r0 r1 book state d 
           leaves = all_leaves book is.seats kept.0 kept.1 d b is.agrees is.image kept.2;
           spares = did_spares book is.seats kept.0 kept.1 d b kept.2;
           agrees = all_agrees book is.seats kept.0 kept.1 d b is.agrees is.image kept.2;
-          none = inr (is_starved, (k, seat.own, seat.is_own, λ name among.
-              ⊎_elim (λ gives. absurd (unnamed line name change.0 gives)) (λ on. seat.alone name (subst (λ (i : ℕ). HasItsName (session_at d0 i) name) (here on.0 on.1) on.2)) (kept.5 name among)));
+          none = inr (
+            is_starved,
+            (
+              k,
+              seat.own,
+              seat.is_own,
+              λ name among.
+                  ⊎_elim (λ gives. absurd (unnamed line name change.0 gives)) (λ on. seat.alone name (subst (λ (i : ℕ). HasItsName (session_at d0 i) name) (here on.0 on.1) on.2)) (kept.5 name among),
+            ),
+          );
         }
 
 -- from empty seats

@@ -1,17 +1,16 @@
 -- What a session keeps of each book with which it may begin.
-use Rattle.std.proofs.Common.{◌≡◌, ◌⊎◌, inl, inr, ℕ, zero, suc, List, [], ◌∷◌, replicate, get_or, refl, sym, ◌∙◌, ap, subst, Option, Some, None, Result, Ok, Err}
+use Rattle.std.proofs.Common.{◌≡◌, inl, inr, ℕ, List, [], refl, sym, ap, subst, Option, Some, None, Result, Ok}
 use Rattle.std.specs.Prelude.{IfSome}
 use Rattle.pf_io.specs.Disk.{Name, Disk, IsImage, reading}
 use Rattle.pf_io.specs.Host.{HostState, Both, OnDisk, ReadsAsImage}
 use Rattle.pf_io.specs.Moments.{Honest}
 use Rattle.pf_io.specs.Unchanged.{KeepsDisk}
-use Rattle.pf_io.specs.declared.faults.Memory.{Memory}
 use Rattle.pf_io.proofs.Telling.{both_weaker}
 use Rattle.pf_script.specs.BookDebts.{Unchanged}
 use Rattle.pf_script.specs.Book.{Book}
 use Rattle.pf_script.specs.BookLaws.{StartsWith, RunKeeps}
 use Rattle.pf_script.specs.BookSeats.{KeepsUnder}
-use Rattle.pf_script.specs.Desk.{DeskState, session_at}
+use Rattle.pf_script.specs.Desk.{DeskState}
 use Rattle.pf_script.specs.DeskSteps.{CoversDesk, EndGoes}
 use Rattle.pf_script.specs.Words.{SEATS}
 use Rattle.pf_script.specs.declared.line.ScriptLine.TheVariants as lines

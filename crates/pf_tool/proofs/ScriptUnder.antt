@@ -1,13 +1,11 @@
 -- The lines and closings of a script under a book, and over files.
-use Rattle.std.proofs.Common.{◌≡◌, ◌≢◌, ◌↔◌, ◌⊎◌, inl, inr, ℕ, zero, suc, ◌≤◌, ◌<◌, List, [], ◌∷◌, ◌++◌, length, map, refl, sym, ◌∙◌, ap, subst, arith, append_assoc, Option, Some, None, Result, Ok, Err}
+use Rattle.std.proofs.Common.{◌≡◌, ◌≢◌, ◌↔◌, inl, ℕ, suc, ◌≤◌, ◌<◌, List, [], ◌∷◌, ◌++◌, length, map, refl, sym, ◌∙◌, ap, subst, arith, append_assoc, Option, Some, None, Ok}
 use Rattle.std.specs.List.{flat_map}
 use Rattle.std.proofs.lemmas.List.{append-nil, map-append}
 use Rattle.pf_io.specs.Disk.{Files}
-use Rattle.pf_io.specs.Host.{HostState, Both, ReadsAsImage}
+use Rattle.pf_io.specs.Host.{HostState, ReadsAsImage}
 use Rattle.pf_io.specs.Lines.{lines_of}
 use Rattle.pf_io.specs.Moments.{Honest}
-use Rattle.pf_io.specs.Streams.{SourceState, SinkState}
-use Rattle.pf_io.specs.Words.{WordsState}
 use Rattle.pf_io.proofs.Telling.{both_same, both_then, both_weaker}
 use Rattle.pf_io.proofs.Writing.{wrote_both}
 use Rattle.pf_session.specs.State.{SessionState}
