@@ -52,7 +52,7 @@ names_stay line d0 d1 state after was is keeps k name has =
     ⊎_elim (λ before. inl ((looks_named (seat_at state k) (session_at d0 k) name (was k)).0 before)) (λ given. inr given) (keeps k name ((looks_named (seat_at after k) (session_at d1 k) name (is k)).1 has))
 
 -- a whole seat on a name of the book is one of its seats
-one_seated : (book : Book) (seats : List Seal) (seat : Seat) (session : Option SessionState) (own : OwnSeat) → ShowsUnder book seats seat session → seat ≡ Own own → own.broken ≡ false → IsSome (book own.name) → Contains seats (seat_of own.key own.name own.sheet)
+pub one_seated : (book : Book) (seats : List Seal) (seat : Seat) (session : Option SessionState) (own : OwnSeat) → ShowsUnder book seats seat session → seat ≡ Own own → own.broken ≡ false → IsSome (book own.name) → Contains seats (seat_of own.key own.name own.sheet)
 one_seated book seats seat session own (no_file is none) same whole has = absurd (cc)
 one_seated book seats seat session own (of_book sheet s is_whole seated kept is some) same whole has = subst (λ (o : OwnSeat). Contains seats (seat_of o.key o.name o.sheet)) (own_same (seat_on sheet s) own (sym is ∙ same)) seated
 one_seated book seats seat session own (other_file shown s (inl broken) key_is name_is broken_is is some) same whole has =

@@ -1,5 +1,5 @@
 -- The lines of a script as they are read, and the closings.
-use Rattle.std.proofs.Common.{◌≡◌, ◌≢◌, ◌↔◌, ◌∙◌, ℕ, List, [], ◌++◌, refl, sym, ap, replicate, Option, Some, None, Result, Ok, Err}
+use Rattle.std.proofs.Common.{◌≡◌, ◌≢◌, ◌↔◌, ◌∙◌, ℕ, List, [], refl, sym, ap, replicate, Option, Some, None, Result, Ok, Err}
 use Rattle.std.proofs.lemmas.List.{append-nil}
 use Rattle.pf_io.specs.Host.{HostState, Both, IsMore, ReadsAsImage}
 use Rattle.pf_io.specs.Streams.{SourceState, SinkState}
@@ -18,7 +18,7 @@ use Rattle.pf_script.specs.declared.stage.Stage.TheVariants as stages
 use Rattle.pf_script.specs.Words.{SEATS}
 use Rattle.pf_tool.specs.World.{World, world_of}
 use Rattle.pf_tool.specs.Replying.{SaysClosing}
-use Rattle.pf_tool.specs.Scripting.{at, begins, ReadsOn, went_on, was_over, SeatClosed, ClosingGoes}
+use Rattle.pf_tool.specs.Scripting.{at, begins, ReadsOn, went_on, was_over, ClosingGoes}
 
 -- the reader as a call of it says
 pub reads_on : (next : Result NextLine StreamFault) (old new : ReaderState) (from to : SourceState) → (old.stage ≡ stages.Open → Advances next old new from to) → (old.stage ≡ stages.Open → LinesGoOn next old new from to)

@@ -81,3 +81,5 @@ mod ScriptSaw
 mod SeatClosings
 mod ScriptUnread
 mod ScriptOver
+mod ScriptCalm
+mod ScriptFiles

@@ -1,5 +1,5 @@
 -- What is left for a reader falls with each line.
-use Rattle.std.proofs.Common.{◌≡◌, ◌≢◌, ◌∙◌, ℕ, ◌+◌, ◌-◌, ◌*◌, ◌^◌, ◌<◌, ◌≤◌, List, [], ◌∷◌, ◌++◌, length, refl, sym, ap, subst, arith, Option, Result, Ok, Err, length-append}
+use Rattle.std.proofs.Common.{◌≡◌, ◌≢◌, ℕ, ◌+◌, ◌-◌, ◌*◌, ◌^◌, ◌<◌, ◌≤◌, List, [], ◌∷◌, ◌++◌, length, refl, ap, arith, Option, Ok, Err, length-append}
 use Rattle.pf_io.specs.Streams.{SourceState}
 use Rattle.pf_script.specs.Lines.{LINE_FEED}
 use Rattle.pf_script.specs.LineReading.{ReaderState, IsBounded, BeginsWith, Fed, Last, AnswersAgain}
@@ -8,7 +8,6 @@ use Rattle.pf_script.specs.declared.next_line.NextLine.TheVariants as nexts
 use Rattle.pf_script.specs.declared.reply.Reply.{Reply}
 use Rattle.pf_script.specs.declared.stage.Stage.{Stage}
 use Rattle.pf_script.specs.declared.stage.Stage.TheVariants as stages
-use Rattle.pf_io.specs.declared.faults.StreamFault.{StreamFault}
 use Rattle.pf_tool.specs.Scripting.{At, ReadsOn, went_on, was_over, LineAnswered, NextAnswered}
 
 -- reads, and bytes that were taken

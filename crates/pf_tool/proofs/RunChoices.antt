@@ -16,10 +16,9 @@ use Rattle.pf_tool.specs.Keys.{key_unnamed, key_absent, key_length, key_short}
 use Rattle.pf_tool.specs.Encrypting.{EncryptRefused, no_key, names_unfit, input_absent, EncryptGoes, not_found, input_found, IsVersion}
 use Rattle.pf_tool.specs.Manifests.{out_pieces, TookText, ManifestLeads}
 use Rattle.pf_tool.specs.Outcomes.{Falls, Concludes, StopsAt}
-use Rattle.pf_tool.specs.Reports.{Reports}
 use Rattle.pf_tool.specs.Requests.{Request, Decrypt, Encrypt, Session, Manifest, Sums, Measure}
-use Rattle.pf_tool.specs.Runs.{Leads, MayBeNew, RunsByEvents, RunsSealing, Runs, CausedOnce, Causes, ByWords, Content, Decided, DecidedSealing, Honest, LeavesOutput, Stays}
-use Rattle.pf_tool.specs.SealedContents.{is_piece_of, piece_answers, GavePieces, GaveSealed}
+use Rattle.pf_tool.specs.Runs.{Leads, MayBeNew, RunsByEvents, Runs, CausedOnce, Causes, ByWords, Content, Decided, DecidedSealing, Honest, LeavesOutput, Stays}
+use Rattle.pf_tool.specs.SealedContents.{is_piece_of, piece_answers, GavePieces}
 use Rattle.pf_tool.specs.Summing.{SumsLead, WroteSums}
 use Rattle.pf_tool.specs.Measuring.{MeasureLeads}
 use Rattle.pf_tool.specs.declared.fault.Fault.{Fault}
@@ -34,13 +33,12 @@ use Rattle.pf_tool.proofs.SealDisks.{alone_left}
 use Rattle.pf_tool.proofs.EncryptRuns.{made_nothing, out_kept, found_causes, found_not_one, found_not_two}
 use Rattle.pf_tool.proofs.ManifestLaws.{GivenText, manifest_given, manifest_undrawn, manifest_unput}
 use Rattle.pf_tool.proofs.MeasureLaws.{measure_undrawn, measure_put}
-use Rattle.pf_tool.proofs.PlainWriting.{ran_weaker}
 use Rattle.pf_tool.proofs.ScriptCauses.{run_script_causes}
 use Rattle.pf_tool.proofs.ScriptKey.{script_by_words, script_decided, script_refused}
 use Rattle.pf_tool.proofs.ScriptOver.{script_over}
 use Rattle.pf_tool.proofs.ScriptContent.{script_content}
 use Rattle.pf_tool.proofs.RunClauses.{events_causes, events_by_words, events_decided, events_honest, events_not_two}
-use Rattle.pf_tool.proofs.RunStops.{said, status_of, input_kept, undrawn, unput, done_at_zero}
+use Rattle.pf_tool.proofs.RunStops.{said, input_kept, undrawn, unput, done_at_zero}
 use Rattle.pf_tool.proofs.SumsLaws.{sums_undrawn, put_lines, put_both}
 use Rattle.pf_tool.proofs.TextPutting.{concat_pieces}
 

@@ -10,7 +10,7 @@ use Rattle.pf_io.specs.Words.{WordsState}
 use Rattle.pf_io.proofs.Telling.{both_weaker}
 use Rattle.pf_tool.specs.World.{World, world_of, with_log}
 use Rattle.pf_tool.specs.Events.{Event, Answers, Draws, Puts, answers_in, words_in, pieces_in, bytes_in}
-use Rattle.pf_tool.specs.Endings.{Ending, Done, MayStarve, Stop, AtEnd, Failed, Starved, stop_line, stop_status, no_command_line}
+use Rattle.pf_tool.specs.Endings.{Ending, Done, MayStarve, Stop, AtEnd, Failed, Starved, stop_line, stop_status}
 use Rattle.pf_tool.specs.declared.fault.Fault.{Fault}
 use Rattle.pf_tool.proofs.Stopping.{not_done}
 use Rattle.pf_tool.specs.Happened.{Passed, Happened}
@@ -18,8 +18,8 @@ use Rattle.pf_tool.specs.Faults.{fault_status}
 use Rattle.pf_tool.specs.Outcomes.{IsAhead, StopsAt, ComesOut, Concludes}
 use Rattle.pf_tool.specs.Reports.{Reported, Reports}
 use Rattle.pf_tool.specs.Requests.{Request}
-use Rattle.pf_tool.specs.Runs.{Leads, LeavesHost, RunsByEvents, Usage, CausedOnce, ByWords, DecidedByEvents, NoneCounted, Honestly, as_files_give, starved, Honest}
-use Rattle.pf_tool.proofs.RunStops.{not_two, reports_of, stop_low, reported_said, said, status_of, host_counted, random_counted, out_counted, all_passed, none_failed}
+use Rattle.pf_tool.specs.Runs.{Leads, LeavesHost, RunsByEvents, CausedOnce, ByWords, DecidedByEvents, NoneCounted, Honestly, as_files_give, starved}
+use Rattle.pf_tool.proofs.RunStops.{not_two, reports_of, stop_low, said, status_of, host_counted, random_counted, out_counted, all_passed, none_failed}
 use Rattle.pf_tool.proofs.RunLaws.{silent, spoken, decided, none_left, over, over_front}
 use Rattle.pf_tool.proofs.ContentRuns.{told_of, these_told, front_taken}
 

@@ -2,7 +2,7 @@
 use Rattle.std.proofs.Common.{◌≡◌, ◌≢◌, ℕ, List, [], ◌∷◌, ◌++◌, refl, ap, ◌∙◌, sym}
 use Rattle.std.specs.List.{AllByRecursion, concat}
 use Rattle.std.proofs.lemmas.List.{append-nil}
-use Rattle.std.specs.Prelude.{Option, Some, None, Result, Err, codes}
+use Rattle.std.specs.Prelude.{Option, Some, None, Err, codes}
 use Rattle.template_text.specs.Rendering.{Values}
 use Rattle.pf_io.specs.Disk.{Name, Files}
 use Rattle.pf_io.specs.Host.{Answer}

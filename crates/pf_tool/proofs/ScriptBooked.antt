@@ -1,11 +1,13 @@
 -- What a session does under a book with which it may begin.
-use Rattle.std.proofs.Common.{◌≡◌, inl, inr, ℕ, true, false, List, [], refl, sym, ◌∙◌, ap, subst, Option, Some, None}
+use Rattle.std.proofs.Common.{◌≡◌, inl, inr, ⊎_elim, ℕ, true, false, List, [], refl, sym, ◌∙◌, ap, subst, Option, Some, None, Err}
 use Rattle.std.specs.Prelude.{Contains, IfSome}
 use Rattle.std.specs.List.{flat_map}
-use Rattle.pf_io.specs.Disk.{Disk, IsImage, reading}
+use Rattle.pf_io.specs.Disk.{Name, Disk, IsImage, reading}
 use Rattle.pf_io.specs.Host.{HostState, Both, ReadsAsImage}
 use Rattle.pf_io.specs.Moments.{Honest}
 use Rattle.pf_io.specs.Unchanged.{KeepsDisk}
+use Rattle.pf_io.specs.Words.{WordsState}
+use Rattle.pf_io.specs.declared.faults.Memory.{Memory}
 use Rattle.node_tree.specs.Sheet.{Sheet}
 use Rattle.pf_session.specs.Moving.{IsKeptOn}
 use Rattle.pf_session.specs.State.{SessionState}
@@ -16,13 +18,18 @@ use Rattle.pf_script.specs.BookRuns.{FollowsUnder}
 use Rattle.pf_script.specs.BookSeats.{Covers, KeepsUnder}
 use Rattle.pf_script.specs.BookTurns.{ShowsUnder, no_file, of_book, other_file, IsStateUnder}
 use Rattle.pf_script.specs.Desk.{DeskState, session_at}
-use Rattle.pf_script.specs.DeskSteps.{KeepsBooks as KeepsDesk, CoversDesk, AnyName}
-use Rattle.pf_script.specs.Script.{Seat, Empty, ScriptState}
+use Rattle.pf_script.specs.DeskSteps.{HasItsName, ConcernsDesk, CoversDesk, IsChange, BreaksSeat, DeskGoes}
+use Rattle.pf_script.specs.Script.{OwnSeat, Seat, Empty, Own, ScriptState, seat_at, seat_of_line, name_of_line}
 use Rattle.pf_script.specs.Words.{SEATS}
+use Rattle.pf_script.specs.declared.line.ScriptLine.{ScriptLine}
+use Rattle.pf_script.specs.declared.line.ScriptLine.TheVariants as lines
 use Rattle.pf_script.proofs.ActKeeping.{unchanged_now}
-use Rattle.pf_script.proofs.BookRunning.{IsUnder, under_as}
+use Rattle.pf_script.proofs.BookRunning.{IsUnder, under_as, one_seated}
+use Rattle.pf_script.proofs.CallKeeping.{at_both}
 use Rattle.pf_script.proofs.Composing.{all_agrees, all_leaves}
+use Rattle.pf_script.proofs.SparesAll.{did_spares}
 use Rattle.pf_script.proofs.Starting.{starts}
+use Rattle.pf_script.proofs.Under.{LooksLike, looks_like}
 use Rattle.pf_tool.specs.BookScripts.{AreClosings, StopsUnder, RunsUnder}
 use Rattle.pf_tool.specs.Scripting.{At, begins}
 use Rattle.pf_tool.specs.Transcripts.{Transcript, exchange_of, empty_seats}
@@ -30,18 +37,23 @@ use Rattle.pf_tool.specs.World.{World}
 use Rattle.pf_tool.proofs.ScriptContent.{same_all}
 use Rattle.pf_tool.proofs.ScriptUnder.{Under}
 
--- nothing was done behind the last exchange
+-- The disk stayed behind the last exchange.
+stops_still : (starved : Type 0) (desk : DeskState) (host : HostState) (book : Book) (state : ScriptState) (d b : Honest) → IsUnder desk host book state d → Unchanged d b → StopsUnder starved book state d b
+stops_still starved desk host book state d b is unchanged = record {
+  acts = [];
+  left = is.seats;
+  leaves = all_leaves book is.seats [] is.seats d b is.agrees is.image (unchanged, λ seat has. has);
+  spares = did_spares book is.seats [] is.seats d b (unchanged, λ seat has. has);
+  agrees = all_agrees book is.seats [] is.seats d b is.agrees is.image (unchanged, λ seat has. has);
+  none = inl (refl, λ k own. one_seated book is.seats (seat_at state k) (session_at desk k) own (is.is_state.shows k));
+}
+
+-- nothing was done
 pub stops_idle : (starved : Type 0) (desk : DeskState) (host after : HostState) (book : Book) (state : ScriptState) (d b : Honest) → IsUnder desk host book state d → after.honest ≡ Some b → after ≡ host → StopsUnder starved book state d b
 stops_idle starved desk host after book state d b is at_end same =
     let e : Some d ≡ Some b = sym is.is_disk ∙ ap (λ (h : HostState). h.honest) (sym same) ∙ at_end in
     let one : d ≡ b = cc in
-    subst (λ (z : Honest). StopsUnder starved book state d z) one (record {
-      acts = [];
-      left = is.seats;
-      leaves = all_leaves book is.seats [] is.seats d d is.agrees is.image (unchanged_now d, λ seat has. has);
-      agrees = is.agrees;
-      none = inl (refl, refl);
-    })
+    stops_still starved desk host book state d b is (subst (λ (z : Honest). Unchanged d z) one (unchanged_now d))
 
 -- the seats of a state under a book are covered by it
 covered : (desk : DeskState) (book : Book) (seats : List Seal) (state : ScriptState) → IsStateUnder book seats state desk → CoversDesk desk book seats
@@ -58,20 +70,74 @@ covered desk book seats state is k session at_k = by_seat _ (session_at desk k) 
         let e : None ≡ Some entry = sym none ∙ ap (λ (s : SessionState). book s.name) same ∙ has in
         absurd (cc)
 
--- there was no memory for a step
-pub stops_wanting : (starved : Type 0) → starved → (d0 d1 : DeskState) (h0 h1 after : HostState) (book : Book) (state : ScriptState) (d b : Honest) → IsUnder d0 h0 book state d → KeepsDesk d0 d1 h0 h1 → after.honest ≡ Some b → after ≡ h1 → StopsUnder starved book state d b
-stops_wanting starved is_starved d0 d1 h0 h1 after book state d b is keeps at_end same = by_disk h0.honest h1.honest is.is_disk (ap (λ (h : HostState). h.honest) (sym same) ∙ at_end) keeps
+same_seat : (j k : ℕ) → Some j ≡ Some k → j ≡ k
+same_seat j k same = cc
+
+-- a change gives no name
+unnamed : (line : ScriptLine) (name : Name) → IsChange line → name_of_line line ≡ Some name → ⊥
+unnamed lines.Blank name change gives = absurd change
+unnamed (lines.Create seat own) name change gives = absurd change
+unnamed (lines.Open seat own) name change gives = absurd change
+unnamed (lines.View seat path) name change gives = absurd change
+unnamed (lines.Read seat at count) name change gives = absurd change
+unnamed (lines.Write seat at bytes) name change gives = absurd (cc)
+unnamed (lines.Fill seat at count byte) name change gives = absurd (cc)
+unnamed (lines.Size seat size) name change gives = absurd (cc)
+unnamed (lines.Flush seat) name change gives = absurd change
+unnamed (lines.Move seat own) name change gives = absurd change
+unnamed (lines.Draw seat) name change gives = absurd change
+unnamed (lines.Close seat) name change gives = absurd change
+
+-- a seat that shows a session, and its name
+record Named (seat : Seat) (session : Option SessionState) : Type 0 where
+  own : OwnSeat
+  is_own : seat ≡ Own own
+  alone : (name : Name) → HasItsName session name → name ≡ own.name
+
+named_own : (seat : Seat) (session : Option SessionState) (name : Name) → LooksLike session seat → HasItsName session name → Named seat session
+named_own seat None name looks has = absurd has
+named_own seat (Some s) name looks has = record { own = looks.shown; is_own = looks.seat_is; alone = λ other is. is ∙ sym looks.name_is }
+
+-- there was no memory for a line
+pub stops_wanting : (starved : Type 0) → starved → (line : ScriptLine) (none : Memory) (d0 d1 : DeskState) (h0 h1 after : HostState) (r0 r1 : WordsState) (book : Book) (state : ScriptState) (d b : Honest) → IsUnder d0 h0 book state d → DeskGoes line (Err none) d0 d1 h0 h1 r0 r1
+    → after.honest ≡ Some b → after ≡ h1 → StopsUnder starved book state d b
+stops_wanting starved is_starved line none d0 d1 h0 h1 after r0 r1 book state d b is goes at_end same =
+    ⊎_elim (λ nothing. stops_still starved d0 h0 book state d b is (at_both Unchanged h0.honest h1.honest d b is.is_disk at_last nothing.disk)) (λ change. changed change) goes.wants.ends
   where
-    by_disk : (o p : Option Honest) → o ≡ Some d → p ≡ Some b → Both o p (KeepsUnder (CoversDesk d0) (CoversDesk d1) AnyName) → StopsUnder starved book state d b
-    by_disk o p first last both =
-        let keeps_db = subst (λ q. Both (Some d) q (KeepsUnder (CoversDesk d0) (CoversDesk d1) AnyName)) last (subst (λ q. Both q p (KeepsUnder (CoversDesk d0) (CoversDesk d1) AnyName)) first both) in
-        let kept = keeps_db book is.seats is.agrees is.image (covered d0 book is.seats state is.is_state) in
+    at_last : h1.honest ≡ Some b
+    at_last = ap (λ (h : HostState). h.honest) (sym same) ∙ at_end
+
+    shown : (change : IsChange line × BreaksSeat line d1) → Named (seat_at state change.1.0) (session_at d0 change.1.0)
+    shown change =
+        let k = change.1.0 in
+        let session = change.1.1 in
+        let has : HasItsName (session_at d1 k) session.name = subst (λ (o : Option SessionState). HasItsName o session.name) (sym change.1.3) refl in
+        let before : HasItsName (session_at d0 k) session.name = ⊎_elim (λ was. was) (λ given. absurd (unnamed line session.name change.0 given.1)) (goes.named k session.name has) in
+        named_own (seat_at state k) (session_at d0 k) session.name (looks_like book is.seats (seat_at state k) (session_at d0 k) (is.is_state.shows k)) before
+
+    changed : IsChange line × BreaksSeat line d1 → StopsUnder starved book state d b
+    changed change =
+        let keeps : KeepsUnder (CoversDesk d0) (CoversDesk d1) (ConcernsDesk line d0) d b = at_both (KeepsUnder (CoversDesk d0) (CoversDesk d1) (ConcernsDesk line d0)) h0.honest h1.honest d b is.is_disk at_last goes.books in
+        let kept = keeps book is.seats is.agrees is.image (covered d0 book is.seats state is.is_state) in
+        let k = change.1.0 in
+        let seat = shown change in
+        let here : (j : ℕ) → seat_of_line line ≡ Some j → j ≡ k = λ j at_j. same_seat j k (sym at_j ∙ change.1.2) in
         record {
           acts = kept.0;
           left = kept.1;
           leaves = all_leaves book is.seats kept.0 kept.1 d b is.agrees is.image kept.2;
+          spares = did_spares book is.seats kept.0 kept.1 d b kept.2;
           agrees = all_agrees book is.seats kept.0 kept.1 d b is.agrees is.image kept.2;
-          none = inr is_starved;
+          none = inr (
+            is_starved,
+            (
+              k,
+              seat.own,
+              seat.is_own,
+              λ name among.
+                  ⊎_elim (λ gives. absurd (unnamed line name change.0 gives)) (λ on. seat.alone name (subst (λ (i : ℕ). HasItsName (session_at d0 i) name) (here on.0 on.1) on.2)) (kept.5 name among),
+            ),
+          );
         }
 
 -- from empty seats

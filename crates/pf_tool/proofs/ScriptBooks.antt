@@ -1,24 +1,24 @@
 -- What a session keeps of each book with which it may begin.
-use Rattle.std.proofs.Common.{◌≡◌, ◌⊎◌, inl, inr, ℕ, zero, suc, List, [], ◌∷◌, replicate, get_or, refl, sym, ◌∙◌, ap, subst, Option, Some, None, Result, Ok, Err}
+use Rattle.std.proofs.Common.{◌≡◌, inl, inr, ℕ, List, [], refl, sym, ap, subst, Option, Some, None, Result, Ok}
 use Rattle.std.specs.Prelude.{IfSome}
 use Rattle.pf_io.specs.Disk.{Name, Disk, IsImage, reading}
 use Rattle.pf_io.specs.Host.{HostState, Both, OnDisk, ReadsAsImage}
 use Rattle.pf_io.specs.Moments.{Honest}
 use Rattle.pf_io.specs.Unchanged.{KeepsDisk}
-use Rattle.pf_io.specs.declared.faults.Memory.{Memory}
 use Rattle.pf_io.proofs.Telling.{both_weaker}
 use Rattle.pf_script.specs.BookDebts.{Unchanged}
 use Rattle.pf_script.specs.Book.{Book}
 use Rattle.pf_script.specs.BookLaws.{StartsWith, RunKeeps}
 use Rattle.pf_script.specs.BookSeats.{KeepsUnder}
-use Rattle.pf_script.specs.Desk.{DeskState, session_at}
-use Rattle.pf_script.specs.DeskSteps.{KeepsBooks as KeepsDesk, CoversDesk, AnyName, EndGoes}
+use Rattle.pf_script.specs.Desk.{DeskState}
+use Rattle.pf_script.specs.DeskSteps.{CoversDesk, EndGoes}
 use Rattle.pf_script.specs.Words.{SEATS}
+use Rattle.pf_script.specs.declared.line.ScriptLine.TheVariants as lines
 use Rattle.pf_script.specs.declared.next_line.NextLine.{NextLine}
 use Rattle.pf_script.specs.declared.next_line.NextLine.TheVariants as nexts
 use Rattle.pf_script.specs.declared.reply.Reply.{Reply}
 use Rattle.pf_script.proofs.ActKeeping.{only_reads}
-use Rattle.pf_script.proofs.RunKeeping.{books_still, books_on, run_from}
+use Rattle.pf_script.proofs.RunKeeping.{AnyName, KeepsDesk, books_of, books_still, books_on, run_from}
 use Rattle.pf_tool.specs.World.{World, with_log}
 use Rattle.pf_tool.specs.Runs.{RunsScript}
 use Rattle.pf_tool.specs.Scripting.{At, begins, NothingAsked, Answers, NextAnswered, LineAnswered, Lines, none_yet, one_more, AllLines, LineStops, not_read, not_answered, not_said, SeatClosed, Closings, none_closed, one_closed, KeyRead, ScriptGoes, no_key, no_reader, no_line, no_closing, no_end, done}
@@ -40,7 +40,7 @@ module _ (first : DeskState) (before : HostState) where
 
   answers_keep : (bytes : List ℕ) (reply : Option Reply) (old new : At) → Answers bytes (Ok reply) old new → KeepsDesk old.desk new.desk old.world.host new.world.host
   answers_keep bytes None old new answers = idle_keeps old new answers.1
-  answers_keep bytes (Some reply) old new answers = answers.2.books
+  answers_keep bytes (Some reply) old new answers = books_of answers.0 old.desk new.desk old.world.host new.world.host answers.2.books
 
   next_keeps : (next : NextLine) (bytes : List ℕ) (reply : Option Reply) (old new : At) → NextAnswered next bytes reply old new → KeepsDesk old.desk new.desk old.world.host new.world.host
   next_keeps nexts.Whole bytes reply old new answers = answers_keep bytes reply old new answers
@@ -64,7 +64,7 @@ module _ (first : DeskState) (before : HostState) where
     where
       by_reply : (reply : Option Reply) → EndGoes seat reply old.desk new.desk old.world.host new.world.host old.world.random new.world.random → KeepsDesk old.desk new.desk old.world.host new.world.host
       by_reply None ends = subst (λ (d : DeskState). KeepsDesk old.desk d old.world.host new.world.host) (sym ends.0) (books_still old.desk old.world.host new.world.host ends.1)
-      by_reply (Some said) ends = ends.books
+      by_reply (Some said) ends = books_of (lines.Close seat) old.desk new.desk old.world.host new.world.host ends.books
 
   closings_keep : (start : At) (count status : ℕ) (now : At) → KeptSo first before start → Closings start count status now → KeptSo first before now
   closings_keep start _ _ _ begun (none_closed count status now no_seat none same) = subst (KeptSo first before) (sym same) begun
@@ -74,7 +74,7 @@ module _ (first : DeskState) (before : HostState) where
   stop_keeps : (fault : Fault) (old new : At) → KeptSo first before old → LineStops fault old new → KeepsDesk first new.desk before new.world.host
   stop_keeps fault old new so_far (not_read cause reads nothing says is) = books_on first old.desk new.desk before old.world.host new.world.host so_far.keeps so_far.image (idle_keeps old new nothing)
   stop_keeps fault old new so_far (not_answered none reads (inl nothing) says is) = books_on first old.desk new.desk before old.world.host new.world.host so_far.keeps so_far.image (idle_keeps old new nothing)
-  stop_keeps fault old new so_far (not_answered none reads (inr step) says is) = books_on first old.desk new.desk before old.world.host new.world.host so_far.keeps so_far.image step.2.books
+  stop_keeps fault old new so_far (not_answered none reads (inr step) says is) = books_on first old.desk new.desk before old.world.host new.world.host so_far.keeps so_far.image (books_of step.0 old.desk new.desk old.world.host new.world.host step.2.books)
   stop_keeps fault old new so_far (not_said reply answered failed is) = let now = line_keeps reply old new so_far answered in now.keeps
 
 -- only reads on the disk, as those of a key

@@ -1,5 +1,5 @@
 -- Which counts rose in a session, by its status.
-use Rattle.std.proofs.Common.{◌≡◌, ◌≢◌, ◌⊎◌, ◌∙◌, inl, inr, ⊎_elim, ℕ, zero, suc, ◌≤◌, List, [], refl, sym, ap, subst, arith, Option, Result, Ok, Err}
+use Rattle.std.proofs.Common.{◌≡◌, ◌⊎◌, ◌∙◌, inl, inr, ⊎_elim, ℕ, zero, suc, ◌≤◌, List, refl, sym, ap, subst, arith, Result, Ok}
 use Rattle.pf_io.specs.Counts.{counted, counted_times}
 use Rattle.pf_io.specs.Disk.{Name}
 use Rattle.pf_io.specs.Host.{HostState}
@@ -7,27 +7,25 @@ use Rattle.pf_io.specs.Streams.{SourceState, SinkState}
 use Rattle.pf_io.specs.Words.{WordsState}
 use Rattle.pf_io.specs.Unchanged.{KeepsDisk}
 use Rattle.pf_script.specs.declared.next_line.NextLine.TheVariants as nexts
-use Rattle.pf_script.specs.declared.stage.Stage.TheVariants as stages
-use Rattle.pf_tool.specs.World.{World, with_log, with_out}
-use Rattle.pf_tool.specs.Endings.{Done, Stop, AtEnd, stop_line, stop_status}
-use Rattle.pf_tool.specs.Events.{Event}
+use Rattle.pf_tool.specs.World.{World, with_log}
+use Rattle.pf_tool.specs.Endings.{stop_line, stop_status}
 use Rattle.pf_tool.specs.Faults.{fault_line, fault_status}
 use Rattle.pf_tool.specs.Encrypting.{no_key as no_key_at_all}
 use Rattle.pf_tool.specs.Keys.{KeyRefused}
 use Rattle.pf_tool.specs.Outcomes.{Falls, SaysScript}
 use Rattle.pf_tool.specs.Replying.{first_of}
-use Rattle.pf_tool.specs.Reports.{WroteAll, Reported}
+use Rattle.pf_tool.specs.Reports.{Reported}
 use Rattle.pf_tool.specs.Requests.{Session}
-use Rattle.pf_tool.specs.Runs.{RunsByEvents, RunsScript, Rose, CausedInScript, Calm}
-use Rattle.pf_tool.specs.Scripting.{At, begins, Lines, LineStops, not_read, not_answered, not_said, Closings, ClosingStops, KeyRead, ScriptRead, ScriptGoes, no_key, no_reader, no_line, no_closing, no_end, done}
+use Rattle.pf_tool.specs.Runs.{RunsByEvents, RunsScript, Rose, CausedInScript}
+use Rattle.pf_tool.specs.Scripting.{At, begins, Lines, LineStops, not_read, not_answered, not_said, Closings, KeyRead, ScriptRead, ScriptGoes, no_key, no_reader, no_line, no_closing, no_end, done}
 use Rattle.pf_tool.specs.declared.fault.Fault.{Fault}
 use Rattle.pf_tool.specs.declared.fault.Fault.TheVariants as faults
 use Rattle.pf_tool.proofs.EncryptLaws.{encrypt_unput}
 use Rattle.pf_tool.proofs.RunClauses.{events_causes, events_not_two}
 use Rattle.pf_tool.proofs.RunStops.{reports_of, reported_said, said, input_kept, unput}
 use Rattle.pf_tool.proofs.Stopping.{not_done}
-use Rattle.pf_tool.proofs.ScriptCounting.{Tally, TallyAt, tally_none, tally_then, tally_still, tally_lines, tally_line, tally_starved, tally_nothing, tally_all, tally_closings, tally_closed, tally_both}
-use Rattle.pf_tool.proofs.ScriptStreams.{Flows, flows_none, flows_then, flows_lines, flows_read, flows_all, flows_closings, flows_closed, InputFails, input_fails, lines_sound}
+use Rattle.pf_tool.proofs.ScriptCounting.{Tally, TallyAt, tally_then, tally_all, tally_closings}
+use Rattle.pf_tool.proofs.ScriptStreams.{Flows, flows_then, flows_lines, flows_read, flows_all, flows_closings, InputFails, input_fails, lines_sound}
 
 -- a key that is not read ends a session as events say
 pub key_run : (key : Name) (old new : World) (status : ℕ) (fault : Fault) → Falls (KeyRefused key) (λ _ _. KeepsDisk) fault old (with_log new old.log) → Reported (fault_line fault) (fault_status fault) old.log new.log status → RunsByEvents (Session key) old new status

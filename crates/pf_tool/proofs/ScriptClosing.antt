@@ -1,13 +1,11 @@
 -- The closings behind a script, one after the other.
-use Rattle.std.proofs.Common.{◌≡◌, ◌≢◌, ◌↔◌, ◌⊎◌, inl, inr, ℕ, zero, suc, ◌+◌, List, [], ◌∷◌, ◌++◌, map, refl, sym, ◌∙◌, ap, subst, arith, Option, Some, None}
+use Rattle.std.proofs.Common.{◌≡◌, ◌≢◌, ◌↔◌, inl, inr, ℕ, suc, List, [], ◌∷◌, ◌++◌, map, refl, sym, ◌∙◌, ap, subst, arith, Option, Some, None}
 use Rattle.std.specs.List.{flat_map}
 use Rattle.std.proofs.lemmas.Grind.{flat_map-append}
 use Rattle.std.proofs.lemmas.List.{append-nil, map-append}
-use Rattle.pf_io.specs.Host.{Answer, HostState}
-use Rattle.pf_io.specs.Streams.{SourceState, SinkState}
-use Rattle.pf_io.specs.Words.{WordsState}
+use Rattle.pf_io.specs.Host.{Answer}
 use Rattle.pf_io.proofs.Writing.{wrote_both}
-use Rattle.pf_script.specs.Desk.{DeskState, session_at, Shows, no_file, whole_file, broken_file, IsStateOf}
+use Rattle.pf_script.specs.Desk.{session_at, Shows, no_file, whole_file, broken_file, IsStateOf}
 use Rattle.pf_script.specs.DeskSteps.{EndGoes}
 use Rattle.pf_script.specs.Script.{Seat, Empty, ScriptState, seat_at}
 use Rattle.pf_script.specs.ScriptRuns.{Exchange}

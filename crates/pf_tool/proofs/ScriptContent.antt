@@ -1,30 +1,26 @@
 -- What a session put out is the text of a run of its script.
-use Rattle.std.proofs.Common.{◌≡◌, ◌⊎◌, inl, inr, ⊎_elim, ℕ, zero, suc, ◌<◌, List, [], ◌∷◌, ◌++◌, length, replicate, get_or, refl, sym, ◌∙◌, ap, subst, arith, append_assoc, Option, Some, None, Result, Ok, Err}
+use Rattle.std.proofs.Common.{◌≡◌, inl, inr, ⊎_elim, ℕ, zero, suc, List, [], ◌∷◌, ◌++◌, length, replicate, get_or, refl, sym, ◌∙◌, ap, subst, arith, append_assoc, Some, None, Result, Err}
 use Rattle.std.specs.Prelude.{IfSome}
 use Rattle.std.proofs.lemmas.List.{append_cancel_left}
 use Rattle.node_tree.specs.Sheet.{Sheet}
-use Rattle.pf_io.specs.Answered.{WereTold}
 use Rattle.pf_io.specs.Counts.{counted}
 use Rattle.pf_io.specs.Disk.{Name}
-use Rattle.pf_io.specs.Host.{Answer, LengthWas, Gave, HostState, Both, IsMore}
+use Rattle.pf_io.specs.Host.{Answer, LengthWas, Both, IsMore}
 use Rattle.pf_io.specs.Streams.{SourceState, SinkState, TakesFront}
-use Rattle.pf_io.specs.Unchanged.{KeepsDisk}
 use Rattle.pf_io.specs.Words.{WordsState}
-use Rattle.pf_session.specs.State.{SessionState}
 use Rattle.pf_script.specs.Desk.{no_file, IsStateOf}
-use Rattle.pf_script.specs.Script.{Seat, Empty}
+use Rattle.pf_script.specs.Script.{Empty}
 use Rattle.pf_script.specs.Words.{SEATS}
 use Rattle.pf_tool.specs.World.{World, with_log}
 use Rattle.pf_tool.specs.Events.{Event, Answers, Draws, Puts, answers_in}
 use Rattle.pf_tool.specs.Endings.{Ending, Stop, AtEnd, Failed, Starved, MayStarve}
-use Rattle.pf_tool.specs.Faults.{fault_line, fault_status}
 use Rattle.pf_tool.specs.Happened.{IsTaken}
-use Rattle.pf_tool.specs.Keys.{KeyRefused, key_unnamed, key_absent, key_length, key_short, key_events}
-use Rattle.pf_tool.specs.Outcomes.{IsAhead, StopsAt, Falls, SaysScript}
-use Rattle.pf_tool.specs.Reports.{WroteAll, Reported}
+use Rattle.pf_tool.specs.Keys.{KeyRefused, key_unnamed, key_absent, key_length, key_short}
+use Rattle.pf_tool.specs.Outcomes.{IsAhead, StopsAt, SaysScript}
+use Rattle.pf_tool.specs.Reports.{WroteAll}
 use Rattle.pf_tool.specs.Runs.{RunsScript}
 use Rattle.pf_tool.specs.Scripting.{begins, KeyRead, ScriptGoes, no_key, no_reader, no_line, no_closing, no_end, done}
-use Rattle.pf_tool.specs.Transcripts.{Transcript, text_of, empty_seats, exchanges_of, AnswersFirst, IsStarved, PutOut, whole, cut_off, counts_after, SeenIn, TookTranscript, key_and, TookScript}
+use Rattle.pf_tool.specs.Transcripts.{Transcript, text_of, empty_seats, exchanges_of, AnswersFirst, IsStarved, PutOut, whole, cut_off, counts_after, TookTranscript, key_and, TookScript}
 use Rattle.pf_tool.specs.declared.fault.Fault.{Fault}
 use Rattle.pf_tool.specs.declared.fault.Fault.TheVariants as faults
 use Rattle.pf_tool.proofs.ContentRuns.{told_of, these_told}

@@ -1,21 +1,16 @@
 -- The counts of faults in a script, and the bytes that were read.
-use Rattle.std.proofs.Common.{◌≡◌, ◌≢◌, ◌⊎◌, ◌∙◌, inl, inr, ℕ, zero, suc, ◌+◌, ◌≤◌, ◌<◌, Bool, true, false, List, [], ◌++◌, length, refl, sym, ap, subst, arith, Option, Some, None, Result, Ok, Err}
-use Rattle.pf_io.specs.Counts.{counted, counted_by, counted_times}
+use Rattle.std.proofs.Common.{◌≡◌, ◌≢◌, ◌∙◌, inl, inr, ℕ, zero, suc, ◌+◌, ◌≤◌, List, refl, sym, ap, subst, arith, Option, Some, None, Ok, Err}
+use Rattle.pf_io.specs.Counts.{counted, counted_times}
 use Rattle.pf_io.specs.Host.{HostState}
-use Rattle.pf_io.specs.Streams.{SourceState}
 use Rattle.pf_io.specs.Words.{WordsState}
 use Rattle.pf_io.specs.declared.faults.Memory.{Memory}
-use Rattle.pf_io.specs.declared.faults.StreamFault.{StreamFault}
-use Rattle.pf_script.specs.DeskSteps.{CountsFault, CountsReply}
-use Rattle.pf_script.specs.LineReading.{ReaderState, Took, AnswersAgain, MOST_READS}
+use Rattle.pf_script.specs.DeskSteps.{CountsReply}
 use Rattle.pf_script.specs.declared.next_line.NextLine.{NextLine}
 use Rattle.pf_script.specs.declared.next_line.NextLine.TheVariants as nexts
 use Rattle.pf_script.specs.declared.reply.Reply.{Reply}
 use Rattle.pf_script.specs.declared.reply.Reply.TheVariants as replies
-use Rattle.pf_script.specs.declared.stage.Stage.{Stage}
-use Rattle.pf_script.specs.declared.stage.Stage.TheVariants as stages
 use Rattle.pf_tool.specs.Replying.{reply_status, spoken_status, closed_status, first_of}
-use Rattle.pf_tool.specs.Scripting.{At, ReadsOn, went_on, was_over, Nothing, Answers, LineAnswered, NextAnswered, Lines, none_yet, one_more, AllLines, SeatClosed, Closings, none_closed, one_closed}
+use Rattle.pf_tool.specs.Scripting.{At, Nothing, Answers, LineAnswered, NextAnswered, Lines, none_yet, one_more, AllLines, SeatClosed, Closings, none_closed, one_closed}
 
 -- How often the counts of the host and of the random words rose, and what that says of the first status that is not 0.
 pub record Tally (status h0 h1 r0 r1 : ℕ) : Type 0 where

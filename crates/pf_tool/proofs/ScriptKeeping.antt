@@ -1,9 +1,9 @@
 -- What a whole session does under a book with which it may begin.
-use Rattle.std.proofs.Common.{◌≡◌, ◌⊎◌, inl, inr, ⊎_elim, ℕ, suc, Bool, true, false, List, [], ◌∷◌, ◌++◌, map, refl, sym, ◌∙◌, ap, subst, append_assoc, Option, Some, None, Result, Ok, Err}
+use Rattle.std.proofs.Common.{◌≡◌, ◌⊎◌, inl, inr, ⊎_elim, ℕ, suc, Bool, true, false, List, [], ◌∷◌, ◌++◌, map, refl, sym, ◌∙◌, ap, subst, append_assoc, Option, Some, Result, Ok, Err}
 use Rattle.std.specs.Prelude.{⊤, IfSome}
 use Rattle.std.specs.List.{flat_map}
 use Rattle.std.proofs.lemmas.List.{append-nil}
-use Rattle.pf_io.specs.Disk.{Name, IsImage, reading}
+use Rattle.pf_io.specs.Disk.{Name, Files, IsImage, reading}
 use Rattle.pf_io.specs.Host.{Answer, HostState, Both, IsMore, OnDisk, ReadsAsImage}
 use Rattle.pf_io.specs.Lines.{lines_of}
 use Rattle.pf_io.specs.Moments.{Honest}
@@ -18,11 +18,14 @@ use Rattle.pf_script.specs.BookLaws.{StartsWith, RunKeeps}
 use Rattle.pf_script.proofs.CallKeeping.{both_with, read_image}
 use Rattle.pf_script.proofs.Composing.{all_agrees, all_leaves}
 use Rattle.pf_script.proofs.Starting.{starts as begins_agrees}
-use Rattle.pf_script.specs.Script.{ScriptState}
+use Rattle.pf_script.specs.Desk.{session_at}
+use Rattle.pf_script.specs.Script.{ScriptState, seat_at}
 use Rattle.pf_script.specs.ScriptRuns.{Exchange}
 use Rattle.pf_script.proofs.BookRunning.{IsUnder, under_as}
+use Rattle.pf_script.proofs.FilesRunning.{IsOver, over_as}
+use Rattle.pf_script.proofs.Under.{looks_like, looks_over}
 use Rattle.pf_script.specs.Words.{SEATS}
-use Rattle.pf_tool.specs.BookScripts.{closings, StopsUnder, RunsUnder, KeepsScript, no_script, script}
+use Rattle.pf_tool.specs.BookScripts.{closings, StopsUnder, RunsUnder, KeepsScript, no_script, script, FilesAre}
 use Rattle.pf_tool.specs.Keys.{KeyOver}
 use Rattle.pf_tool.specs.Outcomes.{SaysScript}
 use Rattle.pf_tool.specs.Replying.{spoken_text, closed_text, first_of, end_text}
@@ -35,6 +38,8 @@ use Rattle.pf_tool.specs.declared.fault.Fault.TheVariants as faults
 use Rattle.pf_tool.specs.Runs.{RunsScript}
 use Rattle.pf_tool.proofs.ScriptSaw.{Saw, told_since, told_so, seen_until}
 use Rattle.pf_tool.proofs.ScriptSeen.{host_flags, words_flags}
+use Rattle.pf_tool.proofs.ScriptCalm.{AreCalm}
+use Rattle.pf_tool.proofs.ScriptFiles.{RunsFiles, files_left, runs_over}
 use Rattle.pf_tool.proofs.ScriptUnread.{NoneCame, read_over, key_unread, lines_unread}
 use Rattle.pf_tool.proofs.SeatClosings.{lines_in, desk_closings, are_closings}
 use Rattle.pf_tool.proofs.ScriptContent.{stream_says, memory_says}
@@ -75,7 +80,7 @@ pub five_or_seven : (old new : World) (status : ℕ) → IsStarved old new statu
 five_or_seven old new status (inl is) = inl is
 five_or_seven old new status (inr both) = inr both.0
 
--- A script whose key was read, under a book: the fields of KeepsScript, and the counts of the whole run.
+-- A script whose key was read, under a book: the fields of KeepsScript, the counts of the whole run, and its run over the files.
 pub record CameUnder (key : Name) (old new : World) (status : ℕ) (book : Book) (a b : Honest) : Type 0 where
   pub user : List ℕ
   pub transcript : Transcript
@@ -86,6 +91,7 @@ pub record CameUnder (key : Name) (old new : World) (status : ℕ) (book : Book)
   pub lines : IfSome old.input.left (AnswersFirst transcript)
   pub put : PutOut transcript old new status
   pub runs : RunsUnder user transcript (IsStarved old new status) book a b
+  pub over_files : AreCalm (exchanges_of transcript) → RunsFiles (IsStarved old new status) user transcript (reading a.now) new
 
 -- what came behind the last reply
 record Rest (until new : World) (starved : Type 0) : Type 0 where
@@ -121,25 +127,29 @@ module _ (key : Name) (old new : World) (status : ℕ) (book : Book) (a b : Hone
       (λ x y found. record { first = found.0; rest = lines_of (now.reader.pending ++ y); whole = found.1; each = found.2; all = λ more. absurd (⊎_elim (λ some. some refl) (λ is. absurd (cc)) more) }))
 
   came : (transcript : Transcript) (until : World) → Saw (exchanges_of transcript) begun.host until.host begun.random until.random → Rest until new IsWanting → IfSome old.input.left (AnswersFirst transcript) → PutOut transcript old new status
-      → RunsUnder user transcript IsWanting book a b → CameUnder key old new status book a b
-  came transcript until saw rest lines put runs = record {
+      → RunsUnder user transcript IsWanting book a b → (AreCalm (exchanges_of transcript) → RunsFiles IsWanting user transcript (reading a.now) new) → CameUnder key old new status book a b
+  came transcript until saw rest lines put runs files = record {
     user = user;
     transcript = transcript;
     over = read_over key old new status a at_start user begun read;
-    seen = seen_until key user old begun until new status (exchanges_of transcript) rest.more read saw rest.told rest.ends;
+    seen = seen_until key user old begun until new status (exchanges_of transcript) rest.more read saw rest.told (sym rest.host) (sym rest.random) rest.ends;
     host_counts = rest.host ∙ saw.host_counts ∙ ap (λ (n : ℕ). counts_after (host_flags (exchanges_of transcript)) n) read.passed.host.calm;
     words_counts = rest.random ∙ saw.words_counts ∙ ap (λ (r : WordsState). counts_after (words_flags (exchanges_of transcript)) r.faults) (read.passed.random.untouched refl);
     lines = lines;
     put = put;
     runs = runs;
+    over_files = files;
   }
 
   lines_kept : (items : List Item) (last : At) → FirstLinesAre items Start last → Under (flat_map exchange_of items) Start last → PutOut (lines_only items) old new status → Rest last.world new IsWanting
-      → ((final : Book) (state : ScriptState) (d : Honest) → IsUnder last.desk last.world.host final state d → StopsUnder IsWanting final state d b) → CameUnder key old new status book a b
-  lines_kept items last reads under put rest stops =
+      → ((final : Book) (state : ScriptState) (d : Honest) → IsUnder last.desk last.world.host final state d → StopsUnder IsWanting final state d b)
+      → ((state : ScriptState) (files : Files) → IsOver last.desk last.world.host state files → FilesAre files new ⊎ IsWanting) → CameUnder key old new status book a b
+  lines_kept items last reads under put rest stops left =
       came (lines_only items) last.world (subst (λ (l : List Exchange). Saw l begun.host last.world.host begun.random last.world.random) (sym (append-nil (flat_map exchange_of items))) under.saw) rest (first_lines items last reads) put
       (runs_under IsWanting user (lines_only items) begun last old.host book a b at_start image starts read.disk under
       (λ later state mid is_mid. (record { rest = closings SEATS 0 state; in_order = refl; all = λ e. absurd (cc) }, stops later state mid is_mid)))
+      (runs_over IsWanting user (lines_only items) begun last old.host a new at_start read.disk under
+      (λ calm state mid is_mid. (record { rest = closings SEATS 0 state; in_order = refl; all = λ e. absurd (cc) }, left state mid is_mid)))
 
   -- there was no memory for a line
   wanting_rest : (bytes : List ℕ) (none : Memory) (last now : At) → IsWanting → Answers bytes (Err none) last now → new.host ≡ now.world.host → new.random ≡ now.world.random → Rest last.world new IsWanting
@@ -165,13 +175,15 @@ module _ (key : Name) (old new : World) (status : ℕ) (book : Book) (a b : Hone
       (cut_off (inr (seven is)) (subst (λ (s : SinkState). Both old.out.bytes s.bytes (TakesFront (text_of (lines_only lines.items)))) (sym (out ∙ says.out)) (wrote_front (flat_map item_text lines.items) (text_of (lines_only lines.items)) old.out last.world.out (lines_text lines.items) (since _ _ lines.said))))
       (no_rest last.world new IsWanting (host ∙ nothing.same_host) (random ∙ nothing.same_random))
       (λ final state d is_last. stops_idle IsWanting last.desk last.world.host new.host final state d b is_last at_end (host ∙ nothing.same_host))
+      (λ state files is_last. inl (files_left last.desk last.world.host state files new is_last (host ∙ nothing.same_host)))
   line_stops fault earlier last now lines (not_answered none reads answers says is) host random out starved seven =
       lines_kept lines.items last lines.reads lines.under
       (cut_off (five_or_seven old new status (starved is)) (subst (λ (s : SinkState). Both old.out.bytes s.bytes (TakesFront (text_of (lines_only lines.items)))) (sym (out ∙ says.out)) (wrote_front (flat_map item_text lines.items) (text_of (lines_only lines.items)) old.out last.world.out (lines_text lines.items) (since _ _ lines.said))))
       (wanting_rest now.reader.line none last now (starved is) answers host random)
       (λ final state d is_last.
       ⊎_elim (λ nothing. stops_idle IsWanting last.desk last.world.host new.host final state d b is_last at_end (host ∙ nothing.same_host))
-      (λ step. stops_wanting IsWanting (starved is) last.desk now.desk last.world.host now.world.host new.host final state d b is_last step.2.books at_end host) answers)
+      (λ step. stops_wanting IsWanting (starved is) step.0 none last.desk now.desk last.world.host now.world.host new.host last.world.random now.world.random final state d b is_last step.2 at_end host) answers)
+      (λ state files is_last. inr (starved is))
   line_stops fault earlier last now lines (not_said reply answered failed is) host random out starved seven =
       let one = line_under reply last now answered in
       let items = lines.items ++ one.item ∷ [] in
@@ -181,6 +193,7 @@ module _ (key : Name) (old new : World) (status : ℕ) (book : Book) (a b : Hone
       (failed_front (flat_map item_text lines.items) (spoken_text reply) (text_of (lines_only items)) old.out last.world.out now.world.out (lines_text items ∙ text_on lines.items one.item ∙ ap (λ (l : List ℕ). flat_map item_text lines.items ++ l) one.text_is) (since _ _ lines.said) failed)))
       (no_rest now.world new IsWanting host random)
       (λ final state d is_last. stops_idle IsWanting now.desk now.world.host new.host final state d b is_last at_end host)
+      (λ state files is_last. inl (files_left now.desk now.world.host state files new is_last host))
 
   -- with closings
   module _ (earlier : ℕ) (at_read : At) (lines : AllUnder Start earlier at_read) where
@@ -196,8 +209,13 @@ module _ (key : Name) (old new : World) (status : ℕ) (book : Book) (a b : Hone
         (λ x y found. record { first = lines_of x; rest = []; whole = sym (append-nil (lines_of x)); each = found.0; all = λ more. refl }))) put
         (runs_under IsWanting user (with closed ended) begun at_read old.host book a b at_start image starts read.disk lines.under
         (λ later state mid is_mid. (
-          are_closings later is_mid.seats state at_read.desk is_mid.is_state lines.items closed ended count all are,
+          are_closings state at_read.desk is_mid.is_state.eight (λ k. looks_like later is_mid.seats (seat_at state k) (session_at at_read.desk k) (is_mid.is_state.shows k)) lines.items closed ended count all are,
           under_as later state closed mid (λ final after d is_last. stops_idle IsWanting now.desk now.world.host new.host final after d b is_last at_end host) (under.follows later state mid is_mid),
+        )))
+        (runs_over IsWanting user (with closed ended) begun at_read old.host a new at_start read.disk lines.under
+        (λ calm state mid is_mid. (
+          are_closings state at_read.desk is_mid.is_state.eight (λ k. looks_over mid (seat_at state k) (session_at at_read.desk k) (is_mid.is_state.shows k)) lines.items closed ended count all are,
+          over_as state closed mid (λ after files is_last. inl (files_left now.desk now.world.host after files new is_last host)) (under.over calm state mid is_mid),
         )))
 
 -- on a host whose disk is told, whatever the run came to

@@ -1,26 +1,23 @@
 -- A session whose key is refused, and that no other session is decided so.
 use Rattle.std.specs.Prelude.{⊤}
-use Rattle.std.proofs.Common.{◌≡◌, ◌≢◌, ◌⊎◌, ◌∙◌, inl, inr, ⊎_elim, ℕ, suc, ◌≤◌, ◌<◌, List, [], ◌∷◌, ◌++◌, length, refl, sym, ap, subst, arith, Option, Some, None, Result, Ok, Err, append_assoc}
+use Rattle.std.proofs.Common.{◌≡◌, ◌∙◌, inl, inr, ℕ, List, [], ◌∷◌, ◌++◌, length, refl, sym, ap, subst, arith, Option, Some, None, Result, Ok, Err, append_assoc}
 use Rattle.std.proofs.lemmas.List.{append-nil, append_cancel_left}
-use Rattle.pf_io.specs.Answered.{WereTold, IsAnswerOf}
 use Rattle.pf_io.specs.Disk.{Name, Files}
 use Rattle.pf_io.specs.Host.{Answer, LengthWas, Gave, HostState, Both, IsMore, WhereTold, files_of}
-use Rattle.pf_io.specs.Names.{IsName}
-use Rattle.pf_io.specs.declared.faults.Memory.{Memory}
-use Rattle.pf_script.specs.DeskSteps.{Asks, DeskGoes}
+use Rattle.pf_script.specs.DeskSteps.{Asks}
 use Rattle.pf_script.specs.declared.next_line.NextLine.{NextLine}
 use Rattle.pf_script.specs.declared.next_line.NextLine.TheVariants as nexts
 use Rattle.pf_script.specs.declared.line.ScriptLine.TheVariants as lines
 use Rattle.pf_script.specs.declared.reply.Reply.{Reply}
-use Rattle.pf_tool.specs.World.{World, with_log, with_out}
-use Rattle.pf_tool.specs.Endings.{Ending, Done, Refused}
-use Rattle.pf_tool.specs.Events.{Event, Answers, answers_in}
+use Rattle.pf_tool.specs.World.{World, with_log}
+use Rattle.pf_tool.specs.Endings.{Ending}
+use Rattle.pf_tool.specs.Events.{Event, answers_in}
 use Rattle.pf_tool.specs.Encrypting.{no_key as no_key_at_all}
-use Rattle.pf_tool.specs.Keys.{IsKeyOf, KeyRefused, key_unnamed, key_absent, key_length, key_short, key_events, KeyOver}
+use Rattle.pf_tool.specs.Keys.{KeyRefused, key_unnamed, key_absent, key_length, key_short, KeyOver}
 use Rattle.pf_tool.specs.Outcomes.{SaysScript}
 use Rattle.pf_tool.specs.Requests.{Session}
 use Rattle.pf_tool.specs.Runs.{ByWords, DecidedByEvents, NoneCounted, Honestly}
-use Rattle.pf_tool.specs.Scripting.{At, begins, Nothing, Answers as AnswersBytes, NextAnswered, LineAnswered, Lines, none_yet, one_more, LineStops, not_read, not_answered, not_said, AllLines, SeatClosed, Closings, none_closed, one_closed, ClosingStops, KeyRead, ScriptRead, ScriptGoes, no_key, no_reader, no_line, no_closing, no_end, done}
+use Rattle.pf_tool.specs.Scripting.{At, begins, Answers as AnswersBytes, NextAnswered, LineAnswered, Lines, none_yet, one_more, LineStops, not_read, not_answered, not_said, AllLines, SeatClosed, Closings, none_closed, one_closed, KeyRead, ScriptRead, ScriptGoes, no_key, no_reader, no_line, no_closing, no_end, done}
 use Rattle.pf_tool.specs.declared.fault.Fault.{Fault}
 use Rattle.pf_tool.proofs.EncryptLaws.{words_alone}
 use Rattle.pf_tool.proofs.KeyOver.{key_over_one, key_read_over}

@@ -1,18 +1,16 @@
 -- The lines of a script as they were answered, one after the other.
-use Rattle.std.proofs.Common.{◌≡◌, ◌≢◌, ◌⊎◌, inl, inr, ⊎_elim, ℕ, zero, suc, ◌<◌, ◌≤◌, List, [], ◌∷◌, ◌++◌, length, map, refl, sym, ◌∙◌, ap, subst, arith, append_assoc, Option, Some, None, Result, Ok, Err}
+use Rattle.std.proofs.Common.{◌≡◌, ◌≢◌, ◌⊎◌, inl, inr, ⊎_elim, ℕ, zero, suc, ◌<◌, List, [], ◌∷◌, ◌++◌, length, map, refl, sym, ◌∙◌, ap, subst, arith, append_assoc, Option, Some, None, Ok}
 use Rattle.std.specs.Prelude.{IfSome}
 use Rattle.std.specs.List.{flat_map, fold}
 use Rattle.std.proofs.lemmas.Grind.{flat_map-append, fold-append}
 use Rattle.std.proofs.lemmas.List.{append-nil, map-append}
-use Rattle.pf_io.specs.Answered.{WereTold}
-use Rattle.pf_io.specs.Host.{Answer, HostState, Both}
+use Rattle.pf_io.specs.Host.{Answer, Both}
 use Rattle.pf_io.specs.Lines.{lines_of}
-use Rattle.pf_io.specs.Streams.{SourceState, SinkState}
-use Rattle.pf_io.specs.Words.{WordsState}
+use Rattle.pf_io.specs.Streams.{SourceState}
 use Rattle.pf_io.proofs.Telling.{both_same, both_then, both_weaker}
 use Rattle.pf_io.proofs.Writing.{wrote_both}
 use Rattle.pf_script.specs.Desk.{IsStateOf}
-use Rattle.pf_script.specs.LineReading.{Cuts, GoesOn, HasNoMore, BeginsWith, Fed, Last, LinesGoOn, AnswersAgain}
+use Rattle.pf_script.specs.LineReading.{GoesOn, HasNoMore, BeginsWith, Fed, Last, LinesGoOn, AnswersAgain}
 use Rattle.pf_script.specs.Script.{ScriptState}
 use Rattle.pf_script.specs.ScriptLines.{IsScriptLine, LONGEST_LINE}
 use Rattle.pf_script.specs.ScriptRuns.{Exchange, Follows}
@@ -22,9 +20,9 @@ use Rattle.pf_script.specs.declared.next_line.NextLine.TheVariants as nexts
 use Rattle.pf_script.specs.declared.reply.Reply.{Reply}
 use Rattle.pf_script.specs.declared.stage.Stage.{Stage}
 use Rattle.pf_script.specs.declared.stage.Stage.TheVariants as stages
-use Rattle.pf_tool.specs.Replying.{spoken_text, spoken_status, reply_status, first_of}
+use Rattle.pf_tool.specs.Replying.{spoken_text, spoken_status, first_of}
 use Rattle.pf_tool.specs.Reports.{WroteAll}
-use Rattle.pf_tool.specs.Scripting.{At, ReadsOn, went_on, was_over, Reads, NothingAsked, LineAnswered, NextAnswered, LineGoes, InputEnds, Lines, none_yet, one_more, AllLines}
+use Rattle.pf_tool.specs.Scripting.{At, ReadsOn, went_on, was_over, Reads, NothingAsked, LineAnswered, NextAnswered, InputEnds, Lines, none_yet, one_more}
 use Rattle.pf_tool.specs.Transcripts.{Item, NoLine, Said, exchange_of, item_text, item_status, status_of, AnswersBytes, AnswerEach}
 use Rattle.pf_tool.proofs.RunStops.{wrote_nothing}
 use Rattle.pf_tool.proofs.ScriptTurns.{follows_as, follows_on}

@@ -58,8 +58,8 @@ told_so P None (Some b) told = absurd told
 
 -- the key, and then some steps to the end
 pub seen_until : (key : Name) (user : List ℕ) (old begun until new : World) (status : ℕ) (xs : List Exchange) (more : List Answer) → KeyRead key user old begun → Saw xs begun.host until.host begun.random until.random
-    → Both until.host.given new.host.given (IsMore more) → ((more ≡ []) × (until.host ≡ new.host) × (until.random ≡ new.random)) ⊎ IsStarved old new status → SeenUntil key user xs old new status
-seen_until key user old begun until new status xs more read saw told ends =
+    → Both until.host.given new.host.given (IsMore more) → until.host.faults ≡ new.host.faults → until.random.faults ≡ new.random.faults → ((more ≡ []) × (until.host ≡ new.host) × (until.random ≡ new.random)) ⊎ IsStarved old new status → SeenUntil key user xs old new status
+seen_until key user old begun until new status xs more read saw told host random ends =
     let same : begun.random ≡ old.random = read.passed.random.untouched refl in
     record {
       until = until;
@@ -72,5 +72,7 @@ seen_until key user old begun until new status xs more read saw told ends =
         words_counts = subst (λ (r : WordsState). until.random.faults ≡ counts_after (words_flags xs) r.faults) same saw.words_counts;
       };
       told = told_on (key_and key user []) (given_in xs ++ more) old.host begun.host new.host read.passed.host.told (told_on (given_in xs) more begun.host until.host new.host saw.answers told);
+      host_still = host;
+      words_still = random;
       to_the_end = ends;
     }

@@ -1,5 +1,5 @@
 -- The names that a whole session leaves as they were: those that no line of its input speaks of.
-use Rattle.std.proofs.Common.{◌≡◌, refl, inl, inr, ℕ, List, [], ◌∷◌, ◌++◌, sym, ◌∙◌, ap, subst, append_assoc, Option, Some, None, Result, Ok, Err}
+use Rattle.std.proofs.Common.{◌≡◌, ◌⊎◌, refl, inl, inr, ℕ, List, [], ◌∷◌, ◌++◌, sym, ◌∙◌, ap, subst, append_assoc, Option, Some, None, Result, Ok, Err}
 use Rattle.std.specs.Prelude.{Contains, IfSome, IsSomeAnd}
 use Rattle.std.proofs.lemmas.List.Elements.{Contains-push, Contains-append_left, Contains-append_right}
 use Rattle.pf_io.specs.Disk.{Name}
@@ -13,7 +13,7 @@ use Rattle.pf_script.specs.BookDebts.{LeavesOthers, KeepsOthers}
 use Rattle.pf_script.specs.Desk.{DeskState, session_at}
 use Rattle.pf_script.specs.DeskSteps.{HasItsName, ApartFrom, Spares, ConcernsDesk, DeskGoes, EndGoes}
 use Rattle.pf_script.specs.LineReading.{GoesOn, LinesGoOn}
-use Rattle.pf_script.specs.Script.{name_of_line}
+use Rattle.pf_script.specs.Script.{seat_of_line, name_of_line}
 use Rattle.pf_script.specs.ScriptLines.{IsScriptLine}
 use Rattle.pf_script.specs.Words.{SEATS}
 use Rattle.pf_script.specs.declared.line.ScriptLine.{ScriptLine}
@@ -46,12 +46,16 @@ module _ (named : Name → Type 0) (before : HostState) where
       → DeskGoes line result old.desk new.desk old.world.host new.world.host old.world.random new.world.random → Spared new
   step_spared line result old new so_far gives goes = record {
     spares = spares_then named before old.world.host new.world.host so_far.spares (spares_more (ConcernsDesk line old.desk) named concerned old.world.host new.world.host goes.spares);
-    seats = λ k name has. concerned name (goes.named k name has);
+    seats = λ k name has. by_seat k name (goes.named k name has);
   }
     where
       concerned : (name : Name) → ConcernsDesk line old.desk name → named name
       concerned name (inl given) = gives name given
-      concerned name (inr seat) = so_far.seats seat.0 name seat.1
+      concerned name (inr seat) = so_far.seats seat.0 name seat.2
+
+      by_seat : (k : ℕ) (name : Name) → HasItsName (session_at old.desk k) name ⊎ ((seat_of_line line ≡ Some k) × (name_of_line line ≡ Some name)) → named name
+      by_seat k name (inl before) = so_far.seats k name before
+      by_seat k name (inr given) = gives name given.1
 
   -- bytes of which a line gives a name of these
   abbrev GivesNamed : List ℕ → Type 0

@@ -1,5 +1,5 @@
 -- The streams along a script: none fails before it ends, and the bytes that the reader took.
-use Rattle.std.proofs.Common.{◌≡◌, ◌≢◌, ◌⊎◌, ◌∙◌, inl, inr, ⊎_elim, ℕ, zero, suc, ◌+◌, ◌≤◌, ◌^◌, List, [], ◌++◌, length, refl, sym, ap, subst, arith, Option, Result, Ok, Err}
+use Rattle.std.proofs.Common.{◌≡◌, ◌≢◌, ◌⊎◌, ◌∙◌, inl, inr, ⊎_elim, ℕ, ◌+◌, ◌≤◌, List, ◌++◌, length, refl, sym, ap, subst, arith, Option, Ok, Err}
 use Rattle.pf_io.specs.Counts.{counted, counted_by}
 use Rattle.pf_io.specs.Streams.{SourceState, SinkState}
 use Rattle.pf_io.specs.declared.faults.StreamFault.{StreamFault}
@@ -10,7 +10,7 @@ use Rattle.pf_script.specs.declared.reply.Reply.{Reply}
 use Rattle.pf_script.specs.declared.stage.Stage.{Stage}
 use Rattle.pf_script.specs.declared.stage.Stage.TheVariants as stages
 use Rattle.pf_tool.specs.World.{World}
-use Rattle.pf_tool.specs.Scripting.{At, Reads, went_on, was_over, LineAnswered, LineGoes, Lines, none_yet, one_more, AllLines, SeatClosed, Closings, none_closed, one_closed}
+use Rattle.pf_tool.specs.Scripting.{At, Reads, went_on, was_over, LineGoes, Lines, none_yet, one_more, AllLines, SeatClosed, Closings, none_closed, one_closed}
 
 -- no stream failed, and these many bytes were taken at least, one for each read
 pub record Flows (old new : At) : Type 0 where

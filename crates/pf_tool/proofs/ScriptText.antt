@@ -1,22 +1,16 @@
 -- How a session ends behind its key, and what it put out until then.
-use Rattle.std.proofs.Common.{◌≡◌, ◌≢◌, ◌⊎◌, inl, inr, ⊎_elim, ℕ, suc, ◌≤◌, Bool, true, false, List, [], ◌∷◌, ◌++◌, map, refl, sym, ◌∙◌, ap, subst, arith, append_assoc, Option, Some, None, Result, Ok, Err}
+use Rattle.std.proofs.Common.{◌≡◌, ◌⊎◌, inl, inr, ℕ, suc, true, false, List, [], ◌∷◌, ◌++◌, map, refl, sym, ◌∙◌, ap, subst, append_assoc, Some, Err}
 use Rattle.std.specs.Prelude.{⊤, IfSome}
 use Rattle.std.specs.List.{flat_map}
 use Rattle.std.proofs.lemmas.List.{append-nil}
 use Rattle.pf_io.specs.Answered.{WereTold}
-use Rattle.pf_io.specs.Counts.{counted}
-use Rattle.pf_io.specs.Host.{Answer, HostState, Both, IsMore, WhereTold, since}
+use Rattle.pf_io.specs.Host.{Answer, HostState, Both, IsMore, since}
 use Rattle.pf_io.specs.Streams.{SourceState, SinkState, TakesFront}
-use Rattle.pf_io.specs.Words.{WordsState}
 use Rattle.pf_io.specs.declared.faults.Memory.{Memory}
 use Rattle.pf_io.proofs.Telling.{both_weaker}
 use Rattle.pf_io.proofs.Writing.{wrote_both, told_front}
-use Rattle.pf_script.specs.Desk.{DeskState}
-use Rattle.pf_script.specs.DeskSteps.{DeskGoes}
-use Rattle.pf_script.specs.ScriptRuns.{Exchange}
 use Rattle.pf_script.specs.Words.{SEATS}
-use Rattle.pf_script.specs.declared.line.ScriptLine.{ScriptLine}
-use Rattle.pf_tool.specs.World.{World, with_out}
+use Rattle.pf_tool.specs.World.{World}
 use Rattle.pf_tool.specs.Replying.{spoken_text, closed_text, first_of, end_text}
 use Rattle.pf_tool.specs.Reports.{WroteAll, SinkFailed}
 use Rattle.pf_tool.specs.Scripting.{At, begins, Answers, Lines, none_yet, AllLines, LineStops, not_read, not_answered, not_said, Closings, ClosingStops}

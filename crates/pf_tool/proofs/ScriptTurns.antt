@@ -1,14 +1,13 @@
 -- Turns of a script, one after the other, and the closings of its seats.
-use Rattle.std.proofs.Common.{◌≡◌, ◌≢◌, ◌⊎◌, inl, inr, ℕ, zero, suc, ◌+◌, List, [], ◌∷◌, ◌++◌, refl, sym, ◌∙◌, ap, subst, arith, Option, Some, None}
+use Rattle.std.proofs.Common.{◌≡◌, inl, inr, ℕ, zero, suc, ◌+◌, List, [], ◌∷◌, ◌++◌, sym, ap, subst, arith}
 use Rattle.pf_io.specs.Host.{Answer, HostState}
 use Rattle.pf_io.specs.Words.{WordsState}
 use Rattle.pf_script.specs.Desk.{DeskState, IsStateOf}
 use Rattle.pf_script.specs.DeskSteps.{Unfolds, Asks}
-use Rattle.pf_script.specs.Script.{ScriptState, Empty, seat_at}
+use Rattle.pf_script.specs.Script.{ScriptState}
 use Rattle.pf_script.specs.ScriptRuns.{Exchange, Follows}
 use Rattle.pf_script.specs.Turns.{Turn, on_carried}
 use Rattle.pf_script.specs.declared.line.ScriptLine.{ScriptLine}
-use Rattle.pf_script.specs.declared.line.ScriptLine.TheVariants as lines
 use Rattle.pf_script.specs.declared.reply.Reply.{Reply}
 use Rattle.pf_script.proofs.Desking.{unfolds_as}
 use Rattle.pf_tool.specs.Transcripts.{ClosesSeats}

@@ -1,12 +1,11 @@
--- The lines and closings of a script under a book.
-use Rattle.std.proofs.Common.{◌≡◌, ◌≢◌, ◌↔◌, ◌⊎◌, inl, inr, ℕ, zero, suc, ◌≤◌, ◌<◌, List, [], ◌∷◌, ◌++◌, length, map, refl, sym, ◌∙◌, ap, subst, arith, append_assoc, Option, Some, None, Result, Ok, Err}
+-- The lines and closings of a script under a book, and over files.
+use Rattle.std.proofs.Common.{◌≡◌, ◌≢◌, ◌↔◌, inl, ℕ, suc, ◌≤◌, ◌<◌, List, [], ◌∷◌, ◌++◌, length, map, refl, sym, ◌∙◌, ap, subst, arith, append_assoc, Option, Some, None, Ok}
 use Rattle.std.specs.List.{flat_map}
 use Rattle.std.proofs.lemmas.List.{append-nil, map-append}
-use Rattle.pf_io.specs.Host.{HostState, Both, ReadsAsImage}
+use Rattle.pf_io.specs.Disk.{Files}
+use Rattle.pf_io.specs.Host.{HostState, ReadsAsImage}
 use Rattle.pf_io.specs.Lines.{lines_of}
 use Rattle.pf_io.specs.Moments.{Honest}
-use Rattle.pf_io.specs.Streams.{SourceState, SinkState}
-use Rattle.pf_io.specs.Words.{WordsState}
 use Rattle.pf_io.proofs.Telling.{both_same, both_then, both_weaker}
 use Rattle.pf_io.proofs.Writing.{wrote_both}
 use Rattle.pf_session.specs.State.{SessionState}
@@ -14,7 +13,8 @@ use Rattle.pf_script.specs.Book.{Book}
 use Rattle.pf_script.specs.BookRuns.{FollowsUnder}
 use Rattle.pf_script.specs.BookTurns.{DeskAgrees, EndBooked}
 use Rattle.pf_script.specs.Desk.{DeskState, session_at}
-use Rattle.pf_script.specs.DeskSteps.{EndGoes}
+use Rattle.pf_script.specs.DeskSteps.{KeepsNames, EndGoes}
+use Rattle.pf_script.specs.FileRuns.{FollowsOver}
 use Rattle.pf_script.specs.LineReading.{GoesOn}
 use Rattle.pf_script.specs.Script.{ScriptState}
 use Rattle.pf_script.specs.ScriptLines.{IsScriptLine, LONGEST_LINE}
@@ -26,24 +26,28 @@ use Rattle.pf_script.specs.declared.next_line.NextLine.TheVariants as nexts
 use Rattle.pf_script.specs.declared.reply.Reply.{Reply}
 use Rattle.pf_script.specs.declared.stage.Stage.TheVariants as stages
 use Rattle.pf_script.proofs.BookRunning.{IsUnder, under_as, under_on, one_under}
+use Rattle.pf_script.proofs.FilesRunning.{IsOver, over_as, over_on, one_over}
 use Rattle.pf_tool.specs.Replying.{spoken_text, spoken_status, closed_text, closed_status, closing_text, reply_status, first_of}
 use Rattle.pf_tool.specs.Reports.{WroteAll}
 use Rattle.pf_tool.specs.Scripting.{At, Reads, NothingAsked, NextAnswered, LineAnswered, Lines, none_yet, one_more, SeatClosed, Closings, none_closed, one_closed}
 use Rattle.pf_tool.specs.Transcripts.{Item, NoLine, Said, exchange_of, item_text, item_status, status_of, AnswersBytes, AnswerEach}
 use Rattle.pf_tool.proofs.RunStops.{wrote_nothing}
+use Rattle.pf_tool.proofs.ScriptCalm.{AreCalm, calm_split}
 use Rattle.pf_tool.proofs.ScriptReading.{IsSettled, NextLineIs, FirstLinesAre, read_settled, each_on, items_on, status_on, text_on}
 use Rattle.pf_tool.proofs.ScriptClosing.{closing_texts, closing_statuses, closing_texts_on}
 use Rattle.pf_tool.proofs.ScriptSaw.{Saw, saw_none, saw_on, saw_one}
 use Rattle.pf_tool.proofs.SeatClosings.{lines_in, closing_at, desk_closings, closings_more}
 
--- Under each book, state and disk that are those of a desk on its host; and what was seen.
+-- Under each book, state and disk that are those of a desk on its host; over files that are those of its disk, where nothing failed; and what was seen.
 pub record Under (exchanges : List Exchange) (old new : At) : Type 0 where
   pub follows : (book : Book) (state : ScriptState) (disk : Honest) → IsUnder old.desk old.world.host book state disk → FollowsUnder book state exchanges disk (IsUnder new.desk new.world.host)
+  pub over : AreCalm exchanges → (state : ScriptState) (files : Files) → IsOver old.desk old.world.host state files → FollowsOver state exchanges files (IsOver new.desk new.world.host)
   pub saw : Saw exchanges old.world.host new.world.host old.world.random new.world.random
 
 pub idle_under : (old new : At) → NothingAsked old.desk new.desk old.world.host new.world.host old.world.random new.world.random → Under [] old new
 idle_under old new nothing = record {
   follows = λ book state disk is. subst (λ (d : DeskState). IsUnder d new.world.host book state disk) (sym nothing.same_desk) (subst (λ (h : HostState). IsUnder old.desk h book state disk) (sym nothing.same_host) is);
+  over = λ calm state files is. subst (λ (d : DeskState). IsOver d new.world.host state files) (sym nothing.same_desk) (subst (λ (h : HostState). IsOver old.desk h state files) (sym nothing.same_host) is);
   saw = saw_none old.world.host new.world.host old.world.random new.world.random nothing.same_host nothing.same_random;
 }
 
@@ -53,14 +57,18 @@ none_under place = idle_under place place (record { same_desk = refl; same_host 
 pub then_under : (xs ys : List Exchange) (old mid new : At) → Under xs old mid → Under ys mid new → Under (xs ++ ys) old new
 then_under xs ys old mid new first second = record {
   follows = λ book state disk is. under_on (IsUnder new.desk new.world.host) book state xs ys disk (under_as book state xs disk (λ b s d is_mid. second.follows b s d is_mid) (first.follows book state disk is));
+  over = λ calm state files is.
+      let each = calm_split xs ys calm in
+      over_on (IsOver new.desk new.world.host) state xs ys files (over_as state xs files (λ s f is_mid. second.over each.1 s f is_mid) (first.over each.0 state files is));
   saw = saw_on xs ys old.world.host mid.world.host new.world.host old.world.random mid.world.random new.world.random first.saw second.saw;
 }
 
 -- a line that was replied to
-told_under : (line : ScriptLine) (reply : Reply) (old new : At) (agrees : DeskAgrees line reply old.desk new.desk old.world.host new.world.host old.world.random new.world.random) → ReadsAsImage new.world.host
-    → Under (record { line = line; seen = agrees.seen; reply = reply } ∷ []) old new
-told_under line reply old new agrees image = record {
-  follows = one_under line reply old.desk new.desk old.world.host new.world.host old.world.random new.world.random agrees image;
+told_under : (line : ScriptLine) (reply : Reply) (old new : At) (agrees : DeskAgrees line reply old.desk new.desk old.world.host new.world.host old.world.random new.world.random) → KeepsNames line old.desk new.desk
+    → ReadsAsImage new.world.host → Under (record { line = line; seen = agrees.seen; reply = reply } ∷ []) old new
+told_under line reply old new agrees named image = record {
+  follows = one_under line reply old.desk new.desk old.world.host new.world.host old.world.random new.world.random agrees named image;
+  over = λ calm. one_over line reply old.desk new.desk old.world.host new.world.host old.world.random new.world.random agrees calm.0;
   saw = saw_one (record { line = line; seen = agrees.seen; reply = reply }) old.world.host new.world.host old.world.random new.world.random agrees.was_seen;
 }
 
@@ -116,7 +124,7 @@ line_under reply old new answered = by_next answered.next reply answered.reads a
           text_is = refl;
           status_is = refl;
           settled = read.0;
-          under = told_under answers.0 said old new answers.3 answered.image;
+          under = told_under answers.0 said old new answers.3 answers.2.named answered.image;
         }
 
 -- one line more
@@ -198,7 +206,7 @@ seat_under k reply old new seat = by_reply reply seat.none seat.ends seat.booked
         let exchange : Exchange = record { line = lines.Close k; seen = booked.seen; reply = said } in
         record {
           closed = exchange ∷ [];
-          under = told_under (lines.Close k) said old new booked seat.image;
+          under = told_under (lines.Close k) said old new booked ends.named seat.image;
           lines_are = some_closing k said (session_at old.desk k) none;
           others = seat.others;
           text_is = append-nil (closing_text said);

@@ -1,5 +1,5 @@
 -- A session that came to no script.
-use Rattle.std.proofs.Common.{◌≡◌, ◌⊎◌, ⊎_elim, inl, inr, ℕ, List, [], ◌∷◌, ◌++◌, refl, ◌∙◌, ap, Option, Some, Ok, Err}
+use Rattle.std.proofs.Common.{◌≡◌, ⊎_elim, inl, inr, ℕ, List, [], ◌∷◌, ◌++◌, refl, ◌∙◌, ap, Option, Some, Ok, Err}
 use Rattle.std.specs.Prelude.{option_map}
 use Rattle.pf_io.specs.Disk.{Name, Files, reading}
 use Rattle.pf_io.specs.Host.{Answer, LengthWas, Gave, files_of}

@@ -1,16 +1,15 @@
 -- The lines that close the seats of a desk, and those of a state that it shows.
-use Rattle.std.proofs.Common.{◌≡◌, ◌⊎◌, inl, inr, Bool, true, ℕ, zero, suc, ◌+◌, ◌-◌, ◌≤◌, ◌<◌, List, [], ◌∷◌, ◌++◌, map, refl, sym, ◌∙◌, ap, subst, arith, append_assoc, Option, Some, None}
+use Rattle.std.proofs.Common.{◌≡◌, ◌⊎◌, inl, inr, Bool, true, ℕ, zero, suc, ◌+◌, ◌-◌, ◌≤◌, ◌<◌, List, [], ◌∷◌, ◌++◌, length, map, refl, sym, ◌∙◌, ap, subst, arith, append_assoc, Option, Some, None}
 use Rattle.std.proofs.lemmas.Bool.{cases_lt}
 use Rattle.std.proofs.lemmas.List.{append-nil, get_or_past}
 use Rattle.pf_session.specs.State.{SessionState}
-use Rattle.pf_script.specs.Book.{Book, Seal}
-use Rattle.pf_script.specs.BookTurns.{ShowsUnder, no_file, of_book, other_file, IsStateUnder}
 use Rattle.pf_script.specs.Desk.{DeskState, session_at}
-use Rattle.pf_script.specs.Script.{Seat, Empty, ScriptState, seat_at}
+use Rattle.pf_script.specs.Script.{Seat, Empty, Own, ScriptState, seat_at}
 use Rattle.pf_script.specs.ScriptRuns.{Exchange}
 use Rattle.pf_script.specs.Words.{SEATS}
 use Rattle.pf_script.specs.declared.line.ScriptLine.{ScriptLine}
 use Rattle.pf_script.specs.declared.line.ScriptLine.TheVariants as lines
+use Rattle.pf_script.proofs.Under.{LooksLike}
 use Rattle.pf_tool.specs.BookScripts.{closing_of, closings, AreClosings}
 use Rattle.pf_tool.specs.Transcripts.{Item}
 
@@ -65,24 +64,22 @@ first_closings desk none count = by_count (cases_lt SEATS count)
         )
 
 -- a seat is not empty where the desk has a session
-closing_shown : (k : ℕ) (book : Book) (seats : List Seal) (seat : Seat) (session : Option SessionState) → ShowsUnder book seats seat session → closing_of k seat ≡ closing_at k session
-closing_shown k book seats seat session (no_file empty none) = ap (closing_of k) empty ∙ ap (closing_at k) (sym none)
-closing_shown k book seats seat session (of_book sheet own whole seated kept is some) = ap (closing_of k) is ∙ ap (closing_at k) (sym some)
-closing_shown k book seats seat session (other_file shown own why key_is name_is broken_is is some) = ap (closing_of k) is ∙ ap (closing_at k) (sym some)
+closing_shown : (k : ℕ) (seat : Seat) (session : Option SessionState) → LooksLike session seat → closing_of k seat ≡ closing_at k session
+closing_shown k seat None is = ap (closing_of k) is
+closing_shown k seat (Some session) looks = ap (closing_of k) looks.seat_is
 
-none_shown : (book : Book) (seats : List Seal) (seat : Seat) (session : Option SessionState) → seat ≡ Empty → ShowsUnder book seats seat session → session ≡ None
-none_shown book seats seat session empty (no_file is none) = none
-none_shown book seats seat session empty (of_book sheet own whole seated kept is some) = absurd (cc)
-none_shown book seats seat session empty (other_file shown own why key_is name_is broken_is is some) = absurd (cc)
+none_shown : (seat : Seat) (session : Option SessionState) → seat ≡ Empty → LooksLike session seat → session ≡ None
+none_shown seat None empty looks = refl
+none_shown seat (Some session) empty looks = let e : Empty ≡ Own looks.shown = sym empty ∙ looks.seat_is in absurd (cc)
 
-module _ (book : Book) (seats : List Seal) (state : ScriptState) (desk : DeskState) (is : IsStateUnder book seats state desk) where
+module _ (state : ScriptState) (desk : DeskState) (eight : length state.seats ≡ SEATS) (looks : (k : ℕ) → LooksLike (session_at desk k) (seat_at state k)) where
   state_closings : (n k : ℕ) → closings n k state ≡ desk_closings n k desk
   state_closings zero k = refl
   state_closings (suc n) k =
-      ap (λ (l : List ScriptLine). l ++ closings n (suc k) state) (closing_shown k book seats (seat_at state k) (session_at desk k) (is.shows k)) ∙ ap (λ (l : List ScriptLine). closing_at k (session_at desk k) ++ l) (state_closings n (suc k))
+      ap (λ (l : List ScriptLine). l ++ closings n (suc k) state) (closing_shown k (seat_at state k) (session_at desk k) (looks k)) ∙ ap (λ (l : List ScriptLine). closing_at k (session_at desk k) ++ l) (state_closings n (suc k))
 
   none_there : (j : ℕ) → SEATS ≤ j → session_at desk j ≡ None
-  none_there j far = none_shown book seats (seat_at state j) (session_at desk j) (get_or_past state.seats j Empty (subst (λ (n : ℕ). n ≤ j) (sym is.eight) far)) (is.shows j)
+  none_there j far = none_shown (seat_at state j) (session_at desk j) (get_or_past state.seats j Empty (subst (λ (n : ℕ). n ≤ j) (sym eight) far)) (looks j)
 
   -- the seats that were closed are the first of those of the state
   pub are_closings : (items : List Item) (closed : List Exchange) (ended : Bool) (count : ℕ) → (ended ≡ true → count ≡ SEATS) → lines_in closed ≡ desk_closings count 0 desk

@@ -1,5 +1,5 @@
 -- What a session does to an honest disk, under a book with which it may begin.
-use Rattle.std.specs.Prelude.{◌≡◌, ◌⊎◌, ℕ, zero, suc, true, List, [], ◌∷◌, ◌++◌, map, Option, Some, IfSome, Result, Ok, Err}
+use Rattle.std.specs.Prelude.{◌≡◌, ◌⊎◌, ℕ, zero, suc, true, List, [], ◌∷◌, ◌++◌, map, IfSome, Ok, Err}
 use Rattle.std.specs.List.{flat_map}
 use Rattle.pf_io.specs.Counts.{counted}
 use Rattle.pf_io.specs.Disk.{Name, Files, reading}
@@ -11,7 +11,6 @@ use Rattle.pf_script.specs.BookDebts.{AreApart, LeavesOthers, KeepsOthers}
 use Rattle.pf_script.specs.BookRuns.{AreSeated, FollowsUnder}
 use Rattle.pf_script.specs.FileRuns.{FollowsOver, TakesWords}
 use Rattle.pf_script.specs.Script.{OwnSeat, ScriptState, Seat, Empty, Own, seat_at}
-use Rattle.pf_script.specs.ScriptRuns.{Exchange}
 use Rattle.pf_script.specs.Words.{SEATS}
 use Rattle.pf_script.specs.declared.line.ScriptLine.{ScriptLine}
 use Rattle.pf_script.specs.declared.line.ScriptLine.TheVariants as lines

@@ -4,7 +4,7 @@ use Rattle.std.specs.List.{concat}
 use Rattle.node_layout.specs.Metadata.{MOST_SIZE}
 use Rattle.pf_io.specs.Counts.{counted, counted_by, counted_times}
 use Rattle.pf_io.specs.Disk.{Name, Files, Disk, Image, IsImageAt}
-use Rattle.pf_io.specs.Host.{Answer, HostState, Both, OnDisk, OnDiskNow, files_of}
+use Rattle.pf_io.specs.Host.{Answer, HostState, Both, OnDisk, files_of}
 use Rattle.pf_io.specs.Lines.{lines_of}
 use Rattle.pf_io.specs.Moments.{Ran}
 use Rattle.pf_io.specs.Names.{side_of}

@@ -1,8 +1,8 @@
 -- The script of a session: what each of its lines and closings came to, in order, and where it may stop.
-use Rattle.std.specs.Prelude.{⊤, ◌≡◌, ◌≢◌, ◌⊎◌, ◌↔◌, ℕ, suc, List, [], replicate, Option, Some, None, Result, Ok, Err}
+use Rattle.std.specs.Prelude.{◌≡◌, ◌≢◌, ◌⊎◌, ◌↔◌, ℕ, suc, List, [], replicate, Option, Some, None, Result, Ok, Err}
 use Rattle.pf_io.specs.Disk.{Name}
 use Rattle.pf_io.specs.Host.{HostState, ReadsAsImage}
-use Rattle.pf_io.specs.Streams.{SourceState, SinkState}
+use Rattle.pf_io.specs.Streams.{SourceState}
 use Rattle.pf_io.specs.Unchanged.{KeepsDisk}
 use Rattle.pf_io.specs.Words.{WordsState}
 use Rattle.pf_io.specs.declared.faults.Memory.{Memory}

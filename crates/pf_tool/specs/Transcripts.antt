@@ -1,5 +1,5 @@
 -- What a session put out: the text of a run of its script, over the answers of the host and the random words.
-use Rattle.std.specs.Prelude.{⊤, ◌≡◌, ◌≢◌, ◌⊎◌, ℕ, zero, suc, Bool, true, cond, List, [], ◌∷◌, ◌++◌, length, take, map, replicate, Option, Some, IfSome}
+use Rattle.std.specs.Prelude.{⊤, ◌≡◌, ◌≢◌, ◌⊎◌, ℕ, zero, suc, Bool, true, cond, List, [], ◌∷◌, ◌++◌, length, map, replicate, Option, Some, IfSome}
 use Rattle.std.specs.List.{flat_map, fold}
 use Rattle.node_tree.specs.Sheet.{Sheet}
 use Rattle.pf_io.specs.Answered.{WereTold}
@@ -9,7 +9,7 @@ use Rattle.pf_io.specs.Host.{Answer, LengthWas, Gave, Both, IsMore}
 use Rattle.pf_io.specs.Lines.{lines_of}
 use Rattle.pf_io.specs.Streams.{TakesFront}
 use Rattle.pf_script.specs.Replies.{reply_text}
-use Rattle.pf_script.specs.Script.{ScriptState, Seat, Empty, seat_at}
+use Rattle.pf_script.specs.Script.{ScriptState, Empty, seat_at}
 use Rattle.pf_script.specs.ScriptLines.{IsScriptLine}
 use Rattle.pf_script.specs.ScriptRuns.{Exchange, Follows}
 use Rattle.pf_script.specs.Words.{SEATS}

@@ -1,7 +1,5 @@
-use Rattle.std.proofs.Common.{◌≡◌, ◌+◌, suc, ℕ, arith, ap, refl, sym, subst}
+use Rattle.std.proofs.Common.{◌≡◌, ◌+◌, suc, ℕ, arith, refl, subst}
 use Rattle.std.proofs.lemmas.Result.{err_from_is_err_and}
-use Rattle.pf_io.specs.Streams.{SourceState, SinkState}
-use Rattle.pf_script.specs.LineReading.{ReaderState}
 use Rattle.pf_tool.specs.World.{world_of}
 use Rattle.pf_tool.specs.Replying.{first_of as first_status}
 use Rattle.pf_tool.specs.Scripting.{at, none_closed, one_closed}

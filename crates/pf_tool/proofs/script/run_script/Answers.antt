@@ -1,9 +1,7 @@
-use Rattle.std.proofs.Common.{◌≡◌, ℕ, List, ap, refl, sym, subst, Result, Ok, Err}
+use Rattle.std.proofs.Common.{ap, refl, subst, Ok, Err}
 use Rattle.std.proofs.lemmas.Result.{err_from_is_err_and}
-use Rattle.pf_tool.specs.World.{World, world_of}
-use Rattle.pf_tool.specs.Replying.{first_of as first_status}
-use Rattle.pf_tool.specs.Scripting.{At, at, begins, AllLines, Lines, LineStops, Closings, ClosingStops, KeyRead, ScriptRead, no_key, no_reader, no_line, no_closing, no_end, done}
-use Rattle.pf_tool.specs.declared.fault.Fault.{Fault}
+use Rattle.pf_tool.specs.World.{world_of}
+use Rattle.pf_tool.specs.Scripting.{At, at, AllLines, Lines, KeyRead, ScriptRead, no_key, no_reader, no_line, no_closing, no_end, done}
 use Rattle.pf_tool.proofs.Conversing.{begins_is}
 use Rattle.pf_tool.proofs.script.run_script.Goals as goal
 
