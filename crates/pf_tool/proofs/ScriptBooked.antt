@@ -166,8 +166,7 @@ runs_under starved user transcript begun read before book a b is reads start kep
         let agrees_s = all_agrees book [] [] [] a s agrees well (unchanged, λ seat has. has) in
         record {
           start = s;
-          reads = all_leaves book [] [] [] a s agrees well (unchanged, λ seat has. has);
-          same = unchanged.ends;
+          reads = unchanged;
           agrees = agrees_s;
           follows = under_as book (empty_seats user []) (flat_map exchange_of transcript.items) s (λ later state mid is_mid. closes later state mid is_mid)
               (under.follows book (empty_seats user []) s (begun_under user begun book s agrees_s (subst (λ (x : Disk). IsImage x (reading x)) (sym unchanged.ends) well) at));

@@ -3,7 +3,7 @@ use Rattle.std.proofs.Common.{◌≡◌, ◌⊎◌, inl, inr, ⊎_elim, ℕ, suc
 use Rattle.std.specs.Prelude.{⊤, IfSome}
 use Rattle.std.specs.List.{flat_map}
 use Rattle.std.proofs.lemmas.List.{append-nil}
-use Rattle.pf_io.specs.Disk.{Name, Files, IsImage, reading}
+use Rattle.pf_io.specs.Disk.{Name, Files, reading}
 use Rattle.pf_io.specs.Host.{Answer, HostState, Both, IsMore, OnDisk, ReadsAsImage}
 use Rattle.pf_io.specs.Lines.{lines_of}
 use Rattle.pf_io.specs.Moments.{Honest}
@@ -15,9 +15,7 @@ use Rattle.pf_io.proofs.Writing.{wrote_both}
 use Rattle.pf_script.specs.Book.{Book}
 use Rattle.pf_script.specs.BookDebts.{Unchanged}
 use Rattle.pf_script.specs.BookLaws.{StartsWith, RunKeeps}
-use Rattle.pf_script.proofs.CallKeeping.{both_with, read_image}
-use Rattle.pf_script.proofs.Composing.{all_agrees, all_leaves}
-use Rattle.pf_script.proofs.Starting.{starts as begins_agrees}
+use Rattle.pf_script.proofs.CallKeeping.{both_with}
 use Rattle.pf_script.specs.Desk.{session_at}
 use Rattle.pf_script.specs.Script.{ScriptState, seat_at}
 use Rattle.pf_script.specs.ScriptRuns.{Exchange}
@@ -272,10 +270,8 @@ module _ (key : Name) (old new : World) (status : ℕ) (book : Book) (a b : Hone
   pub keeps_script : CameUnder key old new status book a b ⊎ NoneCame key (reading a.now) old new status → KeepsScript key old new status book a b
   keeps_script (inl came) = script came.user came.transcript came.over came.seen came.lines came.put came.runs
   keeps_script (inr none) =
-      let both : Both (Some a) (Some b) Unchanged = subst (λ (o : Option Honest). Both (Some a) o Unchanged) at_end (subst (λ (o : Option Honest). Both o new.host.honest Unchanged) at_start none.disk) in
-      let agrees = begins_agrees book a.now starts in
-      let well : IsImage a.now (reading a.now) = read_image old.host.honest a at_start image in
-      no_script none.why none.input (all_leaves book [] [] [] a b agrees well (both, λ seat has. has)) (all_agrees book [] [] [] a b agrees well (both, λ seat has. has))
+      let still : Both (Some a) (Some b) Unchanged = subst (λ (o : Option Honest). Both (Some a) o Unchanged) at_end (subst (λ (o : Option Honest). Both o new.host.honest Unchanged) at_start none.disk) in
+      no_script none.why none.input still
 
 -- on a host whose disk is told
 abbrev pub AtDisks : World → World → (Book → Honest → Honest → Type 0) → Type 0

@@ -5,9 +5,9 @@ use Rattle.pf_io.specs.Counts.{counted}
 use Rattle.pf_io.specs.Disk.{Name, Files, reading}
 use Rattle.pf_io.specs.Host.{OnHonest}
 use Rattle.pf_io.specs.Moments.{Honest, LeavesOnly, Ran}
-use Rattle.pf_script.specs.Book.{Book, Seal, ImageFits, Agrees}
+use Rattle.pf_script.specs.Book.{Book, Seal, Agrees}
 use Rattle.pf_script.specs.BookActs.{Act, Among, booked_all, FitsDuring}
-use Rattle.pf_script.specs.BookDebts.{AreApart, LeavesOthers, KeepsOthers}
+use Rattle.pf_script.specs.BookDebts.{Unchanged, AreApart, LeavesOthers, KeepsOthers}
 use Rattle.pf_script.specs.BookRuns.{AreSeated, FollowsUnder}
 use Rattle.pf_script.specs.FileRuns.{FollowsOver, TakesWords}
 use Rattle.pf_script.specs.Script.{OwnSeat, ScriptState, Seat, Empty, Own, seat_at}
@@ -43,11 +43,10 @@ pub record StopsUnder (starved : Type 0) (book : Book) (state : ScriptState) (ol
   pub agrees : Agrees (booked_all acts book) left new.now
   pub none : ((acts ≡ []) × AreSeated book state left) ⊎ (starved × ((k : ℕ) × (own : OwnSeat) × (seat_at state k ≡ Own own) × ((name : Name) → Among acts name → name ≡ own.name)))
 
--- The key is read, then the lines follow each other, and then the closings.
+-- The key is read, by which nothing changes; then the lines follow each other, and then the closings.
 pub record RunsUnder (user : List ℕ) (transcript : Transcript) (starved : Type 0) (book : Book) (old new : Honest) : Type 0 where
   pub start : Honest
-  pub reads : LeavesOnly (ImageFits book) old start
-  pub same : start.now ≡ old.now
+  pub reads : Unchanged old start
   pub agrees : Agrees book [] start.now
   pub follows : FollowsUnder book (empty_seats user []) (flat_map exchange_of transcript.items) start
       (λ later state mid. AreClosings transcript state × FollowsUnder later state transcript.closed mid (λ last after end. StopsUnder starved last after end new))
@@ -56,10 +55,10 @@ pub record RunsUnder (user : List ℕ) (transcript : Transcript) (starved : Type
 abbrev pub NoScript : Name → Files → World → World → ℕ → Type 0
 NoScript key files old new status = ((ending : Ending) × KeyOver files key (Err ending)) ⊎ (new.host.faults ≡ counted old.host.faults) ⊎ IsStarved old new status
 
--- No script came, nothing of the input was read, and the book stays. Or the files gave a key, and a transcript whose text the output took, whose lines are the first of the input and in which
--- was seen what was seen in this run, ran under the book.
+-- No script came, nothing of the input was read, and nothing changes on the disk. Or the files gave a key, and a transcript whose text the output took, whose lines are the first of the input and in
+-- which was seen what was seen in this run, ran under the book.
 pub data KeepsScript (key : Name) (old new : World) (status : ℕ) (book : Book) (a b : Honest) : Type 0 where
-  no_script : NoScript key (reading a.now) old new status → new.input ≡ old.input → LeavesOnly (ImageFits book) a b → Agrees book [] b.now → KeepsScript key old new status book a b
+  no_script : NoScript key (reading a.now) old new status → new.input ≡ old.input → Unchanged a b → KeepsScript key old new status book a b
   script : (user : List ℕ) (transcript : Transcript) → KeyOver (reading a.now) key (Ok user) → SeenUntil key user (exchanges_of transcript) old new status → IfSome old.input.left (AnswersFirst transcript) → PutOut transcript old new status
       → RunsUnder user transcript (IsStarved old new status) book a b → KeepsScript key old new status book a b
 
