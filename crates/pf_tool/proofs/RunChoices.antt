@@ -1,5 +1,6 @@
 -- The clauses of a run, by what its words ask for.
 use Rattle.std.proofs.Common.{◌≡◌, ⊎_elim, ℕ, ◌<◌, ◌≤◌, List, [], ◌∷◌, ◌++◌, length, filter, refl, subst, ap, ◌∙◌, sym, arith, Option, Some, None, Result, Err}
+use Rattle.std.specs.Prelude.{IfSome, IsSomeAnd}
 use Rattle.std.specs.List.{concat}
 use Rattle.std.proofs.lemmas.List.Elements.{filter-append}
 use Rattle.node_layout.specs.Metadata.{MOST_SIZE}
@@ -8,6 +9,7 @@ use Rattle.pf_io.specs.Host.{Answer, Both, IsMore, ReadsAsImage}
 use Rattle.pf_io.specs.Answered.{WereTold}
 use Rattle.pf_io.specs.Streams.{SinkState}
 use Rattle.pf_io.specs.Unchanged.{KeepsDisk}
+use Rattle.pf_script.specs.LineReading.{MOST_READS}
 use Rattle.pf_tool.specs.World.{World, with_log}
 use Rattle.pf_tool.specs.Events.{Event, Answers, Draws, Puts, answers_in, pieces_in}
 use Rattle.pf_tool.specs.Endings.{Ending, Done, Stop, AtEnd, Failed, Starved, tried, ending_status, stop_status}
@@ -178,12 +180,21 @@ run_decided (Manifest values template output) old new status run = events_decide
 run_decided (Sums manifest output) old new status run = events_decided (Sums manifest output) old new status run
 run_decided (Measure layout) old new status run = events_decided (Measure layout) old new status run
 
+-- fewer bytes than the most reads, and not fewer
+few_bytes : (left : Option (List ℕ)) → IsSomeAnd left (λ input. length input < MOST_READS) → IfSome left (λ input. MOST_READS ≤ length input) → ⊥
+few_bytes (Some input) short long = omega (arith, short, long)
+few_bytes None short long = absurd short
+
 pub run_honest : (request : Request) (old new : World) (status : ℕ) → ReadsAsImage old.host → Runs request old new status → Honest request old new status
 run_honest (Decrypt key input) old new status image run = events_honest (Decrypt key input) old new status run
 run_honest (Encrypt key input output) old new status image run = sealing_honest key input output old new status run.ended run.goes run.concludes
 run_honest (Session key) old new status image run = λ files is none. record {
   refused = script_refused key old new status run.ending run.goes run.says files is none;
   runs = λ user over rose. script_over key old new status image run files is user over rose;
+  read = λ input short seven.
+      ⊎_elim (λ out. absurd (none.out out))
+      (λ other. ⊎_elim (λ log. absurd (none.log log)) (λ taken. ⊎_elim (λ once. absurd (input once)) (λ spent. few_bytes old.input.left short spent.1) taken) other)
+      ((run_script_causes key old new status run).stream_fault seven);
 }
 run_honest (Manifest values template output) old new status image run = events_honest (Manifest values template output) old new status run
 run_honest (Sums manifest output) old new status image run = events_honest (Sums manifest output) old new status run

@@ -1,5 +1,5 @@
 -- What a run of the program comes to, by what its words ask for.
-use Rattle.std.specs.Prelude.{⊤, ◌≡◌, ◌≢◌, ◌⊎◌, ℕ, suc, ◌<◌, ◌≤◌, List, [], length, Contains, Option, Some, None, IfSome, Result, Ok, Err}
+use Rattle.std.specs.Prelude.{⊤, ◌≡◌, ◌≢◌, ◌⊎◌, ℕ, suc, ◌<◌, ◌≤◌, List, [], length, Contains, Option, Some, None, IfSome, IsSomeAnd, Result, Ok, Err}
 use Rattle.std.specs.List.{concat}
 use Rattle.node_layout.specs.Metadata.{MOST_SIZE}
 use Rattle.pf_io.specs.Counts.{counted, counted_by, counted_times}
@@ -121,7 +121,7 @@ Rose before now = (times : ℕ) × (now ≡ counted_times (suc times) before)
 pub record CausedInScript (old new : World) (status : ℕ) : Type 0 where
   pub host_fault : status ≡ 4 → Rose old.host.faults new.host.faults
   pub random_fault : status ≡ 6 → Rose old.random.faults new.random.faults
-  pub stream_fault : status ≡ 7 → (new.out.faults ≡ counted old.out.faults) ⊎ ((new.log.faults ≡ counted old.log.faults) ⊎ ((new.input.faults ≡ counted old.input.faults) ⊎ (counted_by MOST_READS old.input.taken ≤ new.input.taken)))
+  pub stream_fault : status ≡ 7 → (new.out.faults ≡ counted old.out.faults) ⊎ ((new.log.faults ≡ counted old.log.faults) ⊎ ((new.input.faults ≡ counted old.input.faults) ⊎ ((counted_by MOST_READS old.input.taken ≤ new.input.taken) × IfSome old.input.left (λ input. MOST_READS ≤ length input))))
   pub no_stream_fault : status ≢ 7 → (new.input.faults ≡ old.input.faults) × (new.out.faults ≡ old.out.faults) × (new.log.faults ≡ old.log.faults)
   pub done : status ≡ 0 → Calm old new
   pub most : status ≤ 7
@@ -190,10 +190,11 @@ pub record NoneRose (old new : World) : Type 0 where
   pub host : ¬ (Rose old.host.faults new.host.faults)
   pub random : ¬ (Rose old.random.faults new.random.faults)
 
--- So for a session: what is said where files give no key, and the run of its script where they do.
+-- So for a session: what is said where files give no key, and the run of its script where they do. Where the input did not fail and has fewer bytes than there may be reads, no stream failed.
 pub record HonestScript (key : Name) (files : Files) (old new : World) (status : ℕ) : Type 0 where
   pub refused : (ending : Ending) → KeyOver files key (Err ending) → Honestly (Session key) files old new status
   pub runs : (user : List ℕ) → KeyOver files key (Ok user) → NoneRose old new → GivesScript user files old new status
+  pub read : new.input.faults ≢ counted old.input.faults → IsSomeAnd old.input.left (λ input. length input < MOST_READS) → status ≢ 7
 
 abbrev pub GivesHonestly : Request → Files → World → World → ℕ → Type 0
 GivesHonestly (Decrypt key input) files old new status = Honestly (Decrypt key input) files old new status
