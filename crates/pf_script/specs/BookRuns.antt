@@ -4,7 +4,7 @@ use Rattle.pf_io.specs.Disk.{Name, reading}
 use Rattle.pf_io.specs.Moments.{Honest, LeavesOnly, Ran}
 use Rattle.pf_script.specs.Book.{Book, Seal, Agrees}
 use Rattle.pf_script.specs.BookActs.{Act, booked_all, FitsDuring}
-use Rattle.pf_script.specs.BookDebts.{seat_of, AreApart, LeavesOthers, KeepsOthers}
+use Rattle.pf_script.specs.BookDebts.{seat_of, AreApart, LeavesOthers, KeepsOthers, DidAll}
 use Rattle.pf_script.specs.BookTurns.{KnowsLine, OnItsSeat}
 use Rattle.pf_script.specs.FileTurns.{stands_on}
 use Rattle.pf_script.specs.Script.{OwnSeat, Own, ScriptState, HasThisName, seat_at, seat_of_line, name_of_line}
@@ -21,9 +21,12 @@ NamesStay line state after =
 abbrev pub AreSeated : Book → ScriptState → List Seal → Type 0
 AreSeated book state seats = (k : ℕ) (own : OwnSeat) → seat_at state k ≡ Own own → own.broken ≡ false → IsSome (book own.name) → Contains seats (seat_of own.key own.name own.sheet)
 
--- An exchange did these acts, of its own seat: at every moment an image is as the book says at some point of them, and each name that they leave alone is as before; in the end the book after them
+-- An exchange did these acts, of its kind and its own seat, and each owes what it has to: at every moment an image is as the book says at some point of them, and each name that they leave alone is as before; in the end the book after them
 -- agrees with the disk and the seats. Where the book tells what the line comes to, they are those of its turn, on the files as they read before it.
 pub record ActsIn (exchange : Exchange) (book : Book) (state after : ScriptState) (acts : List Act) (left : List Seal) (old new : Honest) : Type 0 where
+  pub seats : List Seal
+  pub began : AreSeated book state seats
+  pub did : DidAll book seats acts left old new
   pub leaves : LeavesOnly (FitsDuring book acts) old new
   pub spares : Ran (LeavesOthers (AreApart acts)) (KeepsOthers (AreApart acts)) old new
   pub agrees : Agrees (booked_all acts book) left new.now

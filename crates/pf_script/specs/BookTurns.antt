@@ -10,12 +10,12 @@ use Rattle.pf_session.specs.Asking.{IsTaken as AreTaken}
 use Rattle.pf_session.specs.Moving.{IsKeptOn}
 use Rattle.pf_session.specs.State.{SessionState}
 use Rattle.pf_script.specs.Book.{Book, Seal, Agrees}
-use Rattle.pf_script.specs.BookActs.{Act, Among, booked_all, speaks}
+use Rattle.pf_script.specs.BookActs.{Deed, Opening, Creation, Flush, Move, Act, Among, booked_all, speaks}
 use Rattle.pf_script.specs.BookDebts.{DidAll, seat_of}
 use Rattle.pf_script.specs.BookSeats.{SparesSeats}
 use Rattle.pf_script.specs.Desk.{DeskState, session_at, seat_on}
 use Rattle.pf_script.specs.DeskSteps.{CountsFault, Concerns, WhereReplied}
-use Rattle.pf_script.specs.Script.{OwnSeat, Seat, Empty, Own, ScriptState, seat_at, HasThisName, seat_of_line, name_of_line}
+use Rattle.pf_script.specs.Script.{OwnSeat, Seat, Empty, Own, ScriptState, seat_at, HasThisName, seat_of_line}
 use Rattle.pf_script.specs.FileTurns.{stands_on, SeatFiles, DeskFiles}
 use Rattle.pf_script.specs.Turns.{Seen, SeatTurn, Turn}
 use Rattle.pf_script.specs.Words.{SEATS}
@@ -44,6 +44,47 @@ pub record SeenIn (seen : Seen) (before after : HostState) (random random' : Wor
   pub of_host : CountsFault seen.host_failed before.faults after.faults
   pub of_words : CountsFault seen.words_failed random.faults random'.faults
 
+-- the deeds of one kind that a line may make: on the name that it gives, or on that of its seat
+abbrev pub IsCreationOf : Name → Deed → Type 0
+IsCreationOf name (Opening seal) = ⊥
+IsCreationOf name (Creation seal) = seal.name ≡ name
+IsCreationOf name (Flush seal) = ⊥
+IsCreationOf name (Move from seal) = ⊥
+
+abbrev pub IsOpeningOf : Name → Deed → Type 0
+IsOpeningOf name (Opening seal) = seal.name ≡ name
+IsOpeningOf name (Creation seal) = ⊥
+IsOpeningOf name (Flush seal) = ⊥
+IsOpeningOf name (Move from seal) = ⊥
+
+abbrev pub IsFlushOf : Seat → Deed → Type 0
+IsFlushOf seat (Opening seal) = ⊥
+IsFlushOf seat (Creation seal) = ⊥
+IsFlushOf seat (Flush seal) = HasThisName seal.name seat
+IsFlushOf seat (Move from seal) = ⊥
+
+-- a move, or the flush before it
+abbrev pub IsMoveOf : Name → Seat → Deed → Type 0
+IsMoveOf name seat (Opening seal) = ⊥
+IsMoveOf name seat (Creation seal) = ⊥
+IsMoveOf name seat (Flush seal) = HasThisName seal.name seat
+IsMoveOf name seat (Move from seal) = HasThisName from seat × (seal.name ≡ name)
+
+-- the deeds that a line makes on its seat
+abbrev pub MadeBy : ScriptLine → Seat → Deed → Type 0
+MadeBy lines.Blank seat deed = ⊥
+MadeBy (lines.Create k name) seat deed = IsCreationOf name deed
+MadeBy (lines.Open k name) seat deed = IsOpeningOf name deed
+MadeBy (lines.View k path) seat deed = ⊥
+MadeBy (lines.Read k at count) seat deed = ⊥
+MadeBy (lines.Write k at bytes) seat deed = IsFlushOf seat deed
+MadeBy (lines.Fill k at count byte) seat deed = IsFlushOf seat deed
+MadeBy (lines.Size k size) seat deed = IsFlushOf seat deed
+MadeBy (lines.Flush k) seat deed = IsFlushOf seat deed
+MadeBy (lines.Move k name) seat deed = IsMoveOf name seat deed
+MadeBy (lines.Draw k) seat deed = ⊥
+MadeBy (lines.Close k) seat deed = IsFlushOf seat deed
+
 -- what is refused does nothing
 abbrev pub IdleIfRefused : Reply → List Act → Type 0
 IdleIfRefused (replies.Refused why) acts = acts ≡ []
@@ -58,6 +99,7 @@ pub record LineUnder (key : List ℕ) (taken : Bool) (line : ScriptLine) (seen :
   pub shows : ShowsUnder (booked_all acts book) left after new
   pub spares : SparesSeats acts seats left
   pub concerned : (name : Name) → Among acts name → Concerns taken line old name
+  pub made : (act : Act) → Contains acts act → MadeBy line seat act.deed
   pub idle : IdleIfRefused reply acts
   pub turn : Knows book key seat line reply → SeatTurn (stands_on key (reading a.now)) key taken seat line seen reply acts after
 
@@ -85,14 +127,10 @@ pub record IsStateUnder (book : Book) (seats : List Seal) (state : ScriptState) 
 abbrev pub KnowsLine : Book → ScriptState → ScriptLine → Reply → Type 0
 KnowsLine book state line reply = IfSome (seat_of_line line) (λ k. Knows book state.key (seat_at state k) line reply)
 
--- the names that a line may change: that of its seat, and the one that it gives
-abbrev pub ConcernsLine : ScriptLine → ScriptState → Name → Type 0
-ConcernsLine line state name = (name_of_line line ≡ Some name) ⊎ ((k : ℕ) × (seat_of_line line ≡ Some k) × HasThisName name (seat_at state k))
-
--- Of each line, also of one that the book does not know: its acts are of these names alone, a refusal does nothing, and no other seat changes.
+-- Of each line, also of one that the book does not know: its acts are of its kind, on its seat; a refusal does nothing, and no other seat changes.
 pub record OnItsSeat (line : ScriptLine) (reply : Reply) (state after : ScriptState) (acts : List Act) : Type 0 where
   pub key_is : after.key ≡ state.key
-  pub concerned : (name : Name) → Among acts name → ConcernsLine line state name
+  pub made : (act : Act) → Contains acts act → (k : ℕ) × (seat_of_line line ≡ Some k) × MadeBy line (seat_at state k) act.deed
   pub idle : IdleIfRefused reply acts
   pub others : (j : ℕ) → seat_of_line line ≢ Some j → seat_at after j ≡ seat_at state j
 
