@@ -14,12 +14,12 @@ use Rattle.pf_session.specs.State.{SessionState}
 use Rattle.pf_script.specs.Book.{Book, Seal, Agrees}
 use Rattle.pf_script.specs.BookDebts.{Unchanged, seat_of}
 use Rattle.pf_script.specs.BookLaws.{StartsWith}
-use Rattle.pf_script.specs.BookRuns.{FollowsUnder}
-use Rattle.pf_script.specs.BookSeats.{Covers, KeepsUnder}
+use Rattle.pf_script.specs.BookRuns.{AreSeated, FollowsUnder}
+use Rattle.pf_script.specs.BookSeats.{Covers}
 use Rattle.pf_script.specs.BookTurns.{ShowsUnder, no_file, of_book, other_file, IsStateUnder}
 use Rattle.pf_script.specs.Desk.{DeskState, session_at}
-use Rattle.pf_script.specs.DeskSteps.{HasItsName, ConcernsDesk, CoversDesk, IsChange, BreaksSeat, DeskGoes}
-use Rattle.pf_script.specs.Script.{OwnSeat, Seat, Empty, Own, ScriptState, seat_at, seat_of_line, name_of_line}
+use Rattle.pf_script.specs.DeskSteps.{HasItsName, CoversDesk, IsChange, BreaksSeat, AreFlushes, FlushesUnder, DeskGoes}
+use Rattle.pf_script.specs.Script.{OwnSeat, Seat, Empty, Own, ScriptState, seat_at, name_of_line}
 use Rattle.pf_script.specs.Words.{SEATS}
 use Rattle.pf_script.specs.declared.line.ScriptLine.{ScriptLine}
 use Rattle.pf_script.specs.declared.line.ScriptLine.TheVariants as lines
@@ -37,15 +37,22 @@ use Rattle.pf_tool.specs.World.{World}
 use Rattle.pf_tool.proofs.ScriptContent.{same_all}
 use Rattle.pf_tool.proofs.ScriptUnder.{Under}
 
+-- the seats of a state are those of its desk
+began_seated : (desk : DeskState) (host : HostState) (book : Book) (state : ScriptState) (d : Honest) → (is : IsUnder desk host book state d) → AreSeated book state is.seats
+began_seated desk host book state d is k own = one_seated book is.seats (seat_at state k) (session_at desk k) own (is.is_state.shows k)
+
 -- The disk stayed behind the last exchange.
 stops_still : (starved : Type 0) (desk : DeskState) (host : HostState) (book : Book) (state : ScriptState) (d b : Honest) → IsUnder desk host book state d → Unchanged d b → StopsUnder starved book state d b
 stops_still starved desk host book state d b is unchanged = record {
   acts = [];
+  seats = is.seats;
   left = is.seats;
+  began = began_seated desk host book state d is;
+  did = (unchanged, λ seat has. has);
   leaves = all_leaves book is.seats [] is.seats d b is.agrees is.image (unchanged, λ seat has. has);
   spares = did_spares book is.seats [] is.seats d b (unchanged, λ seat has. has);
   agrees = all_agrees book is.seats [] is.seats d b is.agrees is.image (unchanged, λ seat has. has);
-  none = inl (refl, λ k own. one_seated book is.seats (seat_at state k) (session_at desk k) own (is.is_state.shows k));
+  none = inl (refl, began_seated desk host book state d is);
 }
 
 -- nothing was done
@@ -70,9 +77,6 @@ covered desk book seats state is k session at_k = by_seat _ (session_at desk k) 
         let e : None ≡ Some entry = sym none ∙ ap (λ (s : SessionState). book s.name) same ∙ has in
         absurd (cc)
 
-same_seat : (j k : ℕ) → Some j ≡ Some k → j ≡ k
-same_seat j k same = cc
-
 -- a change gives no name
 unnamed : (line : ScriptLine) (name : Name) → IsChange line → name_of_line line ≡ Some name → ⊥
 unnamed lines.Blank name change gives = absurd change
@@ -92,11 +96,13 @@ unnamed (lines.Close seat) name change gives = absurd change
 record Named (seat : Seat) (session : Option SessionState) : Type 0 where
   own : OwnSeat
   is_own : seat ≡ Own own
-  alone : (name : Name) → HasItsName session name → name ≡ own.name
+  held : SessionState
+  is_held : session ≡ Some held
+  name_is : own.name ≡ held.name
 
 named_own : (seat : Seat) (session : Option SessionState) (name : Name) → LooksLike session seat → HasItsName session name → Named seat session
 named_own seat None name looks has = absurd has
-named_own seat (Some s) name looks has = record { own = looks.shown; is_own = looks.seat_is; alone = λ other is. is ∙ sym looks.name_is }
+named_own seat (Some s) name looks has = record { own = looks.shown; is_own = looks.seat_is; held = s; is_held = refl; name_is = looks.name_is }
 
 -- there was no memory for a line
 pub stops_wanting : (starved : Type 0) → starved → (line : ScriptLine) (none : Memory) (d0 d1 : DeskState) (h0 h1 after : HostState) (r0 r1 : WordsState) (book : Book) (state : ScriptState) (d b : Honest) → IsUnder d0 h0 book state d → DeskGoes line (Err none) d0 d1 h0 h1 r0 r1
@@ -117,27 +123,21 @@ stops_wanting starved is_starved line none d0 d1 h0 h1 after r0 r1 book state d 
 
     changed : IsChange line × BreaksSeat line d1 → StopsUnder starved book state d b
     changed change =
-        let keeps : KeepsUnder (CoversDesk d0) (CoversDesk d1) (ConcernsDesk line d0) d b = at_both (KeepsUnder (CoversDesk d0) (CoversDesk d1) (ConcernsDesk line d0)) h0.honest h1.honest d b is.is_disk at_last goes.books in
-        let kept = keeps book is.seats is.agrees is.image (covered d0 book is.seats state is.is_state) in
         let k = change.1.0 in
         let seat = shown change in
-        let here : (j : ℕ) → seat_of_line line ≡ Some j → j ≡ k = λ j at_j. same_seat j k (sym at_j ∙ change.1.2) in
+        let flushes : FlushesUnder (CoversDesk d0) seat.held.name d b =
+        at_both (FlushesUnder (CoversDesk d0) seat.held.name) h0.honest h1.honest d b is.is_disk at_last (goes.wants.flushes k seat.held change.1.2 seat.is_held) in
+        let did = flushes book is.seats is.agrees is.image (covered d0 book is.seats state is.is_state) in
         record {
-          acts = kept.0;
-          left = kept.1;
-          leaves = all_leaves book is.seats kept.0 kept.1 d b is.agrees is.image kept.2;
-          spares = did_spares book is.seats kept.0 kept.1 d b kept.2;
-          agrees = all_agrees book is.seats kept.0 kept.1 d b is.agrees is.image kept.2;
-          none = inr (
-            is_starved,
-            (
-              k,
-              seat.own,
-              seat.is_own,
-              λ name among.
-                  ⊎_elim (λ gives. absurd (unnamed line name change.0 gives)) (λ on. seat.alone name (subst (λ (i : ℕ). HasItsName (session_at d0 i) name) (here on.0 on.1) on.2)) (kept.5 name among),
-            ),
-          );
+          acts = did.0;
+          seats = is.seats;
+          left = did.1;
+          began = began_seated d0 h0 book state d is;
+          did = did.2;
+          leaves = all_leaves book is.seats did.0 did.1 d b is.agrees is.image did.2;
+          spares = did_spares book is.seats did.0 did.1 d b did.2;
+          agrees = all_agrees book is.seats did.0 did.1 d b is.agrees is.image did.2;
+          none = inr (is_starved, (k, seat.own, seat.is_own, subst (λ (n : Name). AreFlushes n did.0) (sym seat.name_is) did.3));
         }
 
 -- from empty seats
