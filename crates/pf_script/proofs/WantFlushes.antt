@@ -1,6 +1,5 @@
 -- Calls that did nothing to names but accepted flushes, as those for which memory was wanting.
-use Rattle.std.proofs.Common.{◌≡◌, ⊎_elim, Bool, true, false, List, [], ◌∷◌, ◌++◌, ℕ, ◌+◌, refl, sym, ◌∙◌, ap, subst, Option, Some, Result, Ok, Err}
-use Rattle.std.specs.Prelude.{Contains}
+use Rattle.std.proofs.Common.{◌≡◌, ⊎_elim, true, false, List, [], ◌++◌, ℕ, ◌+◌, refl, sym, ◌∙◌, ap, subst, Option, Some, Result, Ok, Err}
 use Rattle.std.proofs.lemmas.List.Elements.{Contains-append_cases}
 use Rattle.node_tree.specs.Applying.{Step, Size}
 use Rattle.node_tree.specs.Sheet.{Sheet}
