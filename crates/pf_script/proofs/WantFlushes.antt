@@ -1,6 +1,5 @@
 -- Calls that did nothing to names but accepted flushes, as those for which memory was wanting.
-use Rattle.std.proofs.Common.{◌≡◌, ⊎_elim, Bool, true, false, List, [], ◌∷◌, ◌++◌, ℕ, ◌+◌, refl, sym, ◌∙◌, ap, subst, Option, Some, Result, Ok, Err}
-use Rattle.std.specs.Prelude.{Contains}
+use Rattle.std.proofs.Common.{◌≡◌, ⊎_elim, true, false, List, [], ◌++◌, ℕ, ◌+◌, refl, sym, ◌∙◌, ap, subst, Option, Some, Result, Ok, Err}
 use Rattle.std.proofs.lemmas.List.Elements.{Contains-append_cases}
 use Rattle.node_tree.specs.Applying.{Step, Size}
 use Rattle.node_tree.specs.Sheet.{Sheet}
@@ -34,14 +33,15 @@ use Rattle.pf_script.proofs.Seats.{seats_after, not_in_none, only_one}
 use Rattle.pf_script.proofs.SizeKeeping.{of_set, set_name}
 use Rattle.pf_script.proofs.StepKeeping.{both_through}
 
--- Under each book nothing but accepted flushes of the name was done to names, and the seats that they leave are as `after` says.
+-- Under each book nothing but accepted flushes of the name was done to names, and the seats that they leave are as `last` says.
 abbrev pub FlushesOnly : Covering → Covering → Name → Honest → Honest → Type 0
-FlushesOnly before after name a b =
-    (book : Book) (seats : List Seal) → Agrees book seats a.now → IsImage a.now (reading a.now) → before book seats
-    → (acts : List Act) × (left : List Seal) × DidAll book seats acts left a b × after (booked_all acts book) left × AreFlushes name acts
+FlushesOnly first last name a b =
+    (book : Book) (seats : List Seal) → Agrees book seats a.now → IsImage a.now (reading a.now) → first book seats
+    → (acts : List Act) × (left : List Seal) × DidAll book seats acts left a b × last (booked_all acts book) left × AreFlushes name acts
 
-pub flushes_under : (before after : Covering) (name : Name) (a b : Honest) → FlushesOnly before after name a b → FlushesUnder before name a b
-flushes_under before after name a b only book seats agrees reads covers = let has = only book seats agrees reads covers in (has.0, has.1, has.2, has.4)
+pub flushed_under : (first last : Covering) (name : Name) (before after : HostState) → OnDisk before after (FlushesOnly first last name) → OnDisk before after (FlushesUnder first name)
+flushed_under first last name before after flushes =
+    both_weaker (FlushesOnly first last name) (FlushesUnder first name) before.honest after.honest flushes (λ a b only book seats agrees reads covers. let has = only book seats agrees reads covers in (has.0, has.1, has.2, has.4))
 
 no_acts : (name : Name) → AreFlushes name []
 no_acts name act has = absurd (not_in_none act has)
