@@ -2,7 +2,7 @@
 use Rattle.std.proofs.Common.{◌≡◌, ◌≢◌, inl, inr, ⊎_elim, Bool, List, [], ℕ, ◌<◌, refl, sym, ◌∙◌, ap, subst, Option, Some, Result, Ok, Err, length}
 use Rattle.std.specs.Prelude.{IfSome}
 use Rattle.std.proofs.lemmas.List.{get_or-set_same, get_or-set_other, length-set}
-use Rattle.pf_io.specs.Disk.{Name, reading}
+use Rattle.pf_io.specs.Disk.{reading}
 use Rattle.pf_io.specs.Host.{HostState}
 use Rattle.pf_io.specs.Moments.{Honest}
 use Rattle.pf_io.specs.Words.{WordsState}

@@ -4,7 +4,7 @@ use Rattle.std.proofs.lemmas.List.Elements.{Contains-append_cases, Contains-push
 use Rattle.std.specs.Prelude.{Contains}
 use Rattle.node_tree.specs.Sheet.{Sheet}
 use Rattle.pf_io.specs.Disk.{Name}
-use Rattle.pf_script.specs.BookActs.{Deed, Opening, Creation, Flush, Move, Act, Names, Among}
+use Rattle.pf_script.specs.BookActs.{Deed, Act, Names, Among}
 use Rattle.pf_script.specs.BookTurns.{IsFlushOf, MadeBy}
 use Rattle.pf_script.specs.Script.{OwnSeat, Seat, Own}
 use Rattle.pf_script.specs.Turns.{flushes}

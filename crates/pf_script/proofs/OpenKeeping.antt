@@ -131,29 +131,35 @@ module _ (key : List ℕ) (name : Name) (session : SessionState) (was_one : WasO
       by_speaks : (entry : Entry) → book name ≡ Some entry → (s : Bool) → speaks key entry ≡ s → KeptOpened book seats
       by_speaks entry was true says =
           let known = known_opening book seats agrees reads entry was says in
-          let seal = seat_of key name known.on.sheet in ((
-            acts_of known.on.sheet,
-            seats_after (Opening seal) true seats,
-            known.did,
-            λ entry2 whole is_entry. (
-              known.on.sheet,
-              subst (λ (k : List ℕ). Contains (seats_after (Opening seal) true seats) (seat_of k session.name known.on.sheet)) (sym was_one.key_is)
-                  (subst (λ (n : Name). Contains (seats_after (Opening seal) true seats) (seat_of key n known.on.sheet)) (sym was_one.name_is) (seat_is_left (Opening seal) seats)),
-              record { backed = known.on.on.backed; rests = λ _. record { stands = known.on.on; clean = was_one.clean } },
+          let seal = seat_of key name known.on.sheet in (
+            (
+              acts_of known.on.sheet,
+              seats_after (Opening seal) true seats,
+              known.did,
+              λ entry2 whole is_entry. (
+                known.on.sheet,
+                subst (λ (k : List ℕ). Contains (seats_after (Opening seal) true seats) (seat_of k session.name known.on.sheet)) (sym was_one.key_is)
+                    (subst (λ (n : Name). Contains (seats_after (Opening seal) true seats) (seat_of key n known.on.sheet)) (sym was_one.name_is) (seat_is_left (Opening seal) seats)),
+                record { backed = known.on.on.backed; rests = λ _. record { stands = known.on.on; clean = was_one.clean } },
+              ),
+              one_spares seats (Opening seal) true,
+              only_it known.on.sheet,
             ),
-            one_spares seats (Opening seal) true,
-            only_it known.on.sheet,
-          ), one_is (IsOpeningOf name) (record { deed = Opening seal; done = true }) refl)
+            one_is (IsOpeningOf name) (record { deed = Opening seal; done = true }) refl,
+          )
       by_speaks entry was false says =
-          let seal = seat_of key name no_sheet in ((
-            acts_of no_sheet,
-            seats_after (Opening seal) true seats,
-            one_act book seats (Opening seal) true a b (opening_spares seal a b was_one.target reads only)
-                (subst (λ (o : Option Entry). Owes seats (Opening seal) true o a b) (sym was) (opening_keeps name a b only, there_now, λ does. let e : true ≡ false = sym does ∙ says in absurd (cc))),
-            λ entry2 whole is_entry. absurd (gone entry was says entry2 (subst (λ (n : Name). booked (Opening seal) true book n ≡ Some entry2) was_one.name_is is_entry)),
-            one_spares seats (Opening seal) true,
-            only_it no_sheet,
-          ), one_is (IsOpeningOf name) (record { deed = Opening seal; done = true }) refl)
+          let seal = seat_of key name no_sheet in (
+            (
+              acts_of no_sheet,
+              seats_after (Opening seal) true seats,
+              one_act book seats (Opening seal) true a b (opening_spares seal a b was_one.target reads only)
+                  (subst (λ (o : Option Entry). Owes seats (Opening seal) true o a b) (sym was) (opening_keeps name a b only, there_now, λ does. let e : true ≡ false = sym does ∙ says in absurd (cc))),
+              λ entry2 whole is_entry. absurd (gone entry was says entry2 (subst (λ (n : Name). booked (Opening seal) true book n ≡ Some entry2) was_one.name_is is_entry)),
+              one_spares seats (Opening seal) true,
+              only_it no_sheet,
+            ),
+            one_is (IsOpeningOf name) (record { deed = Opening seal; done = true }) refl,
+          )
 
       by_entry : (o : Option Entry) → book name ≡ o → KeptOpened book seats
       by_entry None was =

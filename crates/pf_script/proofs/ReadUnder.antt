@@ -5,19 +5,18 @@ use Rattle.node_tree.specs.Fetching.{host_part}
 use Rattle.node_tree.specs.Opened.{Given}
 use Rattle.node_tree.specs.Reading.{Reads}
 use Rattle.node_tree.specs.Sheet.{Sheet, Stands}
-use Rattle.node_tree.specs.State.{TreeState, readable}
+use Rattle.node_tree.specs.State.{readable}
 use Rattle.node_tree.specs.declared.fault.TreeFault.{TreeFault}
 use Rattle.node_tree.specs.declared.fault.TreeFault.TheVariants as trees
 use Rattle.pf_io.specs.Counts.{HasCause}
 use Rattle.pf_io.specs.Disk.{Name, reading}
-use Rattle.pf_io.specs.Host.{Answer, HostState, OnDisk, contents}
+use Rattle.pf_io.specs.Host.{Answer, HostState, contents}
 use Rattle.pf_io.specs.Unchanged.{KeepsDisk}
 use Rattle.pf_io.specs.Words.{WordsState}
 use Rattle.pf_session.specs.Backing.{IsBacked}
 use Rattle.pf_session.specs.Reading.{KeepsFields, ReadsStanding, StandingRead}
 use Rattle.pf_session.specs.State.{SessionState, file_of}
 use Rattle.pf_script.specs.BookDebts.{Unchanged, seat_of}
-use Rattle.pf_script.specs.BookSeats.{Covers, KeepsUnder}
 use Rattle.pf_script.specs.BookTurns.{of_book, SeatAgrees, SeatBooked, MadeBy}
 use Rattle.pf_script.specs.Desk.{IsSeated, seat_on}
 use Rattle.pf_script.specs.DeskSteps.{CountsFault}
