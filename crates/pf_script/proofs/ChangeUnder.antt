@@ -25,7 +25,7 @@ use Rattle.pf_script.specs.Book.{Book, Entry, Seal, Agrees}
 use Rattle.pf_script.specs.BookActs.{Flush, Act, Among, booked_all, flushed, sealed_entry}
 use Rattle.pf_script.specs.BookDebts.{Unchanged, DidAll, seat_of}
 use Rattle.pf_script.specs.BookSeats.{IsOfScript, SparesSeats}
-use Rattle.pf_script.specs.BookTurns.{ShowsUnder, of_book, other_file}
+use Rattle.pf_script.specs.BookTurns.{ShowsUnder, of_book, other_file, IsFlushOf}
 use Rattle.pf_script.specs.Desk.{seat_on}
 use Rattle.pf_script.specs.Rules.{NoneRefuses, rules}
 use Rattle.pf_script.specs.Script.{OwnSeat, Seat, Own}
@@ -41,6 +41,7 @@ use Rattle.pf_script.proofs.ChangeLeft.{ChangeLeft, left_once, left_lacked, left
 use Rattle.pf_script.proofs.ChangeTold.{Outcome, Went, Broke, Lacked, Wanted, outcome_of, Grew}
 use Rattle.pf_script.proofs.Composing.{all_agrees, did_on, booked_on}
 use Rattle.pf_script.proofs.Flushed.{SealsWith, TooFewToFlush, host_blamed, fault_of}
+use Rattle.pf_script.proofs.MadeActs.{EachIs, one_is, is_on, are_flushes}
 use Rattle.pf_script.proofs.NameMaps.{set_at-same}
 use Rattle.pf_script.proofs.SeatCalls.{seen_by}
 use Rattle.pf_script.proofs.Seats.{seats_after, seat_is_left, among_on, among_back}
@@ -85,6 +86,7 @@ module _ (key : List ℕ) (own : OwnSeat) (line : ScriptLine) (book : Book) (sea
     pub did : DidAll book seats acts left a b
     pub spares : SparesSeats acts seats left
     pub only : OnlyOf own.name acts
+    pub made : EachIs (IsFlushOf (Own own)) acts
     pub shows : ShowsUnder (booked_all acts book) left after (Some new)
     pub turn : (given : List Answer) → SeatTurn standing key false (Own own) line (seen_by given words of_host of_words) reply acts after
 
@@ -200,6 +202,7 @@ module _ (key : List ℕ) (own : OwnSeat) (line : ScriptLine) (book : Book) (sea
             did = did_reads only;
             spares = progress.spares;
             only = progress.only;
+            made = are_flushes own sheets;
             shows = broken_under (flushes own sheets) progress.left (seat_on base old) (sym (ap (λ (s : SessionState). s.key) goes.state)) (sym (ap (λ (s : SessionState). s.name) goes.state)) (ap (λ (s : SessionState). s.broken) goes.state);
             turn = λ given.
                 subst (λ (w : List (List ℕ)). SeatTurn standing key false (Own own) line (seen_by given w true false) replies.HostFault (flushes own sheets) (Own (broken_seat (seat_on base old)))) (sym words_are)
@@ -224,6 +227,7 @@ module _ (key : List ℕ) (own : OwnSeat) (line : ScriptLine) (book : Book) (sea
           did = did_reads (same_disk before after m b is_m is_b stays);
           spares = progress.spares;
           only = progress.only;
+          made = are_flushes own sheets;
           shows = subst (λ (s : SessionState). ShowsUnder mid_book progress.left (Own (seat_on base old)) (Some s)) (sym same)
               (of_book base old was.whole
               (subst (λ (k : List ℕ). Contains progress.left (seat_of k old.name base)) (sym was.key_is) (subst (λ (n : Name). Contains progress.left (seat_of own.key n base)) (sym was.name_is) progress.seated)) was.kept refl refl);
@@ -250,6 +254,7 @@ module _ (key : List ℕ) (own : OwnSeat) (line : ScriptLine) (book : Book) (sea
               (at_both (Where (Stood old.key old.name base) (Ran (AsEither old.key old.name base next.0) (StoodIf false old.key old.name next.0))) before.honest after.honest m b is_m is_b next.2 stood_old));
           spares = spares_flush false next.0;
           only = only_flush false next.0;
+          made = is_on (IsFlushOf (Own own)) (flushes own sheets) (act next.0 false ∷ []) (are_flushes own sheets) (one_is (IsFlushOf (Own own)) (act next.0 false) refl);
           shows = broken_under (flushes own sheets ++ act next.0 false ∷ []) (left_now next.0 false) (seat_on base old) (sym key_is) (sym name_is) broken;
           turn = λ given. host_failed (passes []) (record { host = refl; random = refl }) (not_flushed_before own (seat_on base old) line step words more sheets next.0 ByHost some (flushes_first base old step is_first) next.1 refl tt) refl;
         }
@@ -329,6 +334,7 @@ module _ (key : List ℕ) (own : OwnSeat) (line : ScriptLine) (book : Book) (sea
             did = subst (λ (l : List Act). DidAll book seats l (left_now next true) a b) as_flushes did_all;
             spares = subst (λ (l : List Act). SparesSeats l seats (left_now next true)) as_flushes (spares_flush true next);
             only = subst (λ (l : List Act). OnlyOf own.name l) as_flushes (only_flush true next);
+            made = are_flushes own (sheets ++ next ∷ []);
             shows = broken_under (flushes own (sheets ++ next ∷ [])) (left_now next true) (resealed (seat_on base old) next)
                 (sym (ap (λ (s : SessionState). s.key) goes.state ∙ ap (λ (s : SessionState). s.key) same)) (sym (ap (λ (s : SessionState). s.name) goes.state ∙ ap (λ (s : SessionState). s.name) same)) (ap (λ (s : SessionState). s.broken) goes.state);
             turn = λ given.

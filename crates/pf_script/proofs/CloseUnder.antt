@@ -17,7 +17,7 @@ use Rattle.pf_session.specs.declared.fault.FlushFault.{FlushFault}
 use Rattle.pf_script.specs.BookActs.{Flush}
 use Rattle.pf_script.specs.BookDebts.{DidAll, seat_of}
 use Rattle.pf_script.specs.BookSeats.{Covers, CoversNone, KeepsUnder}
-use Rattle.pf_script.specs.BookTurns.{no_file, SeatUnder, SeatAgrees}
+use Rattle.pf_script.specs.BookTurns.{no_file, SeatUnder, SeatAgrees, MadeBy}
 use Rattle.pf_script.specs.FileTurns.{stands_on, SeatFiles, no_file as over_none}
 use Rattle.pf_script.specs.Desk.{IsSeated, seat_on}
 use Rattle.pf_script.specs.Script.{OwnSeat, Seat, Empty, Own}
@@ -33,6 +33,7 @@ use Rattle.pf_script.proofs.CloseLine.{close_result, none_to_close}
 use Rattle.pf_script.proofs.FlushLine.{flush_act}
 use Rattle.pf_script.proofs.FlushUnder.{seen_in, failed_over, lacked_over, flush_left}
 use Rattle.pf_script.proofs.Flushed.{FlushEnds, not_begun, not_ended, was_ended, flush_ends, host_blamed, fault_of}
+use Rattle.pf_script.proofs.MadeActs.{none_is, one_is}
 use Rattle.pf_script.proofs.OverFiles.{over_on_disk}
 use Rattle.pf_script.proofs.OverGiven.{over_idle}
 use Rattle.pf_script.proofs.Refusing.{none_taken}
@@ -53,7 +54,7 @@ module _ (key : List ℕ) (k : ℕ) (old : SessionState) (seated : IsSeated key 
   module _ (whole : old.broken ≡ false) (was_changed : old.changed ≡ true) (mid : SessionState) where
     abbrev line_under : (seen : Seen) (reply : Reply) → IsAnswered reply → ((a b : Honest) → before.honest ≡ Some a → after.honest ≡ Some b → Ran (LeavesApart old.name) (KeepsApart old.name) a b → KnownUnder key false (lines.Close k) seen reply old whole None a b)
         → OnDisk before after (SeatUnder key false (lines.Close k) seen reply (Some old) None)
-    line_under seen reply answered known = on_disk key false (lines.Close k) seen reply old whole None before after answered keeps aside known
+    line_under seen reply answered known = on_disk key false (lines.Close k) seen reply old whole None before after answered (λ seat deed is. is) seated.of_script.is_target (λ n none. absurd none) keeps aside known
 
     by_end : (result : Result (Unit {0}) FlushFault) → UndamagedFlush result old before → FlushEnds result old mid before after random random' → SeatAgrees key false (lines.Close k) (close_result false result) (Some old) None before after random random'
     by_end result undamaged (not_begun words fewer seen same stays said) =
@@ -70,6 +71,7 @@ module _ (key : List ℕ) (k : ℕ) (old : SessionState) (seated : IsSeated key 
                 shows = no_file refl refl;
                 spares = λ s has apart. has;
                 concerned = none_concerned false (lines.Close k) (Some old);
+                made = none_is (MadeBy (lines.Close k) (Own (seat_on base old)));
                 turn = λ _. words_failed (none_to_close key k (seat_on base old)) (record { host = refl; random = refl }) (no_last_flush k (seat_on base old) was_changed whole fewer) refl;
                 idle = tt;
               });
@@ -91,6 +93,7 @@ module _ (key : List ℕ) (k : ℕ) (old : SessionState) (seated : IsSeated key 
                 shows = no_file refl refl;
                 spares = one_spares seats (Flush (seat_of old.key old.name next.0)) false;
                 concerned = one_concerned false (lines.Close k) old false next.0;
+                made = one_is (MadeBy (lines.Close k) (Own (seat_on base old))) (flush_act old next.0 false) refl;
                 turn = λ _. failed_turn (stands_on key (reading a.now)) key k (seat_on base old) next.0 these words blame was_changed whole next.1 blames;
                 idle = idle_answered (flush_reply (fault_of blame)) (blame_answered blame) (flush_act old next.0 false ∷ []);
               });
@@ -117,6 +120,7 @@ module _ (key : List ℕ) (k : ℕ) (old : SessionState) (seated : IsSeated key 
                 shows = no_file refl refl;
                 spares = one_spares seats (Flush (seat_of old.key old.name next.0)) true;
                 concerned = one_concerned false (lines.Close k) old true next.0;
+                made = one_is (MadeBy (lines.Close k) (Own own)) (flush_act old next.0 true) refl;
                 turn = λ _. accepted (none_to_close key k own) (record { host = refl; random = refl }) (flushes_last k own next.0 was_changed whole next.1);
                 idle = tt;
               });
@@ -154,11 +158,12 @@ module _ (key : List ℕ) (k : ℕ) (old : SessionState) (seated : IsSeated key 
         shows = no_file refl refl;
         spares = λ s has apart. has;
         concerned = none_concerned false (lines.Close k) (Some old);
+        made = none_is (MadeBy (lines.Close k) seat);
         turn = λ _. idle_turn (stands_on key (reading a.now)) seat looks.shown looks.seat_is looks.broken_is (inr (looks.broken_is ∙ is));
         idle = tt;
       })
   let_under false is (inl clean) stays =
-      on_disk key false (lines.Close k) (seen_by [] [] false false) (replies.Closed old.broken) old is None before after tt keeps aside
+      on_disk key false (lines.Close k) (seen_by [] [] false false) (replies.Closed old.broken) old is None before after tt (λ seat deed is. is) seated.of_script.is_target (λ n none. absurd none) keeps aside
       (λ a b is_a is_b ran book seats agrees base on. record {
         acts = [];
         left = seats;
@@ -167,6 +172,7 @@ module _ (key : List ℕ) (k : ℕ) (old : SessionState) (seated : IsSeated key 
         shows = no_file refl refl;
         spares = λ s has apart. has;
         concerned = none_concerned false (lines.Close k) (Some old);
+        made = none_is (MadeBy (lines.Close k) (Own (seat_on base old)));
         turn = λ _. idle_turn (stands_on key (reading a.now)) (Own (seat_on base old)) (seat_on base old) refl refl (inl clean);
         idle = tt;
       })

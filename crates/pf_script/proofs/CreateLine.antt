@@ -26,7 +26,7 @@ use Rattle.pf_script.specs.Book.{Book, Seal}
 use Rattle.pf_script.specs.BookActs.{Creation, Act, Among}
 use Rattle.pf_script.specs.BookDebts.{Unchanged, seat_of}
 use Rattle.pf_script.specs.BookSeats.{CoversNone, CoversMade, KeepsUnder}
-use Rattle.pf_script.specs.BookTurns.{ShowsUnder, no_file, of_book, SeatUnder}
+use Rattle.pf_script.specs.BookTurns.{ShowsUnder, no_file, of_book, SeatUnder, MadeBy}
 use Rattle.pf_script.specs.Desk.{no_file as no_seat, whole_file, seat_on}
 use Rattle.pf_script.specs.DeskSteps.{Concerns}
 use Rattle.pf_script.specs.FileTurns.{stands_on, answers_of, seen_over, FilesAfter, whole_file as whole_over, LineOver, SeatFiles}
@@ -45,6 +45,7 @@ use Rattle.pf_script.proofs.CallKeeping.{at_both, both_with, read_image}
 use Rattle.pf_script.proofs.CreateKeeping.{create_keeps}
 use Rattle.pf_script.proofs.Flushed.{SeenOf, counted_kind}
 use Rattle.pf_script.proofs.FlushUnder.{seen_in}
+use Rattle.pf_script.proofs.MadeActs.{one_is}
 use Rattle.pf_script.proofs.OfScript.{of_created}
 use Rattle.pf_script.proofs.OnEmpty.{not_of, made_seat, BothHalves, empty_idle, concerns, spares_given, empty_goes, empty_wants, empty_under, empty_over, empty_turns, seat_first, seat_none}
 use Rattle.pf_script.proofs.OverGiven.{none_contained, no_host_fault, no_words_fault, on_reading, same_over}
@@ -134,6 +135,7 @@ module _ (key : List ℕ) (k : ℕ) (name : Name) (utf8 : IsUtf8 name) (before a
           shows = shows _ seats;
           spares = one_spares seats (Creation (seat_of key name sheet)) done;
           concerned = only_it done;
+          made = one_is (MadeBy line Empty) (act done) refl;
           idle = idle_answered reply answered (act done ∷ []);
           turn = λ _. turn _;
         }))

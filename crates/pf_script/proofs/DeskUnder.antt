@@ -2,7 +2,7 @@
 use Rattle.std.proofs.Common.{◌≡◌, ◌≢◌, inl, inr, ⊎_elim, Bool, List, [], ℕ, ◌<◌, refl, sym, ◌∙◌, ap, subst, Option, Some, Result, Ok, Err, length}
 use Rattle.std.specs.Prelude.{IfSome}
 use Rattle.std.proofs.lemmas.List.{get_or-set_same, get_or-set_other, length-set}
-use Rattle.pf_io.specs.Disk.{Name, reading}
+use Rattle.pf_io.specs.Disk.{reading}
 use Rattle.pf_io.specs.Host.{HostState}
 use Rattle.pf_io.specs.Moments.{Honest}
 use Rattle.pf_io.specs.Words.{WordsState}
@@ -13,7 +13,7 @@ use Rattle.pf_script.specs.Book.{Book, Seal}
 use Rattle.pf_script.specs.BookActs.{Act, Among, booked_all}
 use Rattle.pf_script.specs.BookDebts.{seat_of}
 use Rattle.pf_script.specs.BookSeats.{SparesSeats}
-use Rattle.pf_script.specs.BookTurns.{ShowsUnder, no_file, of_book, other_file, Knows, LineUnder, SeatUnder, SeatAgrees, SeatBooked, IsStateUnder, KnowsLine, ConcernsLine, TurnUnder, DeskUnder, DeskAgrees, DeskBooked}
+use Rattle.pf_script.specs.BookTurns.{ShowsUnder, no_file, of_book, other_file, Knows, LineUnder, SeatUnder, SeatAgrees, SeatBooked, IsStateUnder, KnowsLine, MadeBy, TurnUnder, DeskUnder, DeskAgrees, DeskBooked}
 use Rattle.pf_script.specs.FileTurns.{stands_on, DeskFiles}
 use Rattle.pf_script.specs.Desk.{DeskState, session_at, IsDesk}
 use Rattle.pf_script.specs.DeskSteps.{Concerns, Spares}
@@ -25,8 +25,9 @@ use Rattle.pf_script.specs.declared.reply.Reply.{Reply}
 use Rattle.pf_script.specs.declared.line.ScriptLine.TheVariants as lines
 use Rattle.pf_script.specs.declared.reply.Reply.TheVariants as replies
 use Rattle.pf_script.proofs.ActKeeping.{unchanged_now}
+use Rattle.pf_script.proofs.MadeActs.{none_is}
 use Rattle.pf_script.proofs.Refusing.{idle_seen, none_taken}
-use Rattle.pf_script.proofs.DeskLooks.{looks_named, looks_says}
+use Rattle.pf_script.proofs.DeskLooks.{looks_says}
 use Rattle.pf_script.proofs.DeskOver.{desk_files}
 use Rattle.pf_script.proofs.Desking.{SaysOther, same_or_not, others_apart}
 use Rattle.pf_script.proofs.Desking as desking
@@ -80,13 +81,6 @@ module _ (old : DeskState) (desk : IsDesk old) (k : ℕ) (below : k < SEATS) (ta
       knows_seat : KnowsLine book state line reply → Knows book state.key (seat_at state k) line reply
       knows_seat knows = subst (λ (o : Option ℕ). IfSome o (λ i. Knows book state.key (seat_at state i) line reply)) names knows
 
-      concerned : (name : Name) → Among under.acts name → ConcernsLine line state name
-      concerned name among = by_concern (under.concerned name among)
-        where
-          by_concern : Concerns taken line (session_at old k) name → ConcernsLine line state name
-          by_concern (inl has) = inr (k, names, (looks_named (seat_at state k) (session_at old k) name (looks k)).0 has)
-          by_concern (inr gives) = inl gives.0
-
       others : (j : ℕ) → seat_of_line line ≢ Some j → seat_at then_state j ≡ seat_at state j
       others j apart = get_or-set_other state.seats k j under.after Empty (λ same. apart (names ∙ ap (λ (i : ℕ). Some i) (sym same)))
 
@@ -101,7 +95,7 @@ module _ (old : DeskState) (desk : IsDesk old) (k : ℕ) (below : k < SEATS) (ta
           eight = length-set state.seats k under.after ∙ is_state.eight;
           shows = λ j. ⊎_elim (λ same. on_it j same) (λ apart. off_it j apart) (same_or_not j k);
         };
-        on_seat = record { key_is = refl; concerned = concerned; idle = under.idle; others = others };
+        on_seat = record { key_is = refl; made = λ act has. (k, names, under.made act has); idle = under.idle; others = others };
         turn = λ knows. on_seat k taken under.after names state_says (turn_of (knows_seat knows)) refl;
       }
 
@@ -130,7 +124,7 @@ blank_booked desk host words = record {
         after = state;
         did = (unchanged_now a, λ s has. has);
         is_state = is_state;
-        on_seat = record { key_is = refl; concerned = λ name none. absurd none; idle = tt; others = λ j apart. refl };
+        on_seat = record { key_is = refl; made = none_is (λ deed. (k : ℕ) × (seat_of_line lines.Blank ≡ Some k) × MadeBy lines.Blank (seat_at state k) deed); idle = tt; others = λ j apart. refl };
         turn = λ _. silent refl refl refl refl refl;
       });
   over = both_same (DeskFiles lines.Blank idle_seen replies.None desk desk) host.honest host.honest refl

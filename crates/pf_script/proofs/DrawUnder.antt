@@ -1,5 +1,5 @@
 -- The line `draw` under a book and over files, from the contract of a drawing.
-use Rattle.std.proofs.Common.{◌≡◌, inl, Bool, true, false, List, [], ◌∷◌, ◌++◌, length, ℕ, ◌<◌, refl, sym, ap, subst, Option, Some, None, Result}
+use Rattle.std.proofs.Common.{◌≡◌, Bool, true, false, List, [], ◌∷◌, ◌++◌, length, ℕ, ◌<◌, refl, sym, ◌∙◌, ap, subst, Option, Some, None, Result}
 use Rattle.node_tree.specs.Sheet.{Sheet}
 use Rattle.pf_io.specs.Disk.{reading}
 use Rattle.pf_io.specs.Host.{HostState, Both, OnDisk}
@@ -9,11 +9,9 @@ use Rattle.pf_io.proofs.Telling.{both_same, told_none}
 use Rattle.pf_session.specs.Asking.{IsTaken as AreTaken}
 use Rattle.pf_session.specs.Drawing.{DrawGoes, drawn_before, drawn_now, not_drawn}
 use Rattle.pf_session.specs.State.{SessionState}
-use Rattle.pf_script.specs.BookSeats.{Covers}
-use Rattle.pf_script.specs.BookTurns.{ShowsUnder, of_book, SeatUnder, SeatAgrees}
+use Rattle.pf_script.specs.BookTurns.{ShowsUnder, of_book, SeatUnder, SeatAgrees, MadeBy}
 use Rattle.pf_script.specs.FileTurns.{stands_on, SeatFiles}
 use Rattle.pf_script.specs.Desk.{IsSeated, seat_on}
-use Rattle.pf_script.specs.DeskSteps.{Concerns}
 use Rattle.pf_script.specs.Rules.{NoneRefuses, rules}
 use Rattle.pf_script.specs.Script.{Own}
 use Rattle.pf_script.specs.Turns.{SeatTurn, Standing, accepted, words_failed, drawn_again, drawn_now as draws_now, no_nonce}
@@ -22,12 +20,12 @@ use Rattle.pf_script.specs.declared.line.ScriptLine.TheVariants as lines
 use Rattle.pf_script.specs.declared.reply.Reply.{Reply}
 use Rattle.pf_script.specs.declared.reply.Reply.TheVariants as replies
 use Rattle.pf_script.proofs.ActKeeping.{unchanged_now}
+use Rattle.pf_script.proofs.Dealing.{idle_deals}
 use Rattle.pf_script.proofs.DrawLine.{draw_result, with_drawn}
+use Rattle.pf_script.proofs.MadeActs.{none_is}
 use Rattle.pf_script.proofs.OverFiles.{own_over, still_over}
-use Rattle.pf_script.proofs.ReadKeeping.{draw_keeps}
 use Rattle.pf_script.proofs.Refusing.{none_then, none_taken}
 use Rattle.pf_script.proofs.SeatCalls.{seen_by}
-use Rattle.pf_script.proofs.StepKeeping.{keeps_more}
 use Rattle.pf_script.proofs.Under.{IsAnswered, idle_answered, own_under, none_concerned}
 
 module _ (key : List ℕ) (k : ℕ) (old : SessionState) (seated : IsSeated key old) (whole : old.broken ≡ false) (new : SessionState) (host : HostState) (random random' : WordsState) (result : Result (List ℕ) WordsFault) (goes : DrawGoes result old new random random') where
@@ -39,7 +37,7 @@ module _ (key : List ℕ) (k : ℕ) (old : SessionState) (seated : IsSeated key 
       let seen = seen_by [] words false of_words in
       both_same (SeatUnder key false (lines.Draw k) seen reply (Some old) (Some new)) host.honest host.honest refl
       (λ a. own_under key false (lines.Draw k) seen reply old whole (Some new) a a answered
-      (keeps_more (Covers old) (Covers new) (λ name. name ≡ old.name) (Concerns false (lines.Draw k) (Some old)) a a (λ name is. inl is) (draw_keeps old seated.of_script new result random random' a goes))
+      (idle_deals false (lines.Draw k) old (Some new) a a (λ n has. has ∙ ap (λ (s : SessionState). s.name) same) (unchanged_now a))
       (λ book seats agrees base on. record {
         acts = [];
         left = seats;
@@ -48,6 +46,7 @@ module _ (key : List ℕ) (k : ℕ) (old : SessionState) (seated : IsSeated key 
         shows = subst (λ (s : SessionState). ShowsUnder book seats (Own (record (seat_on base old) { drawn = drawn })) (Some s)) (sym same) (of_book base (record old { drawn = drawn }) whole on.seated (with_drawn key k old whole new base drawn on.kept) refl refl);
         spares = λ s has apart. has;
         concerned = none_concerned false (lines.Draw k) (Some old);
+        made = none_is (MadeBy (lines.Draw k) (Own (seat_on base old)));
         turn = λ _. turns (stands_on key (reading a.now)) base;
         idle = idle_answered reply answered [];
       }))

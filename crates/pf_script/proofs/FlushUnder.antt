@@ -16,7 +16,7 @@ use Rattle.pf_session.specs.declared.fault.FlushFault.{FlushFault}
 use Rattle.pf_script.specs.BookActs.{Flush}
 use Rattle.pf_script.specs.BookDebts.{DidAll, seat_of}
 use Rattle.pf_script.specs.BookSeats.{IsOfScript, Covers, KeepsUnder}
-use Rattle.pf_script.specs.BookTurns.{ShowsUnder, of_book, other_file, SeatUnder, SeatAgrees, SeenIn}
+use Rattle.pf_script.specs.BookTurns.{ShowsUnder, of_book, other_file, SeatUnder, SeatAgrees, SeenIn, MadeBy}
 use Rattle.pf_script.specs.FileTurns.{stands_on, FilesAfter, ShowsOver, SeatFiles}
 use Rattle.pf_script.specs.Desk.{IsSeated, seat_on}
 use Rattle.pf_script.specs.Script.{OwnSeat, Own}
@@ -31,6 +31,7 @@ use Rattle.pf_script.proofs.ActKeeping.{one_spares}
 use Rattle.pf_script.proofs.CallKeeping.{at_both, read_image, same_disk, flush_keeps}
 use Rattle.pf_script.proofs.FlushLine.{flush_result, flush_act, resealed_own}
 use Rattle.pf_script.proofs.Flushed.{SeenOf, FlushEnds, not_begun, not_ended, was_ended, flush_ends, host_blamed, fault_of}
+use Rattle.pf_script.proofs.MadeActs.{none_is, one_is}
 use Rattle.pf_script.proofs.OverFiles.{reopens_reads, has_reopens, left_flush, files_one, shows_whole, file_stands, over_on_disk}
 use Rattle.pf_script.proofs.OverGiven.{on_reading}
 use Rattle.pf_script.proofs.Refusing.{none_then}
@@ -86,9 +87,9 @@ failed_turn standing key k own next these words (ByDamage damage) whole seals bl
 
 module _ (key : List ℕ) (k : ℕ) (old : SessionState) (seated : IsSeated key old) (whole : old.broken ≡ false) (new : SessionState) (before after : HostState) (random random' : WordsState)
     (keeps : OnDisk before after (KeepsUnder (Covers old) (Covers new) (λ name. name ≡ old.name))) (aside : Aside old.name before after) (reads : ReadsAsImage after) where
-  abbrev line_under : (seen : Seen) (reply : Reply) → IsAnswered reply → ((a b : Honest) → before.honest ≡ Some a → after.honest ≡ Some b → Ran (LeavesApart old.name) (KeepsApart old.name) a b → KnownUnder key false (lines.Flush k) seen reply old whole (Some new) a b)
+  abbrev line_under : (seen : Seen) (reply : Reply) → IsAnswered reply → new.name ≡ old.name → ((a b : Honest) → before.honest ≡ Some a → after.honest ≡ Some b → Ran (LeavesApart old.name) (KeepsApart old.name) a b → KnownUnder key false (lines.Flush k) seen reply old whole (Some new) a b)
       → OnDisk before after (SeatUnder key false (lines.Flush k) seen reply (Some old) (Some new))
-  line_under seen reply answered known = on_disk key false (lines.Flush k) seen reply old whole (Some new) before after answered keeps aside known
+  line_under seen reply answered named known = on_disk key false (lines.Flush k) seen reply old whole (Some new) before after answered (λ seat deed is. is) seated.of_script.is_target (λ n has. has ∙ named) keeps aside known
 
   by_end : (result : Result (Unit {0}) FlushFault) → UndamagedFlush result old before → FlushEnds result old new before after random random' → SeatAgrees key false (lines.Flush k) (flush_result result) (Some old) (Some new) before after random random'
   by_end result undamaged (not_begun words fewer seen same stays said) =
@@ -96,7 +97,7 @@ module _ (key : List ℕ) (k : ℕ) (old : SessionState) (seated : IsSeated key 
       (record {
         seen = seen_by [] words false true;
         was_seen = seen_in [] words false true before after random random' seen;
-        under = line_under (seen_by [] words false true) replies.WordsFault tt
+        under = line_under (seen_by [] words false true) replies.WordsFault tt (ap (λ (s : SessionState). s.name) same)
             (λ a b is is2 ran book seats agrees base on. record {
               acts = [];
               left = seats;
@@ -105,6 +106,7 @@ module _ (key : List ℕ) (k : ℕ) (old : SessionState) (seated : IsSeated key 
               shows = subst (λ (s : SessionState). ShowsUnder book seats (Own (seat_on base old)) (Some s)) (sym same) (of_book base old whole on.seated on.kept refl refl);
               spares = λ s has apart. has;
               concerned = none_concerned false (lines.Flush k) (Some old);
+              made = none_is (MadeBy (lines.Flush k) (Own (seat_on base old)));
               turn = λ _. words_failed (none_then [] (Own (seat_on base old)) (seat_on base old) refl whole tt) (record { host = refl; random = refl }) (no_flush k (seat_on base old) fewer) refl;
               idle = tt;
             });
@@ -115,7 +117,7 @@ module _ (key : List ℕ) (k : ℕ) (old : SessionState) (seated : IsSeated key 
       (record {
         seen = seen_by these words (host_blamed blame) false;
         was_seen = seen_in these words (host_blamed blame) false before after random random' seen;
-        under = line_under (seen_by these words (host_blamed blame) false) (flush_reply (fault_of blame)) (blame_answered blame)
+        under = line_under (seen_by these words (host_blamed blame) false) (flush_reply (fault_of blame)) (blame_answered blame) name_is
             (λ a b is is2 ran book seats agrees base on.
             let next = seals base on.stood.as_sheet.stands.linked on.kept.backed in record {
               acts = flush_act old next.0 false ∷ [];
@@ -126,6 +128,7 @@ module _ (key : List ℕ) (k : ℕ) (old : SessionState) (seated : IsSeated key 
               shows = other_file (broken_seat (seat_on base old)) new (inl broken) (sym key_is) (sym name_is) (sym broken) refl refl;
               spares = one_spares seats (Flush (seat_of old.key old.name next.0)) false;
               concerned = one_concerned false (lines.Flush k) old false next.0;
+              made = one_is (MadeBy (lines.Flush k) (Own (seat_on base old))) (flush_act old next.0 false) refl;
               turn = λ _. failed_turn (stands_on key (reading a.now)) key k (seat_on base old) next.0 these words blame whole next.1 blames;
               idle = idle_answered (flush_reply (fault_of blame)) (blame_answered blame) (flush_act old next.0 false ∷ []);
             });
@@ -136,7 +139,7 @@ module _ (key : List ℕ) (k : ℕ) (old : SessionState) (seated : IsSeated key 
       (record {
         seen = seen_by these words false false;
         was_seen = seen_in these words false false before after random random' seen;
-        under = line_under (seen_by these words false false) replies.Flushed tt
+        under = line_under (seen_by these words false false) replies.Flushed tt (ap (λ (s : SessionState). s.name) same)
             (λ a b is is2 ran book seats agrees base on.
             let next = seals base on.stood.as_sheet.stands.linked on.kept.backed in
             let own = seat_on base old in
@@ -154,6 +157,7 @@ module _ (key : List ℕ) (k : ℕ) (old : SessionState) (seated : IsSeated key 
                   (record { backed = next.2.0.backed; rests = λ _. record { stands = next.2.0; clean = dirty } }) (ap Own (resealed_own base old new words next.0 next.1 next.2.0 same dirty)) refl;
               spares = one_spares seats (Flush (seat_of old.key old.name next.0)) true;
               concerned = one_concerned false (lines.Flush k) old true next.0;
+              made = one_is (MadeBy (lines.Flush k) (Own own)) (flush_act old next.0 true) refl;
               turn = λ _. accepted (none_then [] (Own own) own refl whole tt) (record { host = refl; random = refl }) (flushed_line k own next.0 next.1);
               idle = tt;
             });

@@ -39,6 +39,8 @@ pub mod SeatCalls
 pub mod FlushLine
 pub mod OverGiven
 pub mod OverFiles
+pub mod MadeActs
+pub mod Dealing
 pub mod Under
 pub mod FlushUnder
 pub mod CloseUnder

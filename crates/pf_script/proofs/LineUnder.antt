@@ -1,5 +1,5 @@
 -- A line that is one change, under a book.
-use Rattle.std.proofs.Common.{◌≡◌, inl, Bool, true, false, List, [], ◌∷◌, ℕ, refl, sym, subst, Option, Some, length}
+use Rattle.std.proofs.Common.{◌≡◌, inl, Bool, true, false, List, [], ◌∷◌, ℕ, refl, sym, ◌∙◌, subst, Option, Some, length}
 use Rattle.std.proofs.lemmas.List.Elements.{Contains-push}
 use Rattle.std.specs.Prelude.{Contains}
 use Rattle.node_tree.specs.Applying.{Step}
@@ -33,6 +33,7 @@ use Rattle.pf_script.proofs.ChangeTold.{Outcome, Went, Broke, Lacked, Wanted, Gr
 use Rattle.pf_script.proofs.ChangeOver.{begins_over, change_over, ends_over, on_files}
 use Rattle.pf_script.proofs.ChangeUnder.{Progress, Fell, change_known}
 use Rattle.pf_script.proofs.Flushed.{host_blamed, fault_of}
+use Rattle.pf_script.proofs.MadeActs.{MayFlush, are_flushes}
 use Rattle.pf_script.proofs.OverGiven.{no_words_fault}
 use Rattle.pf_script.proofs.SeatCalls.{seen_by}
 use Rattle.pf_script.proofs.Under.{IsAnswered, idle_answered, blame_answered, OnBase, on_disk}
@@ -53,7 +54,7 @@ begins key line seen reply old whole new a b book seats agrees base on mine stan
   stood = on.stood;
 }
 
-module _ (key : List ℕ) (line : ScriptLine) (old new : SessionState) (seated : IsSeated key old) where
+module _ (key : List ℕ) (line : ScriptLine) (may : MayFlush line) (old new : SessionState) (seated : IsSeated key old) where
   -- a line that ended with a fault
   pub fell_under : (seen : Seen) (reply : Reply) → IsAnswered reply → (these : List Answer) (words : List (List ℕ)) (of_host of_words : Bool) → seen ≡ seen_by these words of_host of_words → (a b : Honest) (book : Book) (seats : List Seal) (agrees : Agrees book seats a.now) (base : Sheet)
       (image : IsImage a.now (reading a.now)) → Fell key (seat_on base old) line book seats a agrees image base seated.of_script.is_target (stands_on key (reading a.now)) b new words of_host of_words reply
@@ -66,11 +67,12 @@ module _ (key : List ℕ) (line : ScriptLine) (old new : SessionState) (seated :
     shows = fell.shows;
     spares = fell.spares;
     concerned = λ n among. inl (fell.only n among);
+    made = λ act has. may (Own (seat_on base old)) act.deed (fell.made act has);
     idle = idle_answered reply answered fell.acts;
     turn = λ _. subst (λ (s : Seen). SeatTurn (stands_on key (reading a.now)) key false (Own (seat_on base old)) line s reply fell.acts fell.after) (sym is) (fell.turn these);
   }
 
-module _ (key : List ℕ) (line : ScriptLine) (old new : SessionState) (seated : IsSeated key old) (whole : old.broken ≡ false) (before after : HostState) (random random' : WordsState)
+module _ (key : List ℕ) (line : ScriptLine) (may : MayFlush line) (old new : SessionState) (seated : IsSeated key old) (whole : old.broken ≡ false) (named : new.name ≡ old.name) (before after : HostState) (random random' : WordsState)
     (keeps : OnDisk before after (KeepsUnder (Covers old) (Covers new) (λ name. name ≡ old.name))) (aside : Aside old.name before after) (reads : ReadsAsImage after) where
   module _ (step : Step) (replied : Bool → Reply) (asks : (size : ℕ) → AsksFor line size (step ∷ []))
       (replies_to : (flushed : Bool) (sheets : List Sheet) → Grew flushed [] sheets → IsChangeReply sheets line (replied flushed)) (passes : (base : Sheet) (given : List Answer) → NoneRefuses (rules key false (Own (seat_on base old)) line given)) (answered : (flushed : Bool) → IsAnswered (replied flushed)) where
@@ -78,7 +80,7 @@ module _ (key : List ℕ) (line : ScriptLine) (old new : SessionState) (seated :
     line_under (Went flushed) is = record {
       seen = seen_by is.these is.words false false;
       was_seen = record { answers = is.told; words = is.taken; of_host = is.on_host; of_words = is.on_words };
-      under = on_disk key false line (seen_by is.these is.words false false) (replied flushed) old whole (Some new) before after (answered flushed) keeps aside
+      under = on_disk key false line (seen_by is.these is.words false false) (replied flushed) old whole (Some new) before after (answered flushed) may seated.of_script.is_target (λ n has. has ∙ named) keeps aside
           (λ a b is_a is_b ran book seats agrees base on.
           let own = seat_on base old in
           let standing = stands_on key (reading a.now) in
@@ -93,6 +95,7 @@ module _ (key : List ℕ) (line : ScriptLine) (old new : SessionState) (seated :
                 (subst (λ (k : List ℕ). Contains then.left (seat_of k new.name out.base_now)) (sym then.was.key_is) (subst (λ (n : Name). Contains then.left (seat_of old.key n out.base_now)) (sym then.was.name_is) then.seated)) then.was.kept refl refl;
             spares = then.spares;
             concerned = λ n among. inl (then.only n among);
+            made = λ act has. may (Own own) act.deed (are_flushes own out.sheets_now act has);
             idle = idle_answered (replied flushed) (answered flushed) (flushes own out.sheets_now);
             turn = λ _.
                 accepted (passes base is.these) (record { host = refl; random = refl })
@@ -108,10 +111,10 @@ module _ (key : List ℕ) (line : ScriptLine) (old new : SessionState) (seated :
     line_under (Broke blame) is = record {
       seen = seen_by is.these is.words (host_blamed blame) false;
       was_seen = record { answers = is.told; words = is.taken; of_host = is.on_host; of_words = is.on_words };
-      under = on_disk key false line (seen_by is.these is.words (host_blamed blame) false) (flush_reply (fault_of blame)) old whole (Some new) before after (blame_answered blame) keeps aside
+      under = on_disk key false line (seen_by is.these is.words (host_blamed blame) false) (flush_reply (fault_of blame)) old whole (Some new) before after (blame_answered blame) may seated.of_script.is_target (λ n has. has ∙ named) keeps aside
           (λ a b is_a is_b ran book seats agrees base on.
           let standing = stands_on key (reading a.now) in
-          fell_under key line old new seated (seen_by is.these is.words (host_blamed blame) false) (flush_reply (fault_of blame)) (blame_answered blame) is.these is.words (host_blamed blame) false refl a b book seats agrees base on.image
+          fell_under key line may old new seated (seen_by is.these is.words (host_blamed blame) false) (flush_reply (fault_of blame)) (blame_answered blame) is.these is.words (host_blamed blame) false refl a b book seats agrees base on.image
           (change_known key (seat_on base old) line book seats a agrees on.image base seated.of_script.is_target standing a b old new [] [] is.words [] base step [] (asks (length (now base old.tree))) (passes base) seated.of_script
           (begins key line (seen_by is.these is.words (host_blamed blame) false) (flush_reply (fault_of blame)) old whole (Some new) a b book seats agrees base on seated standing) before after is_a is_b ran (read_image after.honest b is_b reads)
           (Broke blame) is.left));
@@ -124,10 +127,10 @@ module _ (key : List ℕ) (line : ScriptLine) (old new : SessionState) (seated :
     line_under Lacked is = record {
       seen = seen_by is.these is.words false true;
       was_seen = record { answers = is.told; words = is.taken; of_host = is.on_host; of_words = is.on_words };
-      under = on_disk key false line (seen_by is.these is.words false true) replies.WordsFault old whole (Some new) before after tt keeps aside
+      under = on_disk key false line (seen_by is.these is.words false true) replies.WordsFault old whole (Some new) before after tt may seated.of_script.is_target (λ n has. has ∙ named) keeps aside
           (λ a b is_a is_b ran book seats agrees base on.
           let standing = stands_on key (reading a.now) in
-          fell_under key line old new seated (seen_by is.these is.words false true) replies.WordsFault tt is.these is.words false true refl a b book seats agrees base on.image
+          fell_under key line may old new seated (seen_by is.these is.words false true) replies.WordsFault tt is.these is.words false true refl a b book seats agrees base on.image
           (change_known key (seat_on base old) line book seats a agrees on.image base seated.of_script.is_target standing a b old new [] [] is.words [] base step [] (asks (length (now base old.tree))) (passes base) seated.of_script
           (begins key line (seen_by is.these is.words false true) replies.WordsFault old whole (Some new) a b book seats agrees base on seated standing) before after is_a is_b ran (read_image after.honest b is_b reads) Lacked is.left));
       over = on_files (Ran (LeavesApart old.name) (KeepsApart old.name)) key line (seen_by is.these is.words false true) replies.WordsFault old whole new before after aside (λ a b is_a is_b ran calm base on. absurd (no_words_fault calm));

@@ -9,7 +9,7 @@ use Rattle.pf_io.specs.Names.{IsTarget, recovery_of}
 use Rattle.pf_io.specs.Words.{WordsState}
 use Rattle.pf_io.specs.declared.faults.Memory.{Memory}
 use Rattle.pf_io.proofs.Telling.{told_none, told_on, both_same, both_weaker}
-use Rattle.pf_session.specs.Aside.{LeavesApart, KeepsApart, LeavesApartBoth, KeepsApartBoth, AsideBoth}
+use Rattle.pf_session.specs.Aside.{Apart, Aside, LeavesApart, KeepsApart, LeavesApartBoth, KeepsApartBoth, AsideBoth}
 use Rattle.pf_session.specs.Creating.{LooksUp}
 use Rattle.pf_session.specs.Faults.{move_of_flush}
 use Rattle.pf_session.specs.Reopening.{AsEither, ReopensAs, Stood}
@@ -20,10 +20,9 @@ use Rattle.pf_session.specs.State.{SessionState}
 use Rattle.pf_session.specs.declared.fault.FlushFault.{FlushFault}
 use Rattle.pf_session.specs.declared.fault.MoveFault.{MoveFault}
 use Rattle.pf_script.specs.Book.{Book, Entry, Seal, Agrees}
-use Rattle.pf_script.specs.BookActs.{Flush, Move, Act}
+use Rattle.pf_script.specs.BookActs.{Opening, Creation, Flush, Move, Act}
 use Rattle.pf_script.specs.BookDebts.{Unchanged, DidAll, seat_of}
-use Rattle.pf_script.specs.BookSeats.{Covers, KeepsUnder}
-use Rattle.pf_script.specs.BookTurns.{SeenIn, of_book, other_file, SeatUnder, SeatAgrees, SeatBooked}
+use Rattle.pf_script.specs.BookTurns.{SeenIn, of_book, other_file, SeatUnder, SeatAgrees, SeatBooked, MadeBy}
 use Rattle.pf_script.specs.Desk.{IsSeated, seat_on}
 use Rattle.pf_script.specs.DeskSteps.{CountsFault, Concerns}
 use Rattle.pf_script.specs.FileTurns.{stands_on, answers_of, seen_over, SeatFiles}
@@ -40,40 +39,41 @@ use Rattle.pf_script.specs.declared.reply.Why.TheVariants as whys
 use Rattle.pf_script.proofs.ActKeeping.{unchanged_now, one_spares}
 use Rattle.pf_script.proofs.CallKeeping.{at_both, both_with, on_to, read_image}
 use Rattle.pf_script.proofs.Composing.{did_on}
+use Rattle.pf_script.proofs.Dealing.{DealsFreely, aside_deals, move_deals}
 use Rattle.pf_script.proofs.Flushed.{FlushEnds, not_begun, not_ended, was_ended, seal_ends, host_blamed, fault_of}
 use Rattle.pf_script.proofs.FlushLine.{flush_act}
+use Rattle.pf_script.proofs.MadeActs.{EachIs, MayFlush, one_is, is_on, are_flushes}
 use Rattle.pf_script.proofs.MoveLine.{move_rules, not_busy, move_passes, move_unasked, never_lacks, too_few_to_move, blamed_reply, short_more, taken_then, CarryBlamed, carry_blamed}
 use Rattle.pf_script.proofs.MoveOver.{looked_answers, not_calm, first_over, moved_files, moved_shows}
 use Rattle.pf_script.proofs.OverFiles.{reopens_stands, files_from, KnownOver, own_over, still_over}
 use Rattle.pf_script.proofs.OverGiven.{same_over, same_files}
 use Rattle.pf_script.proofs.Ruling.{never}
 use Rattle.pf_script.proofs.Seats.{seats_after}
-use Rattle.pf_script.proofs.MoveCallKeeping.{move_keeps}
 use Rattle.pf_script.proofs.MoveUnder.{FirstIn, first_in, FirstKnown, first_known, did_move, spares_move, only_move, seals_moved, renamed_seat, moved_kept}
 use Rattle.pf_script.proofs.Refusing.{none_taken, first_then}
 use Rattle.pf_script.proofs.SeatCalls.{seen_by, false_true}
-use Rattle.pf_script.proofs.StepKeeping.{keeps_more}
+use Rattle.pf_script.proofs.Showing.{same_session}
+use Rattle.pf_script.proofs.SparesAll.{others_kept, others_then}
 use Rattle.pf_script.proofs.Under.{IsAnswered, KnownUnder, blame_answered, idle_answered, own_under, own_idle, one_concerned, flush_did, left_seat}
 
-module _ (key : List ℕ) (k : ℕ) (to : Name) (old : SessionState) (seated : IsSeated key old) (whole : old.broken ≡ false) (new : SessionState) (before after : HostState) (random random' : WordsState)
-    (keeps : OnDisk before after (KeepsUnder (Covers old) (Covers new) (λ name. (name ≡ to) ⊎ (name ≡ old.name)))) where
+module _ (key : List ℕ) (k : ℕ) (to : Name) (old : SessionState) (seated : IsSeated key old) (whole : old.broken ≡ false) (new : SessionState) (before after : HostState) (random random' : WordsState) where
   abbrev line : ScriptLine
   line = lines.Move k to
+
+  -- the line may flush its seat before it moves
+  may_flush : MayFlush line
+  may_flush seat (Opening seal) is = is
+  may_flush seat (Creation seal) is = is
+  may_flush seat (Flush seal) is = is
+  may_flush seat (Move from seal) is = absurd is
+
+  move_made : (own : OwnSeat) (sheets : List Sheet) (act : Act) → MadeBy line (Own own) act.deed → EachIs (MadeBy line (Own own)) (flushes own sheets ++ act ∷ [])
+  move_made own sheets act is = is_on (MadeBy line (Own own)) (flushes own sheets) (act ∷ []) (λ one has. may_flush (Own own) one.deed (are_flushes own sheets one has)) (one_is (MadeBy line (Own own)) act is)
 
   -- the two names are concerned
   pub both_concerned : (n : Name) → (n ≡ to) ⊎ (n ≡ old.name) → Concerns false line (Some old) n
   both_concerned n (inl same) = inr (ap (λ (x : Name). Some x) (sym same), refl)
   both_concerned n (inr same) = inl same
-
-  pub on_move : (P : Honest → Honest → Type 0) (seen : Seen) (reply : Reply) → IsAnswered reply → OnDisk before after P → ((a b : Honest) → before.honest ≡ Some a → after.honest ≡ Some b → P a b → KnownUnder key false line seen reply old whole (Some new) a b)
-      → OnDisk before after (SeatUnder key false line seen reply (Some old) (Some new))
-  on_move P seen reply answered holds known =
-      both_with P (SeatUnder key false line seen reply (Some old) (Some new)) before.honest after.honest holds
-      (λ a b is is2 p.
-      own_under key false line seen reply old whole (Some new) a b answered
-      (keeps_more (Covers old) (Covers new) (λ name. (name ≡ to) ⊎ (name ≡ old.name)) (Concerns false line (Some old)) a b both_concerned
-      (at_both (KeepsUnder (Covers old) (Covers new) (λ name. (name ≡ to) ⊎ (name ≡ old.name))) before.honest after.honest a b is is2 keeps))
-      (known a b is is2 p))
 
   -- nothing was changed
   idle : (reply : Reply) (these : List Answer) (words : List (List ℕ)) (of_host of_words : Bool) → new ≡ old → OnDisk before after Unchanged → Both before.given after.given (IsMore these) → Both random.left random'.left (AreTaken words)
@@ -135,6 +135,28 @@ module _ (key : List ℕ) (k : ℕ) (to : Name) (old : SessionState) (seated : I
     abbrev OnBoth : Honest → Honest → Type 0
     OnBoth = Ran (LeavesApartBoth old.name to) (KeepsApartBoth old.name to)
 
+    on_move : (seen : Seen) (reply : Reply) → IsAnswered reply → ((a b : Honest) → before.honest ≡ Some a → after.honest ≡ Some b → OnBoth a b → DealsFreely false line old (Some new) a b)
+        → ((a b : Honest) → before.honest ≡ Some a → after.honest ≡ Some b → OnBoth a b → KnownUnder key false line seen reply old whole (Some new) a b) → OnDisk before after (SeatUnder key false line seen reply (Some old) (Some new))
+    on_move seen reply answered deals known =
+        both_with OnBoth (SeatUnder key false line seen reply (Some old) (Some new)) before.honest after.honest aside (λ a b is is2 ran. own_under key false line seen reply old whole (Some new) a b answered (deals a b is is2 ran) (known a b is is2 ran))
+
+    -- under a book that does not have the name: what was done to the two names
+    ends_at : (new.broken ≡ true) ⊎ (new.name ≡ to) → (session : SessionState) → Some new ≡ Some session → session.broken ≡ false → session.name ≡ to
+    ends_at (inl broken) session is well = absurd (false_true session.broken (ap (λ (s : SessionState). s.broken) (same_session new session is) ∙ broken) well)
+    ends_at (inr named) session is well = ap (λ (s : SessionState). s.name) (same_session new session is) ∙ named
+
+    moves_freely : (start : HostState) → IsFree to before start → (done : Bool) → (new.broken ≡ true) ⊎ (new.name ≡ to) → (a b : Honest) → before.honest ≡ Some a → after.honest ≡ Some b → OnBoth a b → DealsFreely false line old (Some new) a b
+    moves_freely start free done ends a b is is2 ran =
+        let m = on_to Unchanged before.honest start.honest a is free.looks.disk in
+        move_deals k to done old (Some new) a b seated.of_script.is_target free.is_target (ends_at ends) ran (read_image after.honest b is2 reads)
+        (sym (ap (λ (d : Disk). d to) m.2.ends) ∙ at_both (λ x y. y.now to ≡ None) before.honest start.honest a m.0 is m.1 free.absent)
+
+    flushes_freely : (start : HostState) → IsFree to before start → Aside old.name start after → new.name ≡ old.name → (a b : Honest) → before.honest ≡ Some a → after.honest ≡ Some b → OnBoth a b → DealsFreely false line old (Some new) a b
+    flushes_freely start free alone named a b is is2 ran =
+        let m = on_to Unchanged before.honest start.honest a is free.looks.disk in
+        aside_deals false line old (Some new) a b may_flush seated.of_script.is_target (λ n has. has ∙ named) false
+        (others_then (Apart old.name) a m.0 b (others_kept (Apart old.name) a m.0 m.2) (at_both (Ran (LeavesApart old.name) (KeepsApart old.name)) start.honest after.honest m.0 b m.1 is2 alone)) (read_image after.honest b is2 reads)
+
     -- over files: from each sheet that the file stands for
     over_move : (seen : Seen) (reply : Reply) → ((a b : Honest) → before.honest ≡ Some a → after.honest ≡ Some b → KnownOver key false line seen reply old whole (Some new) a b) → OnDisk before after (SeatFiles key false line seen reply (Some old) (Some new))
     over_move seen reply known = both_with OnBoth (SeatFiles key false line seen reply (Some old) (Some new)) before.honest after.honest aside (λ a b is is2 ran. own_over key false line seen reply old whole (Some new) a b (known a b is is2))
@@ -172,7 +194,7 @@ module _ (key : List ℕ) (k : ℕ) (to : Name) (old : SessionState) (seated : I
             of_host = subst (λ n. CountsFault (host_blamed blame) n after.faults) free.looks.asked.asked.faults seen.on_host;
             of_words = fails.drawn.took.calm ∙ seen.on_words;
           };
-          under = on_move OnBoth (seen_by given all (host_blamed blame) false) (flush_reply (fault_of blame)) (blame_answered blame) aside
+          under = on_move (seen_by given all (host_blamed blame) false) (flush_reply (fault_of blame)) (blame_answered blame) (flushes_freely start free fails.aside name_is)
               (λ a b is_a is_b ran book seats agrees base on.
               let m = on_to Unchanged before.honest start.honest a is_a free.looks.disk in
               let next = seals base on.stood.as_sheet.stands.linked on.kept.backed in
@@ -188,6 +210,7 @@ module _ (key : List ℕ) (k : ℕ) (to : Name) (old : SessionState) (seated : I
                 shows = other_file (broken_seat own) new (inl broken) (sym key_is) (sym name_is) (sym broken) refl refl;
                 spares = one_spares seats (Flush (seat_of old.key old.name next.0)) false;
                 concerned = one_concerned false line old false next.0;
+                made = one_is (MadeBy line (Own own)) (flush_act old next.0 false) refl;
                 idle = idle_answered (flush_reply (fault_of blame)) (blame_answered blame) acts;
                 turn = λ _. fault_turn _ own given all blame acts (Own (broken_seat own)) (move_unasked key k to old seated whole free.is_target base) (move_passes key k to old seated whole free.is_target base these)
                     (not_flushed_to_move k to own words next.0 first second blame fails.is_changed next.1 refl (short_more (LengthWas to None ∷ []) these old.name blame blames));
@@ -259,7 +282,8 @@ module _ (key : List ℕ) (k : ℕ) (to : Name) (old : SessionState) (seated : I
           (record {
             seen = seen_by (all_given by.these) all_words (host_blamed by.blame) false;
             was_seen = was_seen by.these (host_blamed by.blame) by.told by.on_host;
-            under = on_move OnBoth (seen_by (all_given by.these) all_words (host_blamed by.blame) false) (flush_reply (fault_of by.blame)) (blame_answered by.blame) aside
+            under = on_move (seen_by (all_given by.these) all_words (host_blamed by.blame) false) (flush_reply (fault_of by.blame)) (blame_answered by.blame)
+                (moves_freely start free false (inl (ap (λ (s : SessionState). s.broken) same)))
                 (λ a b is_a is_b ran book seats agrees base on.
                 let own = seat_on base old in
                 let m = m a b is_a is_b book seats agrees on.image base on.entry on.was on.seated on.kept on.stood in
@@ -282,6 +306,7 @@ module _ (key : List ℕ) (k : ℕ) (to : Name) (old : SessionState) (seated : I
                   spares = spares_move key old seated whole book seats m.0 agrees_m image_m base on.entry on.was on.seated on.kept stood_m to free.is_target false mid new f.words t.0 b t.2 nonce between after t.1 is_b absent moves.carries well;
                   concerned = λ n among.
                       both_concerned n (only_move key old seated whole book seats m.0 agrees_m image_m base on.entry on.was on.seated on.kept stood_m to free.is_target false mid new f.words t.0 b t.2 nonce between after t.1 is_b absent moves.carries well n among);
+                  made = move_made own t.2.sheets (record { deed = Move old.name (seat_of old.key to next.next); done = false }) (refl, refl);
                   idle = idle_answered (flush_reply (fault_of by.blame)) (blame_answered by.blame) acts;
                   turn = λ _. fault_turn _ own (all_given by.these) all_words by.blame acts (Own (broken_seat (seat_on t.2.base_now mid))) (move_unasked key k to old seated whole free.is_target base) (move_passes key k to old seated whole free.is_target base (f.these ++ by.these))
                       (not_moved_line k to own (seat_on t.2.base_now mid) f.words (f.drawn.first ∷ f.drawn.second ∷ []) t.2.sheets next.next by.blame t.2.first
@@ -298,7 +323,7 @@ module _ (key : List ℕ) (k : ℕ) (to : Name) (old : SessionState) (seated : I
       carried more told calm moves same = record {
         seen = seen_by (all_given more) all_words false false;
         was_seen = was_seen more false told calm;
-        under = on_move OnBoth (seen_by (all_given more) all_words false false) replies.Moved tt aside
+        under = on_move (seen_by (all_given more) all_words false false) replies.Moved tt (moves_freely start free true (inr (ap (λ (s : SessionState). s.name) same)))
             (λ a b is_a is_b ran book seats agrees base on.
             let own = seat_on base old in
             let m = m a b is_a is_b book seats agrees on.image base on.entry on.was on.seated on.kept on.stood in
@@ -327,6 +352,7 @@ module _ (key : List ℕ) (k : ℕ) (to : Name) (old : SessionState) (seated : I
               spares = spares_move key old seated whole book seats m.0 agrees_m image_m base on.entry on.was on.seated on.kept stood_m to free.is_target true mid new f.words t.0 b t.2 nonce between after t.1 is_b absent moves.carries well;
               concerned = λ n among.
                   both_concerned n (only_move key old seated whole book seats m.0 agrees_m image_m base on.entry on.was on.seated on.kept stood_m to free.is_target true mid new f.words t.0 b t.2 nonce between after t.1 is_b absent moves.carries well n among);
+              made = move_made own t.2.sheets (record { deed = deed; done = true }) (refl, refl);
               idle = tt;
               turn = λ _.
                   accepted (move_passes key k to old seated whole free.is_target base (f.these ++ more)) (record { host = refl; random = refl })
@@ -382,4 +408,4 @@ module _ (key : List ℕ) (k : ℕ) (to : Name) (old : SessionState) (seated : I
 pub move_under : (key : List ℕ) (k : ℕ) (to : Name) (old new : SessionState) (result : Result (Unit {0}) MoveFault) (before after : HostState) (random random' : WordsState) → IsSeated key old → old.broken ≡ false
     → MoveGoes result to old new before after random random' → AsideBoth old.name to before after → UndamagedMove result old before → ReadsAsImage after → SeatBooked key false (lines.Move k to) (move_reply result) (Some old) (Some new) before after random random'
 move_under key k to old new result before after random random' seated whole goes aside undamaged reads =
-    by_case key k to old seated whole new before after random random' (move_keeps old seated.of_script whole to result new before after random random' goes aside reads) aside reads result undamaged goes
+    by_case key k to old seated whole new before after random random' aside reads result undamaged goes

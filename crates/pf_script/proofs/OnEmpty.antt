@@ -17,7 +17,7 @@ use Rattle.pf_script.specs.Book.{Book, Seal, Agrees}
 use Rattle.pf_script.specs.BookActs.{Act}
 use Rattle.pf_script.specs.BookDebts.{Unchanged}
 use Rattle.pf_script.specs.BookSeats.{CoversNone, KeepsUnder}
-use Rattle.pf_script.specs.BookTurns.{no_file, LineUnder, SeatUnder, SeatBooked}
+use Rattle.pf_script.specs.BookTurns.{no_file, LineUnder, SeatUnder, SeatBooked, MadeBy}
 use Rattle.pf_script.specs.FileTurns.{stands_on, seen_over, no_file as no_file_over, ReopensOpened, LineOver, SeatFiles}
 use Rattle.pf_script.specs.Desk.{IsSeatOf, Shows, no_file as no_file_now}
 use Rattle.pf_script.specs.DeskSteps.{Unfolds, SeatTurns, SeatAsks, CountsFault, CoversSome, Concerns, Spares, HasItsName, SeatGoes, TakesNone, is_host_fault, is_words_fault}
@@ -32,6 +32,7 @@ use Rattle.pf_script.proofs.ActKeeping.{only_reads, unchanged_now}
 use Rattle.pf_script.proofs.CallKeeping.{both_with}
 use Rattle.pf_script.proofs.FlushUnder.{seen_in}
 use Rattle.pf_script.proofs.Flushed.{SeenOf}
+use Rattle.pf_script.proofs.MadeActs.{none_is}
 use Rattle.pf_script.proofs.OverGiven.{over_idle}
 use Rattle.pf_script.proofs.Refusing.{at_last, not_empty}
 use Rattle.pf_script.proofs.SeatCalls.{seen_by}
@@ -169,6 +170,7 @@ module _ (key : List ℕ) (line : ScriptLine) (name : Name) (names : name_of_lin
         shows = no_file refl refl;
         spares = λ s has apart. has;
         concerned = λ n none. absurd none;
+        made = none_is (MadeBy line Empty);
         idle = idle_none reply;
         turn = λ _. turn;
       })

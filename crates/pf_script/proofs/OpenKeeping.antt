@@ -18,8 +18,10 @@ use Rattle.pf_script.specs.Book.{Book, Entry, Seal, Alone, Agrees}
 use Rattle.pf_script.specs.BookActs.{Opening, Among, Act, opened, booked, speaks, without_partner, dropped}
 use Rattle.pf_script.specs.BookDebts.{Unchanged, SparesOthers, KeepsOpened, OpensOn, Owes, DidAll, seat_of}
 use Rattle.pf_script.specs.BookSeats.{Covers, CoversNone, CoversMade, Kept, KeepsUnder}
+use Rattle.pf_script.specs.BookTurns.{IsOpeningOf}
 use Rattle.pf_script.proofs.During.{leaves_more}
 use Rattle.pf_script.proofs.NameMaps.{set_at-same}
+use Rattle.pf_script.proofs.MadeActs.{EachIs, none_is, one_is}
 use Rattle.pf_script.proofs.Opened as openings
 use Rattle.pf_script.proofs.Seats.{seats_after, seat_is_left}
 use Rattle.pf_script.proofs.ActKeeping.{no_sheet, one_act, one_spares, lets_go}
@@ -104,8 +106,12 @@ module _ (key : List ℕ) (name : Name) (session : SessionState) (was_one : WasO
         did = one_act book seats (Opening seal) true a b (opening_spares seal a b was_one.target reads only) (subst (λ (o : Option Entry). Owes seats (Opening seal) true o a b) (sym was) (opening_keeps name a b only, there_now, λ yes_it_does. on));
       }
 
-  opened_keeps : KeepsUnder CoversNone (Covers session) (λ n. n ≡ name) a b
-  opened_keeps book seats agrees reads none = by_entry (book name) refl
+  -- what is kept, by openings of the name
+  abbrev pub KeptOpened : Book → List Seal → Type 0
+  KeptOpened book seats = (kept : Kept (Covers session) (λ n. n ≡ name) book seats a b) × EachIs (IsOpeningOf name) kept.0
+
+  pub opened_acts : (book : Book) (seats : List Seal) → Agrees book seats a.now → IsImage a.now (reading a.now) → KeptOpened book seats
+  opened_acts book seats agrees reads = by_entry (book name) refl
     where
       acts_of : Sheet → List Act
       acts_of sheet = record { deed = Opening (seat_of key name sheet); done = true } ∷ []
@@ -122,37 +128,46 @@ module _ (key : List ℕ) (name : Name) (session : SessionState) (was_one : WasO
           let e2 : None ≡ Some entry2 = sym (ap (λ c. cond c (Some (Alone key (Some []) None true)) None) says) ∙ sym (set_at-same name (cond (speaks key entry) (Some (Alone key (Some []) None true)) None) rest) ∙ e in
           absurd (cc)
 
-      by_speaks : (entry : Entry) → book name ≡ Some entry → (s : Bool) → speaks key entry ≡ s → Kept (Covers session) (λ n. n ≡ name) book seats a b
+      by_speaks : (entry : Entry) → book name ≡ Some entry → (s : Bool) → speaks key entry ≡ s → KeptOpened book seats
       by_speaks entry was true says =
           let known = known_opening book seats agrees reads entry was says in
           let seal = seat_of key name known.on.sheet in (
-            acts_of known.on.sheet,
-            seats_after (Opening seal) true seats,
-            known.did,
-            λ entry2 whole is_entry. (
-              known.on.sheet,
-              subst (λ (k : List ℕ). Contains (seats_after (Opening seal) true seats) (seat_of k session.name known.on.sheet)) (sym was_one.key_is)
-                  (subst (λ (n : Name). Contains (seats_after (Opening seal) true seats) (seat_of key n known.on.sheet)) (sym was_one.name_is) (seat_is_left (Opening seal) seats)),
-              record { backed = known.on.on.backed; rests = λ _. record { stands = known.on.on; clean = was_one.clean } },
+            (
+              acts_of known.on.sheet,
+              seats_after (Opening seal) true seats,
+              known.did,
+              λ entry2 whole is_entry. (
+                known.on.sheet,
+                subst (λ (k : List ℕ). Contains (seats_after (Opening seal) true seats) (seat_of k session.name known.on.sheet)) (sym was_one.key_is)
+                    (subst (λ (n : Name). Contains (seats_after (Opening seal) true seats) (seat_of key n known.on.sheet)) (sym was_one.name_is) (seat_is_left (Opening seal) seats)),
+                record { backed = known.on.on.backed; rests = λ _. record { stands = known.on.on; clean = was_one.clean } },
+              ),
+              one_spares seats (Opening seal) true,
+              only_it known.on.sheet,
             ),
-            one_spares seats (Opening seal) true,
-            only_it known.on.sheet,
+            one_is (IsOpeningOf name) (record { deed = Opening seal; done = true }) refl,
           )
       by_speaks entry was false says =
           let seal = seat_of key name no_sheet in (
-            acts_of no_sheet,
-            seats_after (Opening seal) true seats,
-            one_act book seats (Opening seal) true a b (opening_spares seal a b was_one.target reads only)
-                (subst (λ (o : Option Entry). Owes seats (Opening seal) true o a b) (sym was) (opening_keeps name a b only, there_now, λ does. let e : true ≡ false = sym does ∙ says in absurd (cc))),
-            λ entry2 whole is_entry. absurd (gone entry was says entry2 (subst (λ (n : Name). booked (Opening seal) true book n ≡ Some entry2) was_one.name_is is_entry)),
-            one_spares seats (Opening seal) true,
-            only_it no_sheet,
+            (
+              acts_of no_sheet,
+              seats_after (Opening seal) true seats,
+              one_act book seats (Opening seal) true a b (opening_spares seal a b was_one.target reads only)
+                  (subst (λ (o : Option Entry). Owes seats (Opening seal) true o a b) (sym was) (opening_keeps name a b only, there_now, λ does. let e : true ≡ false = sym does ∙ says in absurd (cc))),
+              λ entry2 whole is_entry. absurd (gone entry was says entry2 (subst (λ (n : Name). booked (Opening seal) true book n ≡ Some entry2) was_one.name_is is_entry)),
+              one_spares seats (Opening seal) true,
+              only_it no_sheet,
+            ),
+            one_is (IsOpeningOf name) (record { deed = Opening seal; done = true }) refl,
           )
 
-      by_entry : (o : Option Entry) → book name ≡ o → Kept (Covers session) (λ n. n ≡ name) book seats a b
+      by_entry : (o : Option Entry) → book name ≡ o → KeptOpened book seats
       by_entry None was =
-          ([], seats, (only, λ seat has. has), λ entry whole is_entry. let e : None ≡ Some entry = sym was ∙ sym (ap book was_one.name_is) ∙ is_entry in absurd (cc), λ seat has apart. has, λ n no_one. absurd no_one)
+          (([], seats, (only, λ seat has. has), λ entry whole is_entry. let e : None ≡ Some entry = sym was ∙ sym (ap book was_one.name_is) ∙ is_entry in absurd (cc), λ seat has apart. has, λ n no_one. absurd no_one), none_is (IsOpeningOf name))
       by_entry (Some entry) was = by_speaks entry was (speaks key entry) refl
+
+  opened_keeps : KeepsUnder CoversNone (Covers session) (λ n. n ≡ name) a b
+  opened_keeps book seats agrees reads none = (opened_acts book seats agrees reads).0
 
 pub open_keeps : (key : List ℕ) (name : Name) (before after : HostState) (result : Result SessionState OpenFault) → Opens key name (Some name) before after result → IfOk result (λ session. OnDisk before after (OpensEither session))
     → KeepsDisk before after → OnDisk before after (KeepsUnder CoversNone (CoversMade result) (λ n. n ≡ name))

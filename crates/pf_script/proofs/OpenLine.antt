@@ -34,7 +34,7 @@ use Rattle.pf_script.specs.Book.{Book, Entry, Seal, Agrees}
 use Rattle.pf_script.specs.BookActs.{Act, Opening, Among, speaks}
 use Rattle.pf_script.specs.BookDebts.{Unchanged, seat_of}
 use Rattle.pf_script.specs.BookSeats.{CoversNone, CoversMade, KeepsUnder}
-use Rattle.pf_script.specs.BookTurns.{of_book, Knows, LineUnder, SeatUnder}
+use Rattle.pf_script.specs.BookTurns.{of_book, Knows, LineUnder, SeatUnder, MadeBy}
 use Rattle.pf_script.specs.FileTurns.{stands_on, opening_answers, whole_file as whole_over, SeatFiles}
 use Rattle.pf_script.specs.Desk.{IsSeated, Shows, whole_file, seat_on}
 use Rattle.pf_script.specs.DeskSteps.{CountsFault, Unfolds, then_more, in_the_end, SeatTurns, SeatAsks, Concerns, CoversSome}
@@ -51,10 +51,12 @@ use Rattle.pf_script.specs.declared.reply.Why.TheVariants as whys
 use Rattle.pf_script.proofs.ActKeeping.{one_spares, only_reads}
 use Rattle.pf_script.proofs.CallKeeping.{at_both, both_with}
 use Rattle.pf_script.proofs.CreateLine.{named_target}
+use Rattle.pf_script.proofs.Dealing.{Deals}
 use Rattle.pf_script.proofs.Flushed.{SeenOf, length_now}
 use Rattle.pf_script.proofs.FlushUnder.{seen_in}
+use Rattle.pf_script.proofs.MadeActs.{one_is}
 use Rattle.pf_script.proofs.OnEmpty.{made_seat, BothHalves, concerns, empty_wants, empty_under, empty_over, empty_idle, seat_first, seat_none}
-use Rattle.pf_script.proofs.OpenKeeping.{WasOpened, was_opened, known_opening, open_keeps}
+use Rattle.pf_script.proofs.OpenKeeping.{WasOpened, was_opened, known_opening, opened_acts, open_keeps}
 use Rattle.pf_script.proofs.OverGiven.{no_host_fault, on_reading, same_over}
 use Rattle.pf_script.proofs.OpenRules.{none_given, node_given, none_unasked, not_protected_first, unbuilt_first, version_first, path_first, none_refuses, none_closed, none_short}
 use Rattle.pf_script.proofs.Refusing.{none_taken}
@@ -225,13 +227,20 @@ module _ (key : List ℕ) (k : ℕ) (name : Name) (utf8 : IsUtf8 name) (before a
             → LineUnder key false line seen (replies.Opened session.tree.size) None (Some session) book seats Empty a b
         by_book a b is_a is_b only_ab book seats agrees reads = by_entry (book name) refl
           where
-            keeps : KeepsUnder CoversNone (CoversSome (Some session)) (Concerns false line None) a b
-            keeps =
-                keeps_more CoversNone (CoversSome (Some session)) (λ n. n ≡ name) (Concerns false line None) a b (concerns key line name refl)
-                (at_both (KeepsUnder CoversNone (CoversMade {E = OpenFault} (Ok session)) (λ n. n ≡ name)) before.honest after.honest a b is_a is_b (open_keeps key name before after (Ok session) goes either only))
+            deals : Deals false line None (Some session) book seats Empty a b
+            deals =
+                let opened = opened_acts key name session was_one a b (at_both (OpensEither session) before.honest after.honest a b is_a is_b either) only_ab book seats agrees reads in record {
+                  acts = opened.0.0;
+                  left = opened.0.1;
+                  did = opened.0.2;
+                  covers = opened.0.3;
+                  spares = opened.0.4;
+                  concerned = λ n among. concerns key line name refl n (opened.0.5 n among);
+                  made = opened.1;
+                }
 
             unknown : ¬ (Knows book key Empty line (replies.Opened session.tree.size)) → LineUnder key false line seen (replies.Opened session.tree.size) None (Some session) book seats Empty a b
-            unknown none = unknown_under key false line seen (replies.Opened session.tree.size) tt CoversNone None (Some session) a b keeps book seats Empty agrees reads tt none
+            unknown none = unknown_under key false line seen (replies.Opened session.tree.size) tt None (Some session) a b book seats Empty deals none
 
             only_it : (sheet : Sheet) (n : Name) → Among (record { deed = Opening (seat_of key name sheet); done = true } ∷ []) n → Concerns false line None n
             only_it sheet n (inl same) = concerns key line name refl n same
@@ -253,6 +262,7 @@ module _ (key : List ℕ) (k : ℕ) (name : Name) (utf8 : IsUtf8 name) (before a
                   shows = of_book sheet session refl (seat_is_left (Opening (seat_of key name sheet)) seats) (record { backed = known.on.on.backed; rests = λ _. record { stands = known.on.on; clean = refl } }) (ap Own (same_seat sheet known.on.on)) refl;
                   spares = one_spares seats (Opening (seat_of key name sheet)) true;
                   concerned = only_it sheet;
+                  made = one_is (MadeBy line Empty) (act sheet) refl;
                   idle = tt;
                   turn = λ _. turn_now sheet known.on.on known.stood;
                 }

@@ -1,24 +1,23 @@
 -- The line `read` under a book and over files, from the contract of a read.
-use Rattle.std.proofs.Common.{◌≡◌, Bool, true, false, List, [], ℕ, ◌-◌, ◌≤◌, refl, sym, ap, subst, Some, Result, Ok, Err, length, min}
+use Rattle.std.proofs.Common.{◌≡◌, Bool, true, false, List, [], ℕ, ◌-◌, ◌≤◌, refl, sym, ◌∙◌, ap, subst, Some, Result, Ok, Err, length, min}
 use Rattle.std.specs.Prelude.{Contains, IfOk}
 use Rattle.node_tree.specs.Fetching.{host_part}
 use Rattle.node_tree.specs.Opened.{Given}
 use Rattle.node_tree.specs.Reading.{Reads}
 use Rattle.node_tree.specs.Sheet.{Sheet, Stands}
-use Rattle.node_tree.specs.State.{TreeState, readable}
+use Rattle.node_tree.specs.State.{readable}
 use Rattle.node_tree.specs.declared.fault.TreeFault.{TreeFault}
 use Rattle.node_tree.specs.declared.fault.TreeFault.TheVariants as trees
 use Rattle.pf_io.specs.Counts.{HasCause}
 use Rattle.pf_io.specs.Disk.{Name, reading}
-use Rattle.pf_io.specs.Host.{Answer, HostState, OnDisk, contents}
+use Rattle.pf_io.specs.Host.{Answer, HostState, contents}
 use Rattle.pf_io.specs.Unchanged.{KeepsDisk}
 use Rattle.pf_io.specs.Words.{WordsState}
 use Rattle.pf_session.specs.Backing.{IsBacked}
 use Rattle.pf_session.specs.Reading.{KeepsFields, ReadsStanding, StandingRead}
 use Rattle.pf_session.specs.State.{SessionState, file_of}
 use Rattle.pf_script.specs.BookDebts.{Unchanged, seat_of}
-use Rattle.pf_script.specs.BookSeats.{Covers, KeepsUnder}
-use Rattle.pf_script.specs.BookTurns.{of_book, SeatAgrees, SeatBooked}
+use Rattle.pf_script.specs.BookTurns.{of_book, SeatAgrees, SeatBooked, MadeBy}
 use Rattle.pf_script.specs.Desk.{IsSeated, seat_on}
 use Rattle.pf_script.specs.DeskSteps.{CountsFault}
 use Rattle.pf_script.specs.FileTurns.{stands_on}
@@ -29,17 +28,18 @@ use Rattle.pf_script.specs.declared.line.ScriptLine.{ScriptLine}
 use Rattle.pf_script.specs.declared.line.ScriptLine.TheVariants as lines
 use Rattle.pf_script.specs.declared.reply.Reply.{Reply}
 use Rattle.pf_script.specs.declared.reply.Reply.TheVariants as replies
+use Rattle.pf_script.proofs.MadeActs.{none_is}
 use Rattle.pf_script.proofs.OverFiles.{over_on_disk, file_stands, still_over}
 use Rattle.pf_script.proofs.OverGiven.{on_reading}
-use Rattle.pf_script.proofs.ReadKeeping.{read_keeps, stood_read}
+use Rattle.pf_script.proofs.ReadKeeping.{stood_read}
 use Rattle.pf_script.proofs.ReadLine.{read_passes, slice_is, same_seat, whole_new, kept_new, ends_count}
 use Rattle.pf_script.proofs.Refusing.{none_taken}
 use Rattle.pf_script.proofs.SeatCalls.{seen_by}
-use Rattle.pf_script.proofs.Under.{IsAnswered, idle_answered, on_disk_by, none_concerned}
+use Rattle.pf_script.proofs.Under.{IsAnswered, idle_answered, on_disk_reads, none_concerned}
 
 module _ (key : List ℕ) (k at count : ℕ) (old : SessionState) (seated : IsSeated key old) (whole : old.broken ≡ false) (new : SessionState) (fields : KeepsFields old new) (result : Result ℕ TreeFault) (buffer : List ℕ)
     (room : length buffer ≡ min count (old.tree.size - at)) (before after : HostState) (reads : Reads result (file_of old) at buffer old.tree new.tree before after) (words : WordsState) (few : count ≤ 32768)
-    (keeps : OnDisk before after (KeepsUnder (Covers old) (Covers new) (λ name. name ≡ old.name))) (disk : KeepsDisk before after) where
+    (disk : KeepsDisk before after) where
   abbrev line : ScriptLine
   line = lines.Read k at count
 
@@ -50,7 +50,7 @@ module _ (key : List ℕ) (k at count : ℕ) (old : SessionState) (seated : IsSe
   by_turn r of_host reply standing counts answered turn = record {
     seen = seen_by reads.these [] of_host false;
     was_seen = record { answers = reads.answered.told; words = none_taken words; of_host = counts; of_words = refl };
-    under = on_disk_by Unchanged key false line (seen_by reads.these [] of_host false) reply old whole (Some new) before after answered keeps disk
+    under = on_disk_reads key false line (seen_by reads.these [] of_host false) reply old whole (Some new) before after answered (λ n has. has ∙ ap (λ (s : SessionState). s.name) fields) disk
         (λ a b is_a is_b only book seats agrees base on.
         let stands = stood_read old seated.of_script new r at buffer before a is_a standing base on.stood on.kept.backed in record {
           acts = [];
@@ -63,6 +63,7 @@ module _ (key : List ℕ) (k at count : ℕ) (old : SessionState) (seated : IsSe
               (ap Own (same_seat key k at count old seated whole new fields result buffer room before after reads base stands.same)) refl;
           spares = λ s has apart. has;
           concerned = none_concerned false line (Some old);
+          made = none_is (MadeBy line (Own (seat_on base old)));
           turn = λ _. turn (stands_on key (reading a.now)) base reads.these stands;
           idle = idle_answered reply answered [];
         });
@@ -97,5 +98,5 @@ pub read_under : (key : List ℕ) (k at count : ℕ) (old new : SessionState) (r
     → length buffer ≡ min count (old.tree.size - at) → KeepsFields old new → Reads result (file_of old) at buffer old.tree new.tree before after → HasCause before.faults after.faults (host_part result)
     → ReadsStanding result at buffer old new before → KeepsDisk before after → SeatBooked key false (lines.Read k at count) (read_reply buffer result) (Some old) (Some new) before after words words
 read_under key k at count old new result buffer before after words seated whole few room fields reads cause standing disk =
-    by_result key k at count old seated whole new fields result buffer room before after reads words few (read_keeps old seated.of_script new result at buffer before after fields (ap (λ (t : TreeState). t.dirty) reads.rest) standing disk) disk result
+    by_result key k at count old seated whole new fields result buffer room before after reads words few disk result
     (ends_count result (Given (file_of old) reads.these) at buffer old.tree new.tree reads.ends) cause standing

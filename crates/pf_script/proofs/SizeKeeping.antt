@@ -1,5 +1,5 @@
 -- What a change of size keeps of a book, piece by piece.
-use Rattle.std.proofs.Common.{◌≡◌, ℕ, ◌+◌, subst, Result, Ok, Err}
+use Rattle.std.proofs.Common.{◌≡◌, ℕ, ◌+◌, ◌∙◌, subst, Result, Ok, Err}
 use Rattle.pf_io.specs.Disk.{Name}
 use Rattle.pf_io.specs.Host.{HostState, OnDisk}
 use Rattle.pf_io.specs.Words.{WordsState}
@@ -35,3 +35,11 @@ size_keeps result size mine (set_piece written old mid new before between after 
     keeps_on (Covers old) (Covers mid) (Covers new) (λ name. name ≡ old.name) before between after (sets_keep (Ok written) n old mid before between random random' mine sets) sets.reads
     (subst (λ (x : Name). OnDisk between after (KeepsUnder (Covers mid) (Covers new) (λ name. name ≡ x))) (set_name (Ok written) n old mid before between random random' mine sets)
     (size_keeps result size (of_set (Ok written) n old mid before between random random' mine sets) rest))
+
+-- the session keeps its name
+pub sizes_name : (result : Result (Unit {0}) SizeFault) (size : ℕ) {old new : SessionState} {before after : HostState} {random random' : WordsState} → IsOfScript old → SizesGo result size old new before after random random' → new.name ≡ old.name
+sizes_name result size mine (set_last written old new before after random random' near sets said) = set_name (Ok written) size old new before after random random' mine sets
+sizes_name result size mine (set_failed fault n old new before after random random' next sets said) = set_name (Err fault) n old new before after random random' mine sets
+sizes_name result size mine (set_piece written old mid new before between after random random' random2 far sets rest) =
+    let n = old.tree.size + PIECE in
+    sizes_name result size (of_set (Ok written) n old mid before between random random' mine sets) rest ∙ set_name (Ok written) n old mid before between random random' mine sets

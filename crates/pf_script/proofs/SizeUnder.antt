@@ -39,9 +39,10 @@ use Rattle.pf_script.proofs.ChangeOver.{begins_over, ends_over, on_files}
 use Rattle.pf_script.proofs.ChangeUnder.{Progress, Fell, change_known}
 use Rattle.pf_script.proofs.Flushed.{host_blamed, fault_of}
 use Rattle.pf_script.proofs.LineUnder.{begins, fell_under}
+use Rattle.pf_script.proofs.MadeActs.{are_flushes}
 use Rattle.pf_script.proofs.OverGiven.{no_words_fault}
 use Rattle.pf_script.proofs.SeatCalls.{seen_by}
-use Rattle.pf_script.proofs.SizeKeeping.{size_keeps}
+use Rattle.pf_script.proofs.SizeKeeping.{size_keeps, sizes_name}
 use Rattle.pf_script.proofs.SizeLeft.{SizeLeft, kept_size, one_change, one_piece, size_in}
 use Rattle.pf_script.proofs.SizeLine.{line_passes, goes_on_now}
 use Rattle.pf_script.proofs.SizeOver.{same_host, size_over}
@@ -118,7 +119,7 @@ module _ (key : List ℕ) (k size : ℕ) (own : OwnSeat) (book : Book) (seats : 
       (on (Size (old.tree.size + 32768) ∷ left) (piece old.tree.size left far (subst (λ m. IsResize size m left) size_is is_left))))
       (words_are ∙ sym (append_assoc words one more))
 
-module _ (key : List ℕ) (k size : ℕ) (small : size ≤ 2 ^ 32) (old new : SessionState) (seated : IsSeated key old) (whole : old.broken ≡ false) (before after : HostState) (random random' : WordsState)
+module _ (key : List ℕ) (k size : ℕ) (small : size ≤ 2 ^ 32) (old new : SessionState) (seated : IsSeated key old) (whole : old.broken ≡ false) (named : new.name ≡ old.name) (before after : HostState) (random random' : WordsState)
     (keeps : OnDisk before after (KeepsUnder (Covers old) (Covers new) (λ name. name ≡ old.name))) where
   abbrev line : ScriptLine
   line = lines.Size k size
@@ -142,7 +143,7 @@ module _ (key : List ℕ) (k size : ℕ) (small : size ≤ 2 ^ 32) (old new : Se
   by_outcome (Went flushed) these words told taken on_host on_words left = record {
     seen = seen_by these words false false;
     was_seen = record { answers = told; words = taken; of_host = on_host; of_words = on_words };
-    under = on_disk_by Anything key false line (seen_by these words false false) (replies.Sized size) old whole (Some new) before after tt keeps anything
+    under = on_disk_by Anything key false line (seen_by these words false false) (replies.Sized size) old whole (Some new) before after tt (λ seat deed is. is) seated.of_script.is_target (λ n has. has ∙ named) keeps anything
         (λ a b is_a is_b ran book seats agrees base on.
         let own = seat_on base old in
         let out = known these words (Went flushed) left (seen_by these words false false) (replies.Sized size) a b is_a is_b book seats agrees base on in
@@ -155,6 +156,7 @@ module _ (key : List ℕ) (k size : ℕ) (small : size ≤ 2 ^ 32) (old new : Se
               (subst (λ (k : List ℕ). Contains then.left (seat_of k new.name out.base)) (sym then.was.key_is) (subst (λ (n : Name). Contains then.left (seat_of old.key n out.base)) (sym then.was.name_is) then.seated)) then.was.kept refl refl;
           spares = then.spares;
           concerned = λ n among. inl (then.only n among);
+          made = are_flushes own out.sheets;
           idle = tt;
           turn = λ _.
               accepted (line_passes key k size small old new whole base these) (record { host = refl; random = refl })
@@ -169,9 +171,9 @@ module _ (key : List ℕ) (k size : ℕ) (small : size ≤ 2 ^ 32) (old new : Se
   by_outcome (Broke blame) these words told taken on_host on_words left = record {
     seen = seen_by these words (host_blamed blame) false;
     was_seen = record { answers = told; words = taken; of_host = on_host; of_words = on_words };
-    under = on_disk_by Anything key false line (seen_by these words (host_blamed blame) false) (flush_reply (fault_of blame)) old whole (Some new) before after (blame_answered blame) keeps anything
+    under = on_disk_by Anything key false line (seen_by these words (host_blamed blame) false) (flush_reply (fault_of blame)) old whole (Some new) before after (blame_answered blame) (λ seat deed is. is) seated.of_script.is_target (λ n has. has ∙ named) keeps anything
         (λ a b is_a is_b ran book seats agrees base on.
-        fell_under key line old new seated (seen_by these words (host_blamed blame) false) (flush_reply (fault_of blame)) (blame_answered blame) these words (host_blamed blame) false refl a b book seats agrees base on.image
+        fell_under key line (λ seat deed is. is) old new seated (seen_by these words (host_blamed blame) false) (flush_reply (fault_of blame)) (blame_answered blame) these words (host_blamed blame) false refl a b book seats agrees base on.image
         (known these words (Broke blame) left (seen_by these words (host_blamed blame) false) (flush_reply (fault_of blame)) a b is_a is_b book seats agrees base on));
     over = on_files Anything key line (seen_by these words (host_blamed blame) false) (flush_reply (fault_of blame)) old whole new before after anything
         (λ a b is_a is_b ran calm base on.
@@ -182,9 +184,9 @@ module _ (key : List ℕ) (k size : ℕ) (small : size ≤ 2 ^ 32) (old new : Se
   by_outcome Lacked these words told taken on_host on_words left = record {
     seen = seen_by these words false true;
     was_seen = record { answers = told; words = taken; of_host = on_host; of_words = on_words };
-    under = on_disk_by Anything key false line (seen_by these words false true) replies.WordsFault old whole (Some new) before after tt keeps anything
+    under = on_disk_by Anything key false line (seen_by these words false true) replies.WordsFault old whole (Some new) before after tt (λ seat deed is. is) seated.of_script.is_target (λ n has. has ∙ named) keeps anything
         (λ a b is_a is_b ran book seats agrees base on.
-        fell_under key line old new seated (seen_by these words false true) replies.WordsFault tt these words false true refl a b book seats agrees base on.image
+        fell_under key line (λ seat deed is. is) old new seated (seen_by these words false true) replies.WordsFault tt these words false true refl a b book seats agrees base on.image
         (known these words Lacked left (seen_by these words false true) replies.WordsFault a b is_a is_b book seats agrees base on));
     over = on_files Anything key line (seen_by these words false true) replies.WordsFault old whole new before after anything (λ a b is_a is_b ran calm base on. absurd (no_words_fault calm));
   }
@@ -195,4 +197,4 @@ pub size_under : (key : List ℕ) (k size : ℕ) (old new : SessionState) (resul
 size_under key k size old new result before after random random' small seated whole goes =
     let is = size_in key size small result old new before after random random' seated goes in
     subst (λ (r : Result Reply Memory). SeatBooked key false (lines.Size k size) r (Some old) (Some new) before after random random') is.reply_is
-    (by_outcome key k size small old new seated whole before after random random' (size_keeps result size seated.of_script goes) is.outcome is.these is.words is.told is.taken is.on_host is.on_words is.left)
+    (by_outcome key k size small old new seated whole (sizes_name result size seated.of_script goes) before after random random' (size_keeps result size seated.of_script goes) is.outcome is.these is.words is.told is.taken is.on_host is.on_words is.left)

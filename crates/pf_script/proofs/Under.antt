@@ -16,13 +16,13 @@ use Rattle.pf_session.specs.State.{SessionState}
 use Rattle.pf_script.specs.Book.{Book, Entry, Seal, Agrees}
 use Rattle.pf_script.specs.BookActs.{Deed, Flush, Act, Among, booked_all}
 use Rattle.pf_script.specs.BookDebts.{Unchanged, Flushes, DidAll, Owes, seat_of, seal_of}
-use Rattle.pf_script.specs.BookSeats.{Covering, Covers, KeepsUnder}
-use Rattle.pf_script.specs.BookTurns.{ShowsUnder, no_file, of_book, other_file, Knows, IdleIfRefused, LineUnder, SeatUnder, SeatAgrees, SeatBooked}
+use Rattle.pf_script.specs.BookSeats.{Covers, KeepsUnder}
+use Rattle.pf_script.specs.BookTurns.{ShowsUnder, no_file, of_book, other_file, Knows, IdleIfRefused, LineUnder, SeatUnder, SeatAgrees, SeatBooked, MadeBy}
 use Rattle.pf_script.specs.FileTurns.{stands_on, answers_of, ShowsOver, no_file as no_file_over, whole_file, broken_file, SeatFiles}
 use Rattle.pf_script.specs.Desk.{seat_on}
-use Rattle.pf_script.specs.DeskSteps.{CoversSome, Concerns}
+use Rattle.pf_script.specs.DeskSteps.{CoversSome, Concerns, HasItsName}
 use Rattle.pf_script.specs.Rules.{IsFirst, rules}
-use Rattle.pf_script.specs.Script.{Seat, Empty, Own}
+use Rattle.pf_script.specs.Script.{Seat, Empty, Own, HasThisName}
 use Rattle.pf_script.specs.SeatReplies.{flush_reply}
 use Rattle.pf_script.specs.Turns.{Seen, Blame, ByHost, ByDamage, SeatTurn, refused}
 use Rattle.pf_script.specs.declared.line.ScriptLine.{ScriptLine}
@@ -31,12 +31,13 @@ use Rattle.pf_script.specs.declared.reply.Reply.TheVariants as replies
 use Rattle.pf_script.specs.declared.reply.Why.{Why}
 use Rattle.pf_script.proofs.ActKeeping.{no_sheet, one_act, unchanged_now}
 use Rattle.pf_script.proofs.CallKeeping.{at_both, both_with}
+use Rattle.pf_script.proofs.Dealing.{Deals, DealsFreely, idle_deals, flush_deals}
 use Rattle.pf_script.proofs.FlushLine.{flush_act}
 use Rattle.pf_script.proofs.Flushed.{fault_of}
+use Rattle.pf_script.proofs.MadeActs.{MayFlush, none_is}
 use Rattle.pf_script.proofs.OverGiven.{first_unasked, over_idle}
 use Rattle.pf_script.proofs.Refusing.{idle_seen, none_taken}
 use Rattle.pf_script.proofs.Seats.{seats_after, seat_is_left}
-use Rattle.pf_script.proofs.StepKeeping.{keeps_more}
 use Rattle.pf_script.proofs.Showing.{ShowsSome, same_session}
 
 -- how a seat looks that shows a session
@@ -144,12 +145,22 @@ idle_none replies.WordsFault = tt
 
 module _ (key : List ℕ) (taken : Bool) (line : ScriptLine) (seen : Seen) (reply : Reply) where
   -- where the book does not tell what the line comes to, it is kept
-  pub unknown_under : IsAnswered reply → (before : Covering) (old new : Option SessionState) (a b : Honest) → KeepsUnder before (CoversSome new) (Concerns taken line old) a b
-      → (book : Book) (seats : List Seal) (seat : Seat) → Agrees book seats a.now → IsImage a.now (reading a.now) → before book seats → ¬ (Knows book key seat line reply) → LineUnder key taken line seen reply old new book seats seat a b
-  unknown_under answered before old new a b keeps book seats seat agrees reads covers unknown =
-      let kept = keeps book seats agrees reads covers in
-      let then = seat_after (booked_all kept.0 book) kept.1 new kept.3 in
-      record { acts = kept.0; left = kept.1; after = then.after; did = kept.2; shows = then.shows; spares = kept.4; concerned = kept.5; idle = idle_answered reply answered kept.0; turn = λ knows. absurd (unknown knows) }
+  pub unknown_under : IsAnswered reply → (old new : Option SessionState) (a b : Honest) (book : Book) (seats : List Seal) (seat : Seat) → Deals taken line old new book seats seat a b → ¬ (Knows book key seat line reply)
+      → LineUnder key taken line seen reply old new book seats seat a b
+  unknown_under answered old new a b book seats seat deals unknown =
+      let then = seat_after (booked_all deals.acts book) deals.left new deals.covers in
+      record {
+        acts = deals.acts;
+        left = deals.left;
+        after = then.after;
+        did = deals.did;
+        shows = then.shows;
+        spares = deals.spares;
+        concerned = deals.concerned;
+        made = deals.made;
+        idle = idle_answered reply answered deals.acts;
+        turn = λ knows. absurd (unknown knows);
+      }
 
   -- a line on a whole session
   module _ (old : SessionState) (whole : old.broken ≡ false) (new : Option SessionState) (a b : Honest) where
@@ -164,9 +175,6 @@ module _ (key : List ℕ) (taken : Bool) (line : ScriptLine) (seen : Seen) (repl
 
     abbrev pub KnownUnder : Type 0
     KnownUnder = (book : Book) (seats : List Seal) → Agrees book seats a.now → (base : Sheet) → OnBase book seats base → LineUnder key taken line seen reply (Some old) new book seats (Own (seat_on base old)) a b
-
-    no_entry : (book : Book) (seats : List Seal) → book old.name ≡ None → Covers old book seats
-    no_entry book seats none entry is_whole was = let e : None ≡ Some entry = sym none ∙ was in absurd (cc)
 
     not_broken : old.broken ≡ true → ⊥
     not_broken broken = let e : true ≡ false = sym broken ∙ whole in absurd (cc)
@@ -201,9 +209,13 @@ module _ (key : List ℕ) (taken : Bool) (line : ScriptLine) (seen : Seen) (repl
         by_shows (other_file shown own (inr none) key_is name_is broken_is is some) = unknown (subst (λ (s : SessionState). book s.name ≡ None) (same_session old own some) none)
 
     -- a line that is no refusal
-    pub own_under : IsAnswered reply → KeepsUnder (Covers old) (CoversSome new) (Concerns taken line (Some old)) a b → KnownUnder → SeatUnder key taken line seen reply (Some old) new a b
-    own_under answered keeps known =
-        by_known (λ book seats seat agrees reads shows none unknown. unknown_under answered (Covers old) (Some old) new a b keeps book seats seat agrees reads (no_entry book seats none) unknown) known
+    pub own_under : IsAnswered reply → DealsFreely taken line old new a b → KnownUnder → SeatUnder key taken line seen reply (Some old) new a b
+    own_under answered deals known =
+        by_known
+        (λ book seats seat agrees reads shows none unknown.
+        let looks = looks_like book seats seat (Some old) shows in
+        unknown_under answered (Some old) new a b book seats seat (deals book seats seat agrees reads (subst (λ (x : Seat). HasThisName old.name x) (sym looks.seat_is) looks.name_is) none) unknown)
+        known
 
   -- a line that does nothing, on a whole session: it has this turn on the sheet of the seat
   pub own_idle : (old : SessionState) → old.broken ≡ false → (new : Option SessionState) → new ≡ Some old → (a b : Honest) → Unchanged a b
@@ -219,6 +231,7 @@ module _ (key : List ℕ) (taken : Bool) (line : ScriptLine) (seen : Seen) (repl
         shows = shows;
         spares = λ s has apart. has;
         concerned = λ n among. absurd among;
+        made = none_is (MadeBy line _);
         idle = idle_none reply;
         turn = λ knows. absurd (unknown knows);
       })
@@ -230,28 +243,37 @@ module _ (key : List ℕ) (taken : Bool) (line : ScriptLine) (seen : Seen) (repl
         shows = of_book base old whole on.seated on.kept refl refl;
         spares = λ s has apart. has;
         concerned = λ n among. absurd among;
+        made = none_is (MadeBy line _);
         idle = idle_none reply;
         turn = λ _. turn base;
       }))
 
--- so of a call on a host
+-- so of a call on a host that may flush the session
 pub on_disk_by : (P : Honest → Honest → Type 0) (key : List ℕ) (taken : Bool) (line : ScriptLine) (seen : Seen) (reply : Reply) (old : SessionState) (whole : old.broken ≡ false) (new : Option SessionState) (before after : HostState)
-    → IsAnswered reply → OnDisk before after (KeepsUnder (Covers old) (CoversSome new) (λ name. name ≡ old.name)) → OnDisk before after P
+    → IsAnswered reply → MayFlush line → IsTarget old.name → ((n : Name) → HasItsName new n → n ≡ old.name) → OnDisk before after (KeepsUnder (Covers old) (CoversSome new) (λ name. name ≡ old.name)) → OnDisk before after P
     → ((a b : Honest) → before.honest ≡ Some a → after.honest ≡ Some b → P a b → KnownUnder key taken line seen reply old whole new a b) → OnDisk before after (SeatUnder key taken line seen reply (Some old) new)
-on_disk_by P key taken line seen reply old whole new before after answered keeps holds known =
+on_disk_by P key taken line seen reply old whole new before after answered may target named keeps holds known =
     both_with P (SeatUnder key taken line seen reply (Some old) new) before.honest after.honest holds
     (λ a b is is2 p.
     own_under key taken line seen reply old whole new a b answered
-    (keeps_more (Covers old) (CoversSome new) (λ name. name ≡ old.name) (Concerns taken line (Some old)) a b (λ name same. inl same)
-    (at_both (KeepsUnder (Covers old) (CoversSome new) (λ name. name ≡ old.name)) before.honest after.honest a b is is2 keeps))
+    (flush_deals taken line old new a b may target named (at_both (KeepsUnder (Covers old) (CoversSome new) (λ name. name ≡ old.name)) before.honest after.honest a b is is2 keeps))
     (known a b is is2 p))
 
 -- of one that changes the session's name alone
 pub on_disk : (key : List ℕ) (taken : Bool) (line : ScriptLine) (seen : Seen) (reply : Reply) (old : SessionState) (whole : old.broken ≡ false) (new : Option SessionState) (before after : HostState)
-    → IsAnswered reply → OnDisk before after (KeepsUnder (Covers old) (CoversSome new) (λ name. name ≡ old.name)) → Aside old.name before after
+    → IsAnswered reply → MayFlush line → IsTarget old.name → ((n : Name) → HasItsName new n → n ≡ old.name) → OnDisk before after (KeepsUnder (Covers old) (CoversSome new) (λ name. name ≡ old.name)) → Aside old.name before after
     → ((a b : Honest) → before.honest ≡ Some a → after.honest ≡ Some b → Ran (LeavesApart old.name) (KeepsApart old.name) a b → KnownUnder key taken line seen reply old whole new a b)
     → OnDisk before after (SeatUnder key taken line seen reply (Some old) new)
-on_disk key taken line seen reply old whole new before after answered keeps aside known = on_disk_by (Ran (LeavesApart old.name) (KeepsApart old.name)) key taken line seen reply old whole new before after answered keeps aside known
+on_disk key taken line seen reply old whole new before after answered may target named keeps aside known =
+    on_disk_by (Ran (LeavesApart old.name) (KeepsApart old.name)) key taken line seen reply old whole new before after answered may target named keeps aside known
+
+-- so of one that only reads
+pub on_disk_reads : (key : List ℕ) (taken : Bool) (line : ScriptLine) (seen : Seen) (reply : Reply) (old : SessionState) (whole : old.broken ≡ false) (new : Option SessionState) (before after : HostState)
+    → IsAnswered reply → ((n : Name) → HasItsName new n → n ≡ old.name) → OnDisk before after Unchanged → ((a b : Honest) → before.honest ≡ Some a → after.honest ≡ Some b → Unchanged a b → KnownUnder key taken line seen reply old whole new a b)
+    → OnDisk before after (SeatUnder key taken line seen reply (Some old) new)
+on_disk_reads key taken line seen reply old whole new before after answered named holds known =
+    both_with Unchanged (SeatUnder key taken line seen reply (Some old) new) before.honest after.honest holds
+    (λ a b is is2 only. own_under key taken line seen reply old whole new a b answered (idle_deals taken line old new a b named only) (known a b is is2 only))
 
 -- no act is of any name, and one flush is of the session's
 pub none_concerned : (taken : Bool) (line : ScriptLine) (old : Option SessionState) (name : Name) → Among [] name → Concerns taken line old name
@@ -291,6 +313,7 @@ refused_agrees key taken line why old host words first = record {
         shows = shows;
         spares = λ s has apart. has;
         concerned = λ name none. absurd none;
+        made = none_is (MadeBy line seat);
         idle = refl;
         turn = λ _. refused why (first seat (looks_like book seats seat old shows)) (record { host = refl; random = refl }) refl refl refl refl;
       });

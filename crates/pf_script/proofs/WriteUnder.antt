@@ -33,12 +33,13 @@ use Rattle.pf_script.proofs.ChangeLine.{outcome_reply}
 use Rattle.pf_script.proofs.ChangeTold.{Outcome, outcome_of, flush_outcome, Grew}
 use Rattle.pf_script.proofs.Flushed.{flush_ends}
 use Rattle.pf_script.proofs.LineUnder.{line_under}
-use Rattle.pf_script.proofs.OfScript.{of_flushed}
+use Rattle.pf_script.proofs.MadeActs.{MayFlush}
+use Rattle.pf_script.proofs.OfScript.{of_flushed, change_names}
 use Rattle.pf_script.proofs.Refusing.{idle_seen, none_taken, first_then}
 use Rattle.pf_script.proofs.OverFiles.{own_over, still_over}
 use Rattle.pf_script.proofs.SeatCalls.{seen_by}
 use Rattle.pf_script.proofs.Under.{own_idle}
-use Rattle.pf_script.proofs.WriteLine.{IsWriteLine, write_asks, write_first, write_replies, written, stepped_reply, unflushed_reply, why_refused, passes}
+use Rattle.pf_script.proofs.WriteLine.{IsWriteLine, plain, copies, write_asks, write_first, write_replies, written, stepped_reply, unflushed_reply, why_refused, passes}
 
 -- nothing was done, on a seat whose content is known
 pub idle_booked : (key : List ℕ) (line : ScriptLine) (reply : Reply) (old : SessionState) → old.broken ≡ false → (host : HostState) (words : WordsState)
@@ -61,6 +62,11 @@ as_it_was key line result old new before after random random' same stays words b
     (subst (λ (h : HostState). SeatBooked key false line result (Some old) (Some old) before h random random') (sym stays)
     (subst (λ (w : WordsState). SeatBooked key false line result (Some old) (Some old) before before random w) (sym words) booked))
 
+-- the line may flush its seat
+write_flushes : (at : ℕ) (bytes : List ℕ) (line : ScriptLine) (count : ℕ) → IsWriteLine at bytes line count → MayFlush line
+write_flushes at bytes _ _ (plain k) seat deed is = is
+write_flushes at bytes _ _ (copies k count byte same) seat deed is = is
+
 module _ (key : List ℕ) (at : ℕ) (bytes : List ℕ) (line : ScriptLine) (count : ℕ) (is_line : IsWriteLine at bytes line count) (old : SessionState) (seated : IsSeated key old) (whole : old.broken ≡ false) where
   refused_under : (fault : WriteFault) (host : HostState) (words : WordsState) → WriteRefused at (length bytes) old.tree.size fault → SeatBooked key false line (write_reply count (Err fault)) (Some old) (Some old) host host words words
   refused_under fault host words why =
@@ -81,10 +87,10 @@ module _ (key : List ℕ) (at : ℕ) (bytes : List ℕ) (line : ScriptLine) (cou
         accepted (passes key at bytes line count is_line old seated whole free base given) (record { host = refl; random = refl })
         (changes own own line (replies.Written count false) [] [] (write_asks at bytes line count is_line (length (now base old.tree)) [] (nothing none refl)) (none_left own) (write_replies at bytes line count is_line [])))
 
-    some_under : bytes ≢ [] → (new : SessionState) (before after : HostState) (random random' : WordsState) → OnDisk before after (KeepsUnder (Covers old) (Covers new) (λ name. name ≡ old.name)) → Aside old.name before after → ReadsAsImage after
+    some_under : bytes ≢ [] → (new : SessionState) → new.name ≡ old.name → (before after : HostState) (random random' : WordsState) → OnDisk before after (KeepsUnder (Covers old) (Covers new) (λ name. name ≡ old.name)) → Aside old.name before after → ReadsAsImage after
         → (outcome : Outcome) → ChangeIn (Write at bytes) old new outcome before after random random' → SeatBooked key false line (outcome_reply (written count) outcome) (Some old) (Some new) before after random random'
-    some_under some new before after random random' keeps aside reads =
-        line_under key line old new seated whole before after random random' keeps aside reads (Write at bytes) (written count) (λ size. write_asks at bytes line count is_line size (Write at bytes ∷ []) (at_place some refl)) replied
+    some_under some new named before after random random' keeps aside reads =
+        line_under key line (write_flushes at bytes line count is_line) old new seated whole named before after random random' keeps aside reads (Write at bytes) (written count) (λ size. write_asks at bytes line count is_line size (Write at bytes ∷ []) (at_place some refl)) replied
         (passes key at bytes line count is_line old seated whole free) (λ flushed. tt)
       where
         replied : (flushed : Bool) (sheets : List Sheet) → Grew flushed [] sheets → IsChangeReply sheets line (replies.Written count flushed)
@@ -97,6 +103,9 @@ write_under key at bytes line count is_line old new result before after random r
   where
     keeps : OnDisk before after (KeepsUnder (Covers old) (Covers new) (λ name. name ≡ old.name))
     keeps = change_keeps old seated.of_script WriteFault (WriteRefused at (length bytes) old.tree.size) (bytes ≡ []) write_of_flush write_of_tree (Write at bytes) result new before after random random' whole goes aside reads
+
+    named : new.name ≡ old.name
+    named = (change_names old new WriteFault (WriteRefused at (length bytes) old.tree.size) (bytes ≡ []) write_of_flush write_of_tree (Write at bytes) result before after random random' goes).1
 
     as_result : (r : Result Written WriteFault) → result ≡ r → SeatBooked key false line (write_reply count r) (Some old) (Some new) before after random random' → SeatBooked key false line (write_reply count result) (Some old) (Some new) before after random random'
     as_result r said = subst (λ (x : Result Written WriteFault). SeatBooked key false line (write_reply count x) (Some old) (Some new) before after random random') (sym said)
@@ -113,15 +122,15 @@ write_under key at bytes line count is_line old new result before after random r
     by_case (changed one free some roomy steps words said) =
         as_result (stepped write_of_tree false one) said
         (by_reply (outcome_reply (written count) (outcome_of false one)) (write_reply count (stepped write_of_tree false one)) (stepped_reply count false one)
-        (some_under key at bytes line count is_line old seated whole free some new before after random random' keeps aside reads (outcome_of false one) (in_once old (Write at bytes) before after random random' new one roomy steps words)))
+        (some_under key at bytes line count is_line old seated whole free some new named before after random random' keeps aside reads (outcome_of false one) (in_once old (Write at bytes) before after random random' new one roomy steps words)))
     by_case (not_flushed fault free some first flush undamaged said) =
         as_result (Err (write_of_flush fault)) said
         (by_reply (outcome_reply (written count) (flush_outcome fault)) (write_reply count (Err (write_of_flush fault))) (unflushed_reply count fault)
-        (some_under key at bytes line count is_line old seated whole free some new before after random random' keeps aside reads (flush_outcome fault)
+        (some_under key at bytes line count is_line old seated whole free some new named before after random random' keeps aside reads (flush_outcome fault)
         (in_unflushed old (Write at bytes) before after random random' new fault first undamaged (flush_ends old seated.of_script new before after random random' (Err fault) flush))))
     by_case (flushed_and_changed mid between one free some first flush steps said) =
         as_result (stepped write_of_tree true one) said
         (by_reply (outcome_reply (written count) (outcome_of true one)) (write_reply count (stepped write_of_tree true one)) (stepped_reply count true one)
-        (some_under key at bytes line count is_line old seated whole free some new before after random random' keeps aside reads (outcome_of true one)
+        (some_under key at bytes line count is_line old seated whole free some new named before after random random' keeps aside reads (outcome_of true one)
         (in_after old (Write at bytes) before after random random' mid new between one (of_flushed old mid seated.of_script (Ok tt) before between random random' flush) first
         (flush_ends old seated.of_script mid before between random random' (Ok tt) flush) steps)))
