@@ -12,10 +12,10 @@ use Rattle.pf_session.specs.Moving.{IsKeptOn}
 use Rattle.pf_session.specs.Reopening.{AsEither, Stood}
 use Rattle.pf_session.specs.Sealing.{StoodIf}
 use Rattle.pf_session.specs.State.{SessionState}
-use Rattle.pf_script.specs.Book.{Book, Entry, Seal}
-use Rattle.pf_script.specs.BookActs.{Deed, Flush, Act, Among, flushed}
+use Rattle.pf_script.specs.Book.{Book, Entry, Seal, Agrees}
+use Rattle.pf_script.specs.BookActs.{Deed, Flush, Act, Among, booked_all, flushed}
 use Rattle.pf_script.specs.BookDebts.{Unchanged, SparesOthers, Owes, DidAll, subject, seat_of}
-use Rattle.pf_script.specs.BookSeats.{Covering, Covers, CoversNone, SparesSeats, Kept, KeepsUnder}
+use Rattle.pf_script.specs.BookSeats.{Covering, Covers, CoversNone, SparesSeats, KeepsUnder}
 use Rattle.pf_script.proofs.Seats.{seats_after, seats_are, seats_stay, seat_is_left}
 
 pub unchanged_now : (host : Honest) → Unchanged host host
@@ -41,18 +41,19 @@ pub record Idles (old new : SessionState) (a b : Honest) : Type 0 where
   pub whole : new.broken ≡ false → old.broken ≡ false
   pub kept : (base : Sheet) → IsKeptOn base old → Stood old.key old.name base a.now → new.broken ≡ false → IsKeptOn base new
 
+pub idle_covers : (old new : SessionState) (a b : Honest) → Idles old new a b → (book : Book) (seats : List Seal) → Agrees book seats a.now → Covers old book seats → Covers new book seats
+idle_covers old new a b idles book seats agrees covers entry whole is =
+    let was : book old.name ≡ Some entry = sym (ap book idles.name_is) ∙ is in
+    let seat = covers entry (idles.whole whole) was in
+    let stands = agrees.stand (seat_of old.key old.name seat.0) entry seat.1 was in (
+      seat.0,
+      subst (λ (k : List ℕ). Contains seats (seat_of k new.name seat.0)) (sym idles.key_is) (subst (λ (n : Name). Contains seats (seat_of old.key n seat.0)) (sym idles.name_is) seat.1),
+      idles.kept seat.0 seat.2 stands.stood whole,
+    )
+
 pub idle_keeps : (old new : SessionState) (a b : Honest) (concerns : Name → Type 0) → Idles old new a b → KeepsUnder (Covers old) (Covers new) concerns a b
-idle_keeps old new a b concerns idles book seats agrees reads covers = ([], seats, (idles.unchanged, λ seat has. has), covers_new, λ seat has apart. has, λ name none. absurd none)
-  where
-    covers_new : Covers new book seats
-    covers_new entry whole is =
-        let was : book old.name ≡ Some entry = sym (ap book idles.name_is) ∙ is in
-        let seat = covers entry (idles.whole whole) was in
-        let stands = agrees.stand (seat_of old.key old.name seat.0) entry seat.1 was in (
-          seat.0,
-          subst (λ (k : List ℕ). Contains seats (seat_of k new.name seat.0)) (sym idles.key_is) (subst (λ (n : Name). Contains seats (seat_of old.key n seat.0)) (sym idles.name_is) seat.1),
-          idles.kept seat.0 seat.2 stands.stood whole,
-        )
+idle_keeps old new a b concerns idles book seats agrees reads covers =
+    ([], seats, (idles.unchanged, λ seat has. has), idle_covers old new a b idles book seats agrees covers, λ seat has apart. has, λ name none. absurd none)
 
 -- only reads
 pub only_reads : (covering : Covering) (a b : Honest) (concerns : Name → Type 0) → Unchanged a b → KeepsUnder covering covering concerns a b
@@ -83,43 +84,45 @@ pub record SealsOnce (done : Bool) (old new : SessionState) (a b : Honest) : Typ
 abbrev pub no_sheet : Sheet
 no_sheet = record { path = []; nonce = []; content = []; nodes = [] }
 
-pub seal_keeps : (done : Bool) (old new : SessionState) (a b : Honest) → IsTarget old.name → SealsOnce done old new a b → KeepsUnder (Covers old) (Covers new) (λ name. name ≡ old.name) a b
-seal_keeps done old new a b target once book seats agrees reads covers = by_entry (book old.name) refl
+-- one flush of a name
+abbrev pub one_flush : Bool → List ℕ → Name → Sheet → List Act
+one_flush done key name sheet = record { deed = Flush (seat_of key name sheet); done = done } ∷ []
+
+-- Under a book such a call is one flush, and the session after it is covered.
+abbrev pub SealsAs : Bool → SessionState → SessionState → Book → List Seal → Honest → Honest → Sheet → Type 0
+SealsAs done old new book seats a b sheet =
+    let left = seats_after (Flush (seat_of old.key old.name sheet)) done seats in
+    DidAll book seats (one_flush done old.key old.name sheet) left a b × Covers new (booked_all (one_flush done old.key old.name sheet) book) left
+
+pub seal_does : (done : Bool) (old new : SessionState) (a b : Honest) → IsTarget old.name → SealsOnce done old new a b → (book : Book) (seats : List Seal) → Agrees book seats a.now → Covers old book seats
+    → (sheet : Sheet) × SealsAs done old new book seats a b sheet
+seal_does done old new a b target once book seats agrees covers = by_entry (book old.name) refl
   where
     spares : (sheet : Sheet) → SparesOthers (Flush (seat_of old.key old.name sheet)) a b
     spares sheet = record { targets = target; others = once.others; reads = once.reads }
 
-    acts_of : Sheet → List Act
-    acts_of sheet = record { deed = Flush (seat_of old.key old.name sheet); done = done } ∷ []
-
-    only_it : (sheet : Sheet) (name : Name) → Among (acts_of sheet) name → name ≡ old.name
-    only_it sheet name (inl is) = is
-    only_it sheet name (inr none) = absurd none
-
-    by_entry : (o : Option Entry) → book old.name ≡ o → Kept (Covers new) (λ name. name ≡ old.name) book seats a b
+    by_entry : (o : Option Entry) → book old.name ≡ o → (sheet : Sheet) × SealsAs done old new book seats a b sheet
     by_entry None was =
         let seal = seat_of old.key old.name no_sheet in (
-          acts_of no_sheet,
-          seats_after (Flush seal) done seats,
-          one_act book seats (Flush seal) done a b (spares no_sheet) (subst (λ (o : Option Entry). Owes seats (Flush seal) done o a b) (sym was) tt),
-          λ entry whole is.
-              let e : None ≡ Some entry = sym was ∙ sym (ap book once.name_is) ∙ sym (ap (λ (o : Option Entry). flushed seal done o book new.name) was) ∙ is in
-              absurd (cc),
-          one_spares seats (Flush seal) done,
-          only_it no_sheet,
+          no_sheet,
+          (
+            one_act book seats (Flush seal) done a b (spares no_sheet) (subst (λ (o : Option Entry). Owes seats (Flush seal) done o a b) (sym was) tt),
+            λ entry whole is.
+                let e : None ≡ Some entry = sym was ∙ sym (ap book once.name_is) ∙ sym (ap (λ (o : Option Entry). flushed seal done o book new.name) was) ∙ is in
+                absurd (cc),
+          ),
         )
     by_entry (Some entry) was =
         let seat = covers entry once.whole was in
         let stood = (agrees.stand (seat_of old.key old.name seat.0) entry seat.1 was).stood in
         let on = once.seals seat.0 stood.as_sheet.stands.linked seat.2.backed in
         let seal = seat_of old.key old.name on.next in (
-          acts_of on.next,
-          seats_after (Flush seal) done seats,
-          one_act book seats (Flush seal) done a b (spares on.next)
-              (subst (λ (o : Option Entry). Owes seats (Flush seal) done o a b) (sym was) (seat.0, seat.1, record { path_is = on.path_is; sealed = on.sealed })),
-          λ entry2 whole is. covered done refl on stood whole,
-          one_spares seats (Flush seal) done,
-          only_it on.next,
+          on.next,
+          (
+            one_act book seats (Flush seal) done a b (spares on.next)
+                (subst (λ (o : Option Entry). Owes seats (Flush seal) done o a b) (sym was) (seat.0, seat.1, record { path_is = on.path_is; sealed = on.sealed })),
+            λ entry2 whole is. covered done refl on stood whole,
+          ),
         )
       where
         covered : (d : Bool) → done ≡ d → {base : Sheet} (on : SealsOn done old new base a b) → Stood old.key old.name base a.now → new.broken ≡ false
@@ -133,6 +136,16 @@ seal_keeps done old new a b target once book seats agrees reads covers = by_entr
               on.on_next is whole stood,
             )
         covered false is on stood whole = let e : true ≡ false = sym (once.fails is) ∙ whole in absurd (cc)
+
+pub seal_keeps : (done : Bool) (old new : SessionState) (a b : Honest) → IsTarget old.name → SealsOnce done old new a b → KeepsUnder (Covers old) (Covers new) (λ name. name ≡ old.name) a b
+seal_keeps done old new a b target once book seats agrees reads covers =
+    let does = seal_does done old new a b target once book seats agrees covers in
+    let deed : Deed = Flush (seat_of old.key old.name does.0) in
+    (one_flush done old.key old.name does.0, seats_after deed done seats, does.1.0, does.1.1, one_spares seats deed done, only_it does.0)
+  where
+    only_it : (sheet : Sheet) (name : Name) → Among (one_flush done old.key old.name sheet) name → name ≡ old.name
+    only_it sheet name (inl is) = is
+    only_it sheet name (inr none) = absurd none
 
 -- a session that is let go at the end
 pub letting_go : (before after : Covering) (a b : Honest) (concerns : Name → Type 0) → KeepsUnder before after concerns a b → KeepsUnder before CoversNone concerns a b

@@ -24,7 +24,7 @@ use Rattle.pf_script.proofs.CallKeeping.{both_with, at_both, back_to, read_image
 
 module _ (old : SessionState) (mine : IsOfScript old) where
   -- a step with no flush before it
-  step_idles : (new : SessionState) (one : Result (Unit {0}) TreeFault) (step : Step) (before after : HostState) (a b : Honest) → before.honest ≡ Some a → after.honest ≡ Some b → old.broken ≡ false
+  pub step_idles : (new : SessionState) (one : Result (Unit {0}) TreeFault) (step : Step) (before after : HostState) (a b : Honest) → before.honest ≡ Some a → after.honest ≡ Some b → old.broken ≡ false
       → StepGoes one step old new before after → Idles old new a b
   step_idles new one step before after a b is is2 whole goes = record {
     unchanged = at_both (Ran IsImage Stays) before.honest after.honest a b is is2 goes.disk;
@@ -52,7 +52,7 @@ module _ (old : SessionState) (mine : IsOfScript old) where
               (subst (λ (s : SessionState). Stood s.key s.name seals.next m.now) (sym was.state) (ran stood).ends) whole;
         }
 
-    flushed_step : (a b : Honest) → before.honest ≡ Some a → after.honest ≡ Some b → old.broken ≡ false → Ran (LeavesApart old.name) (KeepsApart old.name) a b → IsImage b.now (reading b.now) → SealsOnce true old new a b
+    pub flushed_step : (a b : Honest) → before.honest ≡ Some a → after.honest ≡ Some b → old.broken ≡ false → Ran (LeavesApart old.name) (KeepsApart old.name) a b → IsImage b.now (reading b.now) → SealsOnce true old new a b
     flushed_step a b is is2 whole others reads =
         let m = back_to (Ran IsImage Stays) between.honest after.honest b is2 goes.disk in
         let same = step_names mid new one goes.state in

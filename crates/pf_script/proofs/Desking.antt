@@ -6,7 +6,7 @@ use Rattle.std.proofs.lemmas.List.{get_or-set_same, get_or-set_other, length-set
 use Rattle.std.proofs.lemmas.Option.{IfSome_then}
 use Rattle.node_tree.specs.Sheet.{Sheet}
 use Rattle.pf_io.specs.Disk.{Name}
-use Rattle.pf_io.specs.Host.{Answer, HostState, WhereTold}
+use Rattle.pf_io.specs.Host.{Answer, HostState, WhereTold, OnDisk}
 use Rattle.pf_io.specs.Moments.{Honest}
 use Rattle.pf_io.specs.Words.{WordsState}
 use Rattle.pf_io.specs.declared.faults.Memory.{Memory}
@@ -16,7 +16,7 @@ use Rattle.pf_script.specs.Book.{Book, Seal}
 use Rattle.pf_script.specs.BookActs.{Act}
 use Rattle.pf_script.specs.BookSeats.{Covers, CoversEach, CoversBoth, KeepsUnder}
 use Rattle.pf_script.specs.Desk.{DeskState, session_at, IsSeated, IsSeatOf, IsDesk, Shows, IsStateOf}
-use Rattle.pf_script.specs.DeskSteps.{Unfolds, in_the_end, then_more, SeatAsks, Asks, HasItsName, OtherHas, Concerns, ConcernsDesk, CoversSome, CoversDesk, KeepsNames, KeepsSession, NothingDone, IsBrokenSession, BreaksSeat, SeatIdle, SeatWants, Wants, WhereWanting, WhereReplied, SeatGoes, DeskGoes}
+use Rattle.pf_script.specs.DeskSteps.{Unfolds, in_the_end, then_more, SeatAsks, Asks, HasItsName, OtherHas, Concerns, ConcernsDesk, CoversSome, CoversDesk, KeepsNames, KeepsSession, NothingDone, IsBrokenSession, BreaksSeat, SeatIdle, FlushesUnder, SeatWants, Wants, WhereWanting, WhereReplied, SeatGoes, DeskGoes}
 use Rattle.pf_script.specs.Script.{Seat, Empty, ScriptState, seat_at, HasThisName, IsTaken, state_with, seat_of_line, name_of_line}
 use Rattle.pf_script.specs.Turns.{SeatTurn, on_seat, on_carried, SaysTaken}
 use Rattle.pf_script.specs.Words.{SEATS}
@@ -26,6 +26,7 @@ use Rattle.pf_script.proofs.Refusing.{keeps_same}
 use Rattle.pf_script.proofs.Showing.{shows_none, shows_some, shows_more}
 use Rattle.pf_script.proofs.Sparing.{spares_more}
 use Rattle.pf_script.proofs.StepKeeping.{keeps_more, others_too, covers_less}
+use Rattle.pf_script.proofs.WantFlushes.{flushes_less}
 
 -- a seat is the k-th, or another one
 pub same_or_not : (j k : ℕ) → (j ≡ k) ⊎ (j ≢ k)
@@ -191,6 +192,7 @@ module _ (old : DeskState) (desk : IsDesk old) (k : ℕ) (below : k < SEATS) (ta
       takes = wants.takes;
       told = wants.told;
       ends = ⊎_elim (λ idle. inl (nothing idle)) (λ breaks. inr (breaks.0, broken breaks.1)) wants.ends;
+      flushes = λ j session is_seat is. flushed j session (same_seat j (sym is_seat ∙ names)) is;
       others = λ j other. off j (λ e. other (names ∙ ap (λ (i : ℕ). Some i) (sym e)));
     }
       where
@@ -206,6 +208,14 @@ module _ (old : DeskState) (desk : IsDesk old) (k : ℕ) (below : k < SEATS) (ta
           disk = idle.disk;
           words = idle.words;
         }
+
+        same_seat : (j : ℕ) → ◌≡◌ {A = Option ℕ} (Some j) (Some k) → j ≡ k
+        same_seat j is = cc
+
+        flushed : (j : ℕ) (session : SessionState) → j ≡ k → session_at old j ≡ Some session → OnDisk before after (FlushesUnder (CoversDesk old) session.name)
+        flushed j session same is =
+            flushes_less (Covers session) (CoversDesk old) session.name before after (λ book seats covers. covers j session is)
+            (wants.flushes session (subst (λ i. session_at old i ≡ Some session) same is))
 
         broken : IsBrokenSession left → BreaksSeat line new
         broken is = let at = broken_at left is in (k, at.0, names, here ∙ at.1, at.2)

@@ -72,6 +72,7 @@ pub mod StepFacts
 pub mod StepTurns
 pub mod ChangeTold
 pub mod ChangeEnds
+pub mod WantFlushes
 pub mod WriteLine
 pub mod ChangeLine
 pub mod SizeSet

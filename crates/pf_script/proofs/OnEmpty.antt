@@ -126,7 +126,7 @@ module _ (key : List ℕ) (line : ScriptLine) (name : Name) (names : name_of_lin
       asks = tt;
       books = books;
       counts = (calm, ap (λ (w : WordsState). w.faults) same);
-      wants = record { takes = takes; told = told; ends = inl (record { seat = none; disk = disk; words = same }) };
+      wants = record { takes = takes; told = told; ends = inl (record { seat = none; disk = disk; words = same }); flushes = λ session is. absurd (cc) };
       seated = seated;
       named = λ n has. concerns n (named n has);
       spares = spares;

@@ -42,6 +42,7 @@ use Rattle.pf_script.proofs.ReadKeeping.{read_keeps}
 use Rattle.pf_script.proofs.Refusing.{at_last, none_then, none_taken}
 use Rattle.pf_script.proofs.SeatCalls.{seen_by, own_same, SheetTurns, whole_turns, shows_same, goes_told, goes_wanting}
 use Rattle.pf_script.proofs.StepFacts.{told_also, told_came}
+use Rattle.pf_script.proofs.WantFlushes.{kept_flushes}
 use Rattle.std.specs.Prelude.{Contains, IfOk, OnErr}
 
 -- all of a buffer was lent
@@ -202,7 +203,13 @@ module _ (key : List ℕ) (k at count : ℕ) (old : SessionState) (seated : IsSe
           turns = whole_turns key false (lines.Read k at count) (seen_by given [] true false) replies.HostFault old (Some new) given whole (host_turns few given facts);
         })) books seated_new (ap (λ (s : SessionState). s.name) fields)
     by_result (Err trees.Memory) counted cause told =
-        goes_wanting key false (lines.Read k at count) old before after words words (aside_kept old.name before after disk) (record {}) new (record { takes = λ none. none; told = told_weaker (ReadFacts (Err trees.Memory) at buffer old new) (λ given. Unit {0}) before after told (λ given facts. tt); ends = inl (record { seat = fields; disk = disk; words = refl }) }) books seated_new
+        goes_wanting key false (lines.Read k at count) old before after words words (aside_kept old.name before after disk) (record {}) new
+        (record {
+          takes = λ none. none;
+          told = told_weaker (ReadFacts (Err trees.Memory) at buffer old new) (λ given. Unit {0}) before after told (λ given facts. tt);
+          ends = inl (record { seat = fields; disk = disk; words = refl });
+          flushes = λ session is. kept_flushes (Covers session) session.name before after disk;
+        }) books seated_new
         (ap (λ (s : SessionState). s.name) fields) cause.still refl
 
 pub ends_count : (r : Result ℕ TreeFault) (given : AtNodes) (at : ℕ) (buffer : List ℕ) (old new : TreeState) → ReadEnds r given at buffer old new → IfOk r (λ n. n ≡ readable old at (length buffer))

@@ -8,13 +8,14 @@ use Rattle.pf_io.specs.Host.{Answer, HostState, Both}
 use Rattle.pf_io.specs.Disk.{IsImage}
 use Rattle.pf_io.specs.Moments.{Honest, Ran}
 use Rattle.pf_io.specs.Steps.{Stays}
+use Rattle.pf_io.specs.Unchanged.{KeepsDisk}
 use Rattle.pf_io.specs.Words.{WordsState}
 use Rattle.pf_io.specs.declared.faults.Memory.{Memory}
 use Rattle.pf_io.proofs.Telling.{both_same, told_none, told_by}
 use Rattle.pf_session.specs.Asking.{IsTaken as AreTaken}
 use Rattle.pf_session.specs.State.{SessionState}
 use Rattle.pf_script.specs.BookActs.{Act}
-use Rattle.pf_script.specs.BookSeats.{Covering, KeepsUnder}
+use Rattle.pf_script.specs.BookSeats.{Covering, Covers, KeepsUnder}
 use Rattle.pf_script.specs.Desk.{IsSeatOf, IsSeated, Shows}
 use Rattle.pf_script.specs.DeskSteps.{Unfolds, in_the_end, then_more, SeatAsks, CoversSome, Concerns, KeepsSession, TakesNone, SeatGoes}
 use Rattle.pf_script.specs.Rules.{Rule, IsFirst, NoneRefuses, IsBroken, rules, seated_rules}
@@ -27,6 +28,7 @@ use Rattle.pf_script.specs.declared.reply.Why.{Why}
 use Rattle.pf_script.specs.declared.reply.Why.TheVariants as whys
 use Rattle.pf_script.proofs.ActKeeping.{unchanged_now}
 use Rattle.pf_script.proofs.Sparing.{spares_none}
+use Rattle.pf_script.proofs.WantFlushes.{kept_flushes}
 
 abbrev pub idle_seen : Seen
 idle_seen = record { given = []; words = []; host_failed = false; words_failed = false }
@@ -79,11 +81,19 @@ nothing_wanting key taken line fault old host words takes seated = record {
   asks = tt;
   books = both_same (KeepsUnder (CoversSome old) (CoversSome old) (Concerns taken line old)) host.honest host.honest refl (same_keeps (CoversSome old) (Concerns taken line old));
   counts = (refl, refl);
-  wants = record { takes = takes; told = told_by (λ given. Unit {0}) [] host host (told_none host host refl) tt; ends = inl (record { seat = keeps_same old; disk = both_same (Ran IsImage Stays) host.honest host.honest refl unchanged_now; words = refl }) };
+  wants = record {
+    takes = takes;
+    told = told_by (λ given. Unit {0}) [] host host (told_none host host refl) tt;
+    ends = inl (record { seat = keeps_same old; disk = still; words = refl });
+    flushes = λ session is. kept_flushes (Covers session) session.name host host still;
+  };
   seated = seated;
   named = λ name has. inl has;
   spares = spares_none (Concerns taken line old) host;
 }
+  where
+    still : KeepsDisk host host
+    still = both_same (Ran IsImage Stays) host.honest host.honest refl unchanged_now
 
 -- the first rules of a line that needs a file
 pub first_empty : (rest : List Rule) (seat : Seat) → seat ≡ Empty → IsFirst (seated_rules seat ++ rest) whys.SeatEmpty

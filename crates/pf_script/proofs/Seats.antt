@@ -28,10 +28,10 @@ left_of deed false = []
 abbrev pub seats_after : Deed → Bool → List Seal → List Seal
 seats_after deed done seats = without deed seats ++ left_of deed done
 
-not_in_none : (s : Seal) → Contains [] s → ⊥
+pub not_in_none : {X : Type 0} (s : X) → Contains [] s → ⊥
 not_in_none s has = absurd (omega (arith, has.1))
 
-only_one : (s t : Seal) → Contains (s ∷ []) t → t ≡ s
+pub only_one : {X : Type 0} (s t : X) → Contains (s ∷ []) t → t ≡ s
 only_one s t has = ⊎_elim (λ none. absurd (not_in_none t none)) (λ same. sym same) (Contains-push_cases [] s t has)
 
 named : (deed : Deed) (n : Name) → Names deed n → names_it deed n ≡ true

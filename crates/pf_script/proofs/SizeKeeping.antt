@@ -20,10 +20,10 @@ module _ (result : Result Written SizeFault) (n : ℕ) (old new : SessionState) 
   sets_keep : OnDisk before after (KeepsUnder (Covers old) (Covers new) (λ name. name ≡ old.name))
   sets_keep = change_keeps old mine SizeFault (SizeRefused n old.tree.size) (n ≡ old.tree.size) size_of_flush size_of_tree (Size n) result new before after random random' sets.whole sets.goes sets.aside sets.reads
 
-  of_set : IsOfScript new
+  pub of_set : IsOfScript new
   of_set = of_changed old new mine SizeFault (SizeRefused n old.tree.size) (n ≡ old.tree.size) size_of_flush size_of_tree (Size n) result before after random random' sets.goes
 
-  set_name : new.name ≡ old.name
+  pub set_name : new.name ≡ old.name
   set_name = (change_names old new SizeFault (SizeRefused n old.tree.size) (n ≡ old.tree.size) size_of_flush size_of_tree (Size n) result before after random random' sets.goes).1
 
 pub size_keeps : (result : Result (Unit {0}) SizeFault) (size : ℕ) {old new : SessionState} {before after : HostState} {random random' : WordsState} → IsOfScript old → SizesGo result size old new before after random random'

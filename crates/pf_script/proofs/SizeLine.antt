@@ -1,11 +1,11 @@
 -- The line `size`, from the contracts of the changes of size that it makes.
-use Rattle.std.proofs.Common.{◌≡◌, inr, Bool, true, false, List, [], ◌∷◌, ℕ, ◌^◌, ◌<◌, ◌≤◌, refl, sym, subst, Some, Result, Ok, Err, length, arith}
+use Rattle.std.proofs.Common.{◌≡◌, inr, Bool, true, false, List, [], ◌∷◌, ℕ, ◌^◌, ◌<◌, ◌≤◌, refl, sym, ◌∙◌, ap, subst, Some, Result, Ok, Err, length, arith}
 use Rattle.node_tree.specs.Applying.{Step}
 use Rattle.node_tree.specs.Backing.{now}
 use Rattle.node_tree.specs.Sheet.{Sheet}
 use Rattle.node_tree.specs.declared.fault.TreeFault.{TreeFault}
 use Rattle.node_tree.specs.declared.fault.TreeFault.TheVariants as trees
-use Rattle.pf_io.specs.Host.{Answer, HostState}
+use Rattle.pf_io.specs.Host.{Answer, HostState, OnDisk}
 use Rattle.pf_io.specs.Words.{WordsState}
 use Rattle.pf_io.specs.declared.faults.Memory.{Memory}
 use Rattle.pf_io.proofs.Telling.{told_weaker}
@@ -17,11 +17,12 @@ use Rattle.pf_session.specs.declared.fault.FlushFault.TheVariants as faults
 use Rattle.pf_session.specs.declared.fault.SizeFault.{SizeFault}
 use Rattle.pf_session.specs.declared.fault.SizeFault.TheVariants as sizes
 use Rattle.pf_session.specs.declared.fault.Written.{Written}
+use Rattle.pf_script.specs.BookSeats.{Covers}
 use Rattle.pf_script.specs.Desk.{IsSeated, seat_on}
-use Rattle.pf_script.specs.DeskSteps.{CountsFault, SeatAsks, SeatGoes}
+use Rattle.pf_script.specs.DeskSteps.{CountsFault, SeatAsks, FlushesUnder, SeatGoes}
 use Rattle.pf_script.specs.Rules.{NoneRefuses, rules, refuses}
 use Rattle.pf_script.specs.Script.{Own}
-use Rattle.pf_script.specs.SeatReplies.{flush_reply, IsNoLimit, IsNextSize, SizesGo, set_last, set_failed, set_piece}
+use Rattle.pf_script.specs.SeatReplies.{flush_reply, size_reply, IsNoLimit, IsNextSize, SizesGo, set_last, set_failed, set_piece}
 use Rattle.pf_script.specs.SeatSteps.{LARGEST, IsResize}
 use Rattle.pf_script.specs.Turns.{Blame}
 use Rattle.pf_script.specs.declared.line.ScriptLine.TheVariants as lines
@@ -36,6 +37,7 @@ use Rattle.pf_script.proofs.SeatCalls.{seen_by, SheetTurns, whole_turns, host_re
 use Rattle.pf_script.proofs.SizeSeen.{sized, size_result, never_refused, SizeSeen, size_seen}
 use Rattle.pf_script.proofs.SizeTold.{SizeTold, size_ends}
 use Rattle.pf_script.proofs.StepTurns.{LineEnds}
+use Rattle.pf_script.proofs.WantFlushes.{flushed_under, flushes_of, size_flushes}
 
 -- the fault of a change that no rule refused
 tree_no_limit : (flushed : Bool) (fault : SizeFault) (one : Result (Unit {0}) TreeFault) → ◌≡◌ {A = Result Written SizeFault} (Err fault) (stepped size_of_tree flushed one) → IsNoLimit fault
@@ -101,7 +103,8 @@ module _ (key : List ℕ) (k size : ℕ) (small : size ≤ 2 ^ 32) (old new : Se
         (record { went = λ f is acts ends. absurd (cc); broke = λ blame is acts ends. absurd (cc); lack = λ is acts ends. ends; memory = λ is. absurd (cc) })
         [] [] [] base (none_made sealed base old among linked kept whole) (goes_on_now base) [] refl refl
 
-  module _ (result : Result (Unit {0}) SizeFault) (before after : HostState) (random random' : WordsState) (seen : SizeSeen key size small result old new before after random random') where
+  module _ (result : Result (Unit {0}) SizeFault) (before after : HostState) (random random' : WordsState) (seen : SizeSeen key size small result old new before after random random')
+      (flushes : seen.outcome ≡ Wanted → OnDisk before after (FlushesUnder (Covers old) old.name)) where
     by_outcome : (outcome : Outcome) → seen.outcome ≡ outcome → SeatGoes key false (lines.Size k size) (outcome_reply (sized size) outcome) (Some old) (Some new) before after random random'
     by_outcome (Went flushed) is =
         goes_told key false (lines.Size k size) old before after random random' seen.aside (replies.Sized size)
@@ -151,12 +154,26 @@ module _ (key : List ℕ) (k size : ℕ) (small : size ≤ 2 ^ 32) (old new : Se
               (lacked_turns given seen.words (subst (λ (o : Outcome). SizeTold size old new given seen.words o) is told));
         })) seen.books seen.seated_new seen.name_is
     by_outcome Wanted is =
-        goes_wanting key false (lines.Size k size) old before after random random' seen.aside (record {}) new (record { takes = λ none. none; told = told_weaker (λ given. SizeTold size old new given seen.words seen.outcome) (λ given. Unit {0}) before after seen.told (λ given facts. tt); ends = inr (tt, seen.breaks is) }) seen.books seen.seated_new seen.name_is
+        goes_wanting key false (lines.Size k size) old before after random random' seen.aside (record {}) new
+        (record {
+          takes = λ none. none;
+          told = told_weaker (λ given. SizeTold size old new given seen.words seen.outcome) (λ given. Unit {0}) before after seen.told (λ given facts. tt);
+          ends = inr (tt, seen.breaks is);
+          flushes = λ session same. flushes_of old session before after same (flushes is);
+        }) seen.books seen.seated_new seen.name_is
         (subst (λ (o : Outcome). CountsFault (host_in o) before.faults after.faults) is seen.on_host) (subst (λ (o : Outcome). CountsFault (words_in o) random.faults random'.faults) is seen.on_words)
+
+no_flush_wants : (fault : FlushFault) → ◌≡◌ {A = Result Reply Memory} (Err (record {})) (size_reply (size_of_flush fault)) → ⊥
+no_flush_wants faults.Words is = absurd (cc)
+no_flush_wants (faults.Damaged damage) is = absurd (cc)
+no_flush_wants faults.Host is = absurd (cc)
 
 pub size_goes : (key : List ℕ) (k size : ℕ) (old new : SessionState) (result : Result (Unit {0}) SizeFault) (before after : HostState) (random random' : WordsState) → size ≤ 2 ^ 32 → IsSeated key old → old.broken ≡ false
     → SizesGo result size old new before after random random' → SeatGoes key false (lines.Size k size) (size_result size result) (Some old) (Some new) before after random random'
 size_goes key k size old new result before after random random' small seated whole goes =
     let seen = size_seen key size small result old new before after random random' seated goes in
     subst (λ (r : Result Reply Memory). SeatGoes key false (lines.Size k size) r (Some old) (Some new) before after random random') seen.reply_is
-    (by_outcome key k size small old new whole result before after random random' seen seen.outcome refl)
+    (by_outcome key k size small old new whole result before after random random' seen
+    (λ wants.
+    flushed_under (Covers old) (Covers new) old.name before after
+    (size_flushes result size (λ fault is. no_flush_wants fault (sym (ap (outcome_reply (sized size)) wants) ∙ seen.reply_is ∙ ap (size_result size) is)) seated.of_script goes)) seen.outcome refl)

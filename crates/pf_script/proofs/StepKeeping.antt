@@ -36,18 +36,19 @@ pub keeps_next : (first between last : Covering) (concerns : Name → Type 0) (a
     → KeepsUnder first last concerns a b
 keeps_next first between last concerns a m b well one two book seats agrees reads covers = keeps_then first between last concerns a m b (well reads) one two book seats agrees reads covers
 
--- so for hosts, of which the one in between reads as one of its images
+-- two runs of hosts, of which the one in between reads as one of its images
+pub both_through : (P Q R : Honest → Honest → Type 0) (o p q : Option Honest) → Both o p P → IfSome p (λ host. IsImage host.now (reading host.now)) → Both p q Q → ((a m b : Honest) → IsImage m.now (reading m.now) → P a m → Q m b → R a b) → Both o q R
+both_through P Q R (Some a) (Some m) (Some b) one reads two go = go a m b reads one two
+both_through P Q R None None None one reads two go = tt
+both_through P Q R (Some a) None q one reads two go = absurd one
+both_through P Q R None (Some m) q one reads two go = absurd one
+both_through P Q R (Some a) (Some m) None one reads two go = absurd two
+both_through P Q R None None (Some b) one reads two go = absurd two
+
 pub keeps_on : (first between last : Covering) (concerns : Name → Type 0) (before mid after : HostState) → OnDisk before mid (KeepsUnder first between concerns) → ReadsAsImage mid → OnDisk mid after (KeepsUnder between last concerns)
     → OnDisk before after (KeepsUnder first last concerns)
-keeps_on first between last concerns before mid after one reads two = by_case before.honest mid.honest after.honest one reads two
-  where
-    by_case : (o p q : Option Honest) → Both o p (KeepsUnder first between concerns) → IfSome p (λ host. IsImage host.now (reading host.now)) → Both p q (KeepsUnder between last concerns) → Both o q (KeepsUnder first last concerns)
-    by_case (Some a) (Some m) (Some b) one reads two = keeps_then first between last concerns a m b reads one two
-    by_case None None None one reads two = tt
-    by_case (Some a) None q one reads two = absurd one
-    by_case None (Some m) q one reads two = absurd one
-    by_case (Some a) (Some m) None one reads two = absurd two
-    by_case None None (Some b) one reads two = absurd two
+keeps_on first between last concerns before mid after one reads two =
+    both_through (KeepsUnder first between concerns) (KeepsUnder between last concerns) (KeepsUnder first last concerns) before.honest mid.honest after.honest one reads two (keeps_then first between last concerns)
 
 -- reads before the calls
 pub after_reads : (first last : Covering) (concerns : Name → Type 0) (a m b : Honest) → Unchanged a m → KeepsUnder first last concerns m b → KeepsUnder first last concerns a b

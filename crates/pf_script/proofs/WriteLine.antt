@@ -22,7 +22,7 @@ use Rattle.pf_session.specs.declared.fault.WriteFault.TheVariants as writes
 use Rattle.pf_session.specs.declared.fault.Written.{Written}
 use Rattle.pf_script.specs.BookSeats.{Covers, KeepsUnder}
 use Rattle.pf_script.specs.Desk.{IsSeated, seat_on}
-use Rattle.pf_script.specs.DeskSteps.{IsChange, TakesNone, SeatGoes}
+use Rattle.pf_script.specs.DeskSteps.{IsChange, TakesNone, FlushesUnder, SeatGoes}
 use Rattle.pf_script.specs.Rules.{IsFirst, NoneRefuses, rules, seated_rules, writing_rules}
 use Rattle.pf_script.specs.Script.{Seat, Own}
 use Rattle.pf_script.specs.SeatReplies.{write_reply}
@@ -43,6 +43,7 @@ use Rattle.pf_script.proofs.Refusing.{refused_goes, first_then, none_then, at_la
 use Rattle.pf_script.proofs.SeatCalls.{seen_by, whole_turns, goes_on}
 use Rattle.pf_script.proofs.Showing.{shows_whole}
 use Rattle.pf_script.proofs.StepTurns.{all_made}
+use Rattle.pf_script.proofs.WantFlushes.{flushed_under, change_flushes}
 
 -- a line that writes these bytes; so many are printed
 pub data IsWriteLine (at : ℕ) (bytes : List ℕ) : ScriptLine → ℕ → Type 0 where
@@ -97,6 +98,11 @@ never_wanted : (fault : FlushFault) → flush_outcome fault ≡ Wanted → ⊥
 never_wanted faults.Words is = absurd (cc)
 never_wanted (faults.Damaged damage) is = absurd (cc)
 never_wanted faults.Host is = absurd (cc)
+
+no_flush_wants : (count : ℕ) (fault : FlushFault) → Err (record {}) ≡ write_reply count (Err (write_of_flush fault)) → ⊥
+no_flush_wants count faults.Words is = absurd (cc)
+no_flush_wants count (faults.Damaged damage) is = absurd (cc)
+no_flush_wants count faults.Host is = absurd (cc)
 
 pub wanted_breaks : (flushed : Bool) (one : Result (Unit {0}) TreeFault) (old new : SessionState) → StepState one old new → outcome_of flushed one ≡ Wanted → new.broken ≡ true
 wanted_breaks flushed (Ok done) old new state is = absurd (cc)
@@ -195,7 +201,7 @@ module _ (key : List ℕ) (at : ℕ) (bytes : List ℕ) (line : ScriptLine) (cou
 
     -- a write of some bytes
     some_goes : bytes ≢ [] → (new : SessionState) (before after : HostState) (random random' : WordsState) → Aside old.name before after → OnDisk before after (KeepsUnder (Covers old) (Covers new) (λ name. name ≡ old.name)) → IsSeated key new → new.name ≡ old.name
-        → (outcome : Outcome) → ChangeSeen (Write at bytes) old new outcome before after random random' → (outcome ≡ Wanted → new.broken ≡ true) → SeatGoes key false line (outcome_reply (written count) outcome) (Some old) (Some new) before after random random'
+        → (outcome : Outcome) → ChangeSeen (Write at bytes) old new outcome before after random random' → (outcome ≡ Wanted → (new.broken ≡ true) × OnDisk before after (FlushesUnder (Covers old) old.name)) → SeatGoes key false line (outcome_reply (written count) outcome) (Some old) (Some new) before after random random'
     some_goes some new before after random random' aside books seated_new name_is =
         line_goes key line old new whole (Write at bytes) (written count) (λ size. write_asks at bytes line count is_line size (Write at bytes ∷ []) (at_place some refl)) replied passes before after random random' aside books seated_new name_is
         (write_takes at bytes line count is_line) (write_changes at bytes line count is_line) (λ flushed. (refl, refl))
@@ -210,6 +216,13 @@ write_goes key at bytes line count is_line old new result before after random ra
   where
     books : OnDisk before after (KeepsUnder (Covers old) (Covers new) (λ name. name ≡ old.name))
     books = change_keeps old seated.of_script WriteFault (WriteRefused at (length bytes) old.tree.size) (bytes ≡ []) write_of_flush write_of_tree (Write at bytes) result new before after random random' whole goes aside reads
+
+    -- where memory was wanting
+    flushes : (outcome : Outcome) → outcome_reply (written count) outcome ≡ write_reply count result → outcome ≡ Wanted → OnDisk before after (FlushesUnder (Covers old) old.name)
+    flushes outcome replied wants =
+        flushed_under (Covers old) (Covers new) old.name before after
+        (change_flushes old seated.of_script WriteFault (WriteRefused at (length bytes) old.tree.size) (bytes ≡ []) write_of_flush write_of_tree (Write at bytes) result new before after random random' whole
+        (λ fault is. no_flush_wants count fault (sym (ap (outcome_reply (written count)) wants) ∙ replied ∙ ap (write_reply count) is)) goes aside reads)
 
     seated_new : IsSeated key new × (new.name ≡ old.name)
     seated_new = change_seated key old seated whole WriteFault (WriteRefused at (length bytes) old.tree.size) (bytes ≡ []) write_of_flush write_of_tree (Write at bytes) result new before after random random' goes
@@ -230,7 +243,8 @@ write_goes key at bytes line count is_line old new result before after random ra
         as_result (stepped write_of_tree false one) said
         (by_reply (outcome_reply (written count) (outcome_of false one)) (write_reply count (stepped write_of_tree false one)) (stepped_reply count false one)
         (some_goes key at bytes line count is_line old seated whole free some new before after random random' aside books seated_new.0 seated_new.1 (outcome_of false one)
-        (seen_once old seated.of_script (Write at bytes) before after random random' new one roomy steps words) (wanted_breaks false one old new steps.state)))
+        (seen_once old seated.of_script (Write at bytes) before after random random' new one roomy steps words)
+        (λ wants. (wanted_breaks false one old new steps.state wants, flushes (outcome_of false one) (stepped_reply count false one ∙ ap (write_reply count) (sym said)) wants))))
     by_case (not_flushed fault free some first flush undamaged said) =
         as_result (Err (write_of_flush fault)) said
         (by_reply (outcome_reply (written count) (flush_outcome fault)) (write_reply count (Err (write_of_flush fault))) (unflushed_reply count fault)
@@ -241,4 +255,5 @@ write_goes key at bytes line count is_line old new result before after random ra
         (by_reply (outcome_reply (written count) (outcome_of true one)) (write_reply count (stepped write_of_tree true one)) (stepped_reply count true one)
         (some_goes key at bytes line count is_line old seated whole free some new before after random random' aside books seated_new.0 seated_new.1 (outcome_of true one)
         (seen_after old seated.of_script (Write at bytes) before after random random' mid new between one (of_flushed old mid seated.of_script (Ok tt) before between random random' flush) first
-        (flush_case old seated.of_script mid before between random random' (Ok tt) flush) steps) (wanted_breaks true one mid new steps.state)))
+        (flush_case old seated.of_script mid before between random random' (Ok tt) flush) steps)
+        (λ wants. (wanted_breaks true one mid new steps.state wants, flushes (outcome_of true one) (stepped_reply count true one ∙ ap (write_reply count) (sym said)) wants))))
