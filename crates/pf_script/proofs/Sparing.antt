@@ -1,5 +1,5 @@
 -- Names that a step leaves as they were, since they are apart from all that it is concerned with.
-use Rattle.std.proofs.Common.{◌≡◌, ◌∙◌, ap, subst, Option}
+use Rattle.std.proofs.Common.{◌∙◌, ap, subst, Option}
 use Rattle.pf_io.specs.Disk.{Name, File, Disk, IsImage, IsImageAt}
 use Rattle.pf_io.specs.Host.{HostState}
 use Rattle.pf_io.specs.Steps.{Stays}
