@@ -77,6 +77,7 @@ one_under line reply d0 d1 h0 h1 r0 r1 agrees keeps image book state disk is =
       record {
         seats = is.seats;
         began = λ k own. one_seated book is.seats (seat_at state k) (session_at d0 k) own (is.is_state.shows k);
+        agreed = is.agrees;
         did = turn.did;
         leaves = all_leaves book is.seats turn.acts turn.left disk last.0 is.agrees is.image turn.did;
         spares = did_spares book is.seats turn.acts turn.left disk last.0 turn.did;

@@ -26,6 +26,7 @@ AreSeated book state seats = (k : ℕ) (own : OwnSeat) → seat_at state k ≡ O
 pub record ActsIn (exchange : Exchange) (book : Book) (state after : ScriptState) (acts : List Act) (left : List Seal) (old new : Honest) : Type 0 where
   pub seats : List Seal
   pub began : AreSeated book state seats
+  pub agreed : Agrees book seats old.now
   pub did : DidAll book seats acts left old new
   pub leaves : LeavesOnly (FitsDuring book acts) old new
   pub spares : Ran (LeavesOthers (AreApart acts)) (KeepsOthers (AreApart acts)) old new

@@ -48,6 +48,7 @@ stops_still starved desk host book state d b is unchanged = record {
   seats = is.seats;
   left = is.seats;
   began = began_seated desk host book state d is;
+  agreed = is.agrees;
   did = (unchanged, λ seat has. has);
   leaves = all_leaves book is.seats [] is.seats d b is.agrees is.image (unchanged, λ seat has. has);
   spares = did_spares book is.seats [] is.seats d b (unchanged, λ seat has. has);
@@ -133,6 +134,7 @@ stops_wanting starved is_starved line none d0 d1 h0 h1 after r0 r1 book state d 
           seats = is.seats;
           left = did.1;
           began = began_seated d0 h0 book state d is;
+          agreed = is.agrees;
           did = did.2;
           leaves = all_leaves book is.seats did.0 did.1 d b is.agrees is.image did.2;
           spares = did_spares book is.seats did.0 did.1 d b did.2;

@@ -41,6 +41,7 @@ pub record StopsUnder (starved : Type 0) (book : Book) (state : ScriptState) (ol
   pub seats : List Seal
   pub left : List Seal
   pub began : AreSeated book state seats
+  pub agreed : Agrees book seats old.now
   pub did : DidAll book seats acts left old new
   pub leaves : LeavesOnly (FitsDuring book acts) old new
   pub spares : Ran (LeavesOthers (AreApart acts)) (KeepsOthers (AreApart acts)) old new
