@@ -5,10 +5,12 @@ import signal
 import subprocess
 import time
 
-from harness import KEY, PROGRAM, TOP, encrypt, holds, put, run, same
+from harness import KEY, PROGRAM, TOP, decrypt, encrypt, got, holds, put, run, same
+from protected import NODE
 
 SESSION = [PROGRAM, "session", "-w", "key"]
 LONGEST = 131072
+PIECE = 32768
 
 
 def led(script, **how):
@@ -67,6 +69,37 @@ def test_session_edits_a_large_file():
     same(encrypt().status, 0, "encrypt")
     answers(b"open 0 out.pf\nwrite 0 396288 7a\nflush 0\nclose 0\n", b"ok open 396289\nok write 1\nok flush\nok close\nend\n")
     holds(content[:-1] + b"z")
+
+
+def test_session_an_older_node_put_back_is_damage():
+    content = random.Random(6).randbytes(396289)
+    pieces = [content[at : at + PIECE] for at in range(0, len(content), PIECE)]
+    script = b"".join(b"write 0 %d %s\nflush 0\n" % (PIECE * i, piece.hex().encode()) for i, piece in enumerate(pieces))
+    replies = b"".join(b"ok write %d\nok flush\n" % len(piece) for piece in pieces)
+    answers(b"create 0 out.pf\n" + script + b"close 0\n", b"ok create\n" + replies + b"ok close\nend\n")
+    flushed = []
+    for byte in b"yz":
+        answers(b"open 0 out.pf\nwrite 0 396288 %02x\nflush 0\nclose 0\n" % byte, b"ok open 396289\nok write 1\nok flush\nok close\nend\n")
+        holds(content[:-1] + bytes([byte]))
+        flushed.append(got("out.pf"))
+    older, newer = flushed
+    same((len(older), len(newer)), (409600, 409600), "lengths")
+    same(older[99 * NODE :] == newer[99 * NODE :], False, "node 99 of both flushes")
+    put("out.pf", newer[: 99 * NODE] + older[99 * NODE :])
+    ran = decrypt()
+    same((ran.status, ran.log, len(ran.out)), (1, "damaged node 99 tag\n", 393216), "node 99 put back")
+    same(ran.out == content[:393216], True, "the pieces before node 99")
+
+
+def test_session_an_older_file_put_back_is_opened():
+    """Nothing in the file itself tells that it is not the newest."""
+    answers(b"create 0 out.pf\nwrite 0 0 %s\nflush 0\nclose 0\n" % b"one".hex().encode(), b"ok create\nok write 3\nok flush\nok close\nend\n")
+    older = got("out.pf")
+    answers(b"open 0 out.pf\nwrite 0 0 %s\nflush 0\nclose 0\n" % b"two".hex().encode(), b"ok open 3\nok write 3\nok flush\nok close\nend\n")
+    holds(b"two")
+    put("out.pf", older)
+    holds(b"one")
+    answers(b"open 0 out.pf\nread 0 0 9\nclose 0\n", b"ok open 3\nok read 3 6f6e65\nok close\nend\n")
 
 
 def test_session_names_and_seats():
