@@ -10,11 +10,16 @@ use std::test::Fail;
 
 const KEY: [u8; 16] = [0, 1, 2, 3, 4, 5, 6, 7, 8, 9, 10, 11, 12, 13, 14, 15];
 
-fn words_of(alloc: Global, count: u8) -> Result<ListWords, Fail> {
-    let mut random = ListWords::new(alloc);
+fn add_words(random: &mut ListWords, count: u8) -> Result<(), Fail> {
     for word in 0..count {
         random.push([word; 16])?;
     }
+    Ok(())
+}
+
+fn words_of(alloc: Global, count: u8) -> Result<ListWords, Fail> {
+    let mut random = ListWords::new(alloc);
+    add_words(&mut random, count)?;
     Ok(random)
 }
 
@@ -107,6 +112,81 @@ fn a_new_file_is_written_and_read(rt: HostRuntime) -> Result<(), Fail> {
             ("read 0 6 1", "ok read 0\n"),
             ("flush 0", "ok flush\n"),
             ("close 0", "ok close\n"),
+        ],
+    );
+    Ok(())
+}
+
+// A creation takes two words, and so does a flush where node 0 alone changed.
+#[test]
+fn three_words_are_too_few_for_a_new_file(rt: HostRuntime) -> Result<(), Fail> {
+    let alloc = rt.alloc();
+    let mut host = MemHost::new(alloc);
+    let mut random = words_of(alloc, 3)?;
+    let mut desk = Desk::new(alloc, KEY);
+    expect_all(
+        &rt,
+        alloc,
+        &mut desk,
+        &mut host,
+        &mut random,
+        &[
+            ("create 0 c.pf", "ok create\n"),
+            ("write 0 0 68656c6c6f", "ok write 5\n"),
+            ("flush 0", "random fault\n"),
+            ("read 0 0 10", "ok read 5 68656c6c6f\n"),
+        ],
+    );
+    Ok(())
+}
+
+// The changed byte makes nodes 1, 98 and 99 dirty. A flush that finds too few words has taken all that were
+// left, so each later one has only those that were added.
+#[test]
+fn a_flush_takes_two_words_and_one_for_each_dirty_node(rt: HostRuntime) -> Result<(), Fail> {
+    let alloc = rt.alloc();
+    let mut host = MemHost::new(alloc);
+    let mut random = words_of(alloc, 111)?;
+    let mut desk = Desk::new(alloc, KEY);
+    expect_all(
+        &rt,
+        alloc,
+        &mut desk,
+        &mut host,
+        &mut random,
+        &[
+            ("create 0 a.pf", "ok create\n"),
+            ("size 0 396289", "ok size 396289\n"),
+            ("close 0", "ok close\n"),
+            ("open 0 a.pf", "ok open 396289\n"),
+            ("write 0 396288 7a", "ok write 1\n"),
+            ("flush 0", "random fault\n"),
+        ],
+    );
+    add_words(&mut random, 4)?;
+    expect_all(
+        &rt,
+        alloc,
+        &mut desk,
+        &mut host,
+        &mut random,
+        &[
+            ("flush 0", "random fault\n"),
+            ("read 0 396288 9", "ok read 1 7a\n"),
+        ],
+    );
+    add_words(&mut random, 5)?;
+    expect_all(
+        &rt,
+        alloc,
+        &mut desk,
+        &mut host,
+        &mut random,
+        &[
+            ("flush 0", "ok flush\n"),
+            ("close 0", "ok close\n"),
+            ("open 0 a.pf", "ok open 396289\n"),
+            ("read 0 396288 9", "ok read 1 7a\n"),
         ],
     );
     Ok(())
