@@ -85,7 +85,7 @@ nothing_wanting key taken line fault old host words takes seated = record {
     takes = takes;
     told = told_by (λ given. Unit {0}) [] host host (told_none host host refl) tt;
     ends = inl (record { seat = keeps_same old; disk = still; words = refl });
-    flushes = λ session is. kept_flushes (Covers session) session.name host host still;
+    flushes = λ session is. kept_flushes session host host still;
   };
   seated = seated;
   named = λ name has. inl has;
