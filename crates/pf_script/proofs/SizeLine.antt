@@ -17,7 +17,6 @@ use Rattle.pf_session.specs.declared.fault.FlushFault.TheVariants as faults
 use Rattle.pf_session.specs.declared.fault.SizeFault.{SizeFault}
 use Rattle.pf_session.specs.declared.fault.SizeFault.TheVariants as sizes
 use Rattle.pf_session.specs.declared.fault.Written.{Written}
-use Rattle.pf_script.specs.BookSeats.{Covers}
 use Rattle.pf_script.specs.Desk.{IsSeated, seat_on}
 use Rattle.pf_script.specs.DeskSteps.{CountsFault, SeatAsks, FlushesUnder, SeatGoes}
 use Rattle.pf_script.specs.Rules.{NoneRefuses, rules, refuses}

@@ -11,14 +11,14 @@ use Rattle.pf_io.specs.Disk.{Name, IsImage, reading}
 use Rattle.pf_io.specs.Host.{HostState, OnDisk, ReadsAsImage}
 use Rattle.pf_io.specs.Moments.{Honest, Ran}
 use Rattle.pf_io.specs.Names.{IsTarget}
+use Rattle.pf_io.specs.Replay.{set_at}
 use Rattle.pf_io.specs.Steps.{Stays}
 use Rattle.pf_io.specs.Unchanged.{KeepsDisk}
 use Rattle.pf_io.specs.Words.{WordsState}
 use Rattle.pf_io.proofs.Telling.{both_weaker}
-use Rattle.pf_session.specs.Backing.{IsBacked}
-use Rattle.pf_session.specs.Moving.{IsKeptOn}
-use Rattle.pf_session.specs.Reopening.{Stood}
 use Rattle.pf_session.specs.Aside.{Aside, LeavesApart, KeepsApart}
+use Rattle.pf_session.specs.Backing.{IsBacked}
+use Rattle.pf_session.specs.Reopening.{Stood}
 use Rattle.pf_session.specs.Changing.{ChangeGoes, refused, unchanged, changed, not_flushed, flushed_and_changed, SizeRefused}
 use Rattle.pf_session.specs.Faults.{size_of_flush, size_of_tree}
 use Rattle.pf_session.specs.State.{SessionState}
@@ -27,8 +27,6 @@ use Rattle.pf_session.specs.declared.fault.SizeFault.{SizeFault}
 use Rattle.pf_session.specs.declared.fault.Written.{Written}
 use Rattle.pf_script.specs.Book.{Book, Entry, Alone, Seal, Agrees}
 use Rattle.pf_script.specs.BookActs.{Flush, Act, booked_all, flushed, sealed_entry}
-use Rattle.pf_io.specs.Replay.{set_at}
-use Rattle.pf_script.proofs.NameMaps.{set_at-same}
 use Rattle.pf_script.specs.BookDebts.{Unchanged, DidAll, seat_of}
 use Rattle.pf_script.specs.BookSeats.{IsOfScript, CoversOn}
 use Rattle.pf_script.specs.DeskSteps.{AreFlushes, SealsOnly, FlushesUnder}
@@ -37,8 +35,9 @@ use Rattle.pf_script.specs.SeatSteps.{PIECE}
 use Rattle.pf_script.proofs.ActKeeping.{Idles, idle_covers_on, SealsOnce, SealedFrom, one_flush, seal_on}
 use Rattle.pf_script.proofs.CallKeeping.{both_with, back_to, step_now, idle_same, read_image, was_flushed}
 use Rattle.pf_script.proofs.ChangeKeeping.{step_idles, flushed_step, flushed_now, flushed_next}
-use Rattle.pf_script.proofs.Flushed.{length_now}
 use Rattle.pf_script.proofs.Composing.{all_agrees, did_on, booked_on}
+use Rattle.pf_script.proofs.Flushed.{length_now}
+use Rattle.pf_script.proofs.NameMaps.{set_at-same}
 use Rattle.pf_script.proofs.Seats.{seats_after, not_in_none, only_one}
 use Rattle.pf_script.proofs.SizeKeeping.{of_set, set_name}
 use Rattle.pf_script.proofs.StepKeeping.{both_through}

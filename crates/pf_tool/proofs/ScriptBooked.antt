@@ -17,7 +17,7 @@ use Rattle.pf_script.specs.BookDebts.{Unchanged}
 use Rattle.pf_script.specs.BookLaws.{StartsWith}
 use Rattle.pf_script.specs.BookRuns.{AreSeated, FollowsUnder}
 use Rattle.pf_script.specs.BookSeats.{CoversOn}
-use Rattle.pf_script.specs.BookTurns.{ShowsUnder, no_file, of_book, other_file, IsStateUnder}
+use Rattle.pf_script.specs.BookTurns.{ShowsUnder, no_file, of_book, other_file}
 use Rattle.pf_script.specs.Desk.{DeskState, session_at, seat_on}
 use Rattle.pf_script.specs.DeskSteps.{HasItsName, IsChange, BreaksSeat, AreFlushes, SealsOnly, FlushesUnder, DeskGoes}
 use Rattle.pf_script.specs.Script.{OwnSeat, Seat, Empty, Own, ScriptState, seat_at, name_of_line}
@@ -25,7 +25,7 @@ use Rattle.pf_script.specs.Words.{SEATS}
 use Rattle.pf_script.specs.declared.line.ScriptLine.{ScriptLine}
 use Rattle.pf_script.specs.declared.line.ScriptLine.TheVariants as lines
 use Rattle.pf_script.proofs.ActKeeping.{unchanged_now}
-use Rattle.pf_script.proofs.BookRunning.{IsUnder, under_as, one_seated}
+use Rattle.pf_script.proofs.BookRunning.{IsUnder, own_same, none_some, under_as, one_seated}
 use Rattle.pf_script.proofs.CallKeeping.{at_both}
 use Rattle.pf_script.proofs.Composing.{all_agrees, all_leaves}
 use Rattle.pf_script.proofs.SparesAll.{did_spares}
@@ -64,14 +64,8 @@ stops_idle starved desk host after book state d b is at_end same =
     let one : d ≡ b = cc in
     stops_still starved desk host book state d b is (subst (λ (z : Honest). Unchanged d z) one (unchanged_now d))
 
-own_same : (shown own : OwnSeat) → Own shown ≡ Own own → shown ≡ own
-own_same shown own same = cc
-
 held_same : (one other : SessionState) → ◌≡◌ {A = Option SessionState} (Some one) (Some other) → one ≡ other
 held_same one other same = cc
-
-none_some : (o : Option Entry) → o ≡ None → IsSome o → ⊥
-none_some o none has = absurd (cc)
 
 -- a change gives no name
 unnamed : (line : ScriptLine) (name : Name) → IsChange line → name_of_line line ≡ Some name → ⊥
