@@ -40,10 +40,10 @@ pub record IsUnder (desk : DeskState) (host : HostState) (book : Book) (state : 
   pub is_state : IsStateUnder book seats state desk
   pub is_disk : host.honest ≡ Some disk
 
-own_same : (shown own : OwnSeat) → Own shown ≡ Own own → shown ≡ own
+pub own_same : (shown own : OwnSeat) → Own shown ≡ Own own → shown ≡ own
 own_same shown own same = cc
 
-none_some : (o : Option Entry) → o ≡ None → IsSome o → ⊥
+pub none_some : (o : Option Entry) → o ≡ None → IsSome o → ⊥
 none_some o none has = absurd (cc)
 
 -- the names of the seats that show a desk's

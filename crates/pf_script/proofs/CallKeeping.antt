@@ -5,7 +5,8 @@ use Rattle.pf_io.specs.Disk.{Name, Disk, Image, IsImage, reading}
 use Rattle.pf_io.specs.Moments.{Honest, Ran, Where}
 use Rattle.pf_io.specs.Host.{HostState, Both, OnDisk, ReadsAsImage, contents}
 use Rattle.pf_io.specs.Words.{WordsState}
-use Rattle.node_tree.specs.Applying.{Step}
+use Rattle.node_tree.specs.Applying.{Step, applied}
+use Rattle.node_tree.specs.Backing.{now}
 use Rattle.node_tree.specs.Sheet.{Sheet, Stands}
 use Rattle.node_tree.specs.State.{TreeState}
 use Rattle.node_tree.specs.Stepping.{StandingStep}
@@ -86,6 +87,14 @@ module _ (old : SessionState) (mine : IsOfScript old) where
       rests = λ calm. let e : true ≡ false = sym (ap (λ (s : SessionState). s.changed) state) ∙ calm in absurd (cc);
     }
     by_result (Err fault) base state standing backed whole = let e : true ≡ false = sym (ap (λ (s : SessionState). s.broken) state) ∙ whole in absurd (cc)
+
+    now_by : (r : Result (Unit {0}) TreeFault) (base : Sheet) → StepState r old new → StandingStep r step base old.tree new.tree → new.broken ≡ false → now base new.tree ≡ applied step (now base old.tree)
+    now_by (Ok done) base state standing whole = standing.content_is
+    now_by (Err fault) base state standing whole = let e : true ≡ false = sym (ap (λ (s : SessionState). s.broken) state) ∙ whole in absurd (cc)
+
+    -- the content after the step
+    pub step_now : (a : Honest) → before.honest ≡ Some a → (base : Sheet) → IsBacked base old → Stood old.key old.name base a.now → new.broken ≡ false → now base new.tree ≡ applied step (now base old.tree)
+    step_now a is base backed stood whole = now_by one base goes.state (step_stands a is base stood backed) whole
 
     pub step_kept : (a : Honest) → before.honest ≡ Some a → (base : Sheet) → IsBacked base old → Stood old.key old.name base a.now → new.broken ≡ false → IsKeptOn base new
     step_kept a is base backed stood whole = by_result one base goes.state (step_stands a is base stood backed) backed whole

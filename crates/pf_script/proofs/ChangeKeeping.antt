@@ -5,7 +5,8 @@ use Rattle.pf_io.specs.Moments.{Honest, Ran, Where}
 use Rattle.pf_io.specs.Steps.{Stays}
 use Rattle.pf_io.specs.Host.{HostState, OnDisk, ReadsAsImage}
 use Rattle.pf_io.specs.Words.{WordsState}
-use Rattle.node_tree.specs.Applying.{Step}
+use Rattle.node_tree.specs.Applying.{Step, applied}
+use Rattle.node_tree.specs.Backing.{now}
 use Rattle.node_tree.specs.Sheet.{Sheet, IsLinked}
 use Rattle.node_tree.specs.declared.fault.TreeFault.{TreeFault}
 use Rattle.pf_session.specs.Aside.{Aside, LeavesApart, KeepsApart}
@@ -20,7 +21,7 @@ use Rattle.pf_script.specs.BookDebts.{Unchanged}
 use Rattle.pf_script.specs.BookSeats.{IsOfScript, Covers, KeepsUnder}
 use Rattle.pf_script.proofs.ActKeeping.{Idles, idle_keeps, SealsOn, SealsOnce, seal_keeps}
 use Rattle.pf_script.proofs.OfScript.{step_names}
-use Rattle.pf_script.proofs.CallKeeping.{both_with, at_both, back_to, read_image, reads_after, step_kept, idle_same, flush_ended, ended_keeps, WasFlushed, was_flushed}
+use Rattle.pf_script.proofs.CallKeeping.{both_with, at_both, back_to, read_image, reads_after, step_kept, step_now, idle_same, flush_ended, ended_keeps, WasFlushed, was_flushed}
 
 module _ (old : SessionState) (mine : IsOfScript old) where
   -- a step with no flush before it
@@ -52,6 +53,16 @@ module _ (old : SessionState) (mine : IsOfScript old) where
               (subst (λ (s : SessionState). Stood s.key s.name seals.next m.now) (sym was.state) (ran stood).ends) whole;
         }
 
+    -- the content after both
+    pub flushed_now : (a m b : Honest) → before.honest ≡ Some a → between.honest ≡ Some m → (base : Sheet) (linked : IsLinked base) (backed : IsBacked base old) → Stood old.key old.name base a.now → new.broken ≡ false
+        → now (was.seals base linked backed).next new.tree ≡ applied step (now base old.tree)
+    flushed_now a m b is is_mid base linked backed stood whole =
+        let seals = was.seals base linked backed in
+        let ran = at_both (Where (Stood old.key old.name base) (Ran (AsEither old.key old.name base seals.next) (StoodIf true old.key old.name seals.next))) before.honest between.honest a m is is_mid (seals.named mine.named) in
+        let on = seals.on_next refl in
+        step_now mid mid_mine new one step between after goes m is_mid seals.next on.backed (subst (λ (s : SessionState). Stood s.key s.name seals.next m.now) (sym was.state) (ran stood).ends) whole
+        ∙ ap (applied step) (on.now_is ∙ seals.is_next.content_is)
+
     pub flushed_step : (a b : Honest) → before.honest ≡ Some a → after.honest ≡ Some b → old.broken ≡ false → Ran (LeavesApart old.name) (KeepsApart old.name) a b → IsImage b.now (reading b.now) → SealsOnce true old new a b
     flushed_step a b is is2 whole others reads =
         let m = back_to (Ran IsImage Stays) between.honest after.honest b is2 goes.disk in
@@ -65,6 +76,12 @@ module _ (old : SessionState) (mine : IsOfScript old) where
           fails = λ e. absurd (cc);
           seals = λ base linked backed. seals_then a m.0 b is m.1 m.2 base linked backed;
         }
+
+    -- the sheet that it seals is the flush's
+    pub flushed_next : (a b : Honest) (is : before.honest ≡ Some a) (is2 : after.honest ≡ Some b) (whole : old.broken ≡ false) (others : Ran (LeavesApart old.name) (KeepsApart old.name) a b) (reads : IsImage b.now (reading b.now))
+        (base : Sheet) (linked : IsLinked base) (backed : IsBacked base old) → ((flushed_step a b is is2 whole others reads).seals base linked backed).next ≡ (was.seals base linked backed).next
+    unfolding flushed_step seals_then
+    flushed_next a b is is2 whole others reads base linked backed = refl
 
   pub change_keeps : (E : Type 0) (Refused : E → Type 0) (IsNone : Type 0) (of_flush : FlushFault → E) (of_tree : TreeFault → E) (step : Step) (result : Result Written E) (new : SessionState) (before after : HostState) (random random' : WordsState)
       → old.broken ≡ false → ChangeGoes E Refused IsNone of_flush of_tree step result old new before after random random' → Aside old.name before after → ReadsAsImage after

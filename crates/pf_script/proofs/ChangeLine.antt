@@ -167,7 +167,7 @@ module _ (key : List ℕ) (line : ScriptLine) (old new : SessionState) (whole : 
 
   module _ (before after : HostState) (random random' : WordsState) (aside : Aside old.name before after) (books : OnDisk before after (KeepsUnder (Covers old) (Covers new) (λ name. name ≡ old.name))) (seated : IsSeated key new) (name_is : new.name ≡ old.name)
       (takes : ¬ (TakesNone line)) (changes : IsChange line) (calm : (flushed : Bool) → (is_host_fault (replied flushed) ≡ false) × (is_words_fault (replied flushed) ≡ false)) where
-    pub line_goes : (outcome : Outcome) → ChangeSeen step old new outcome before after random random' → (outcome ≡ Wanted → (new.broken ≡ true) × OnDisk before after (FlushesUnder (Covers old) old.name)) → SeatGoes key false line (outcome_reply replied outcome) (Some old) (Some new) before after random random'
+    pub line_goes : (outcome : Outcome) → ChangeSeen step old new outcome before after random random' → (outcome ≡ Wanted → (new.broken ≡ true) × OnDisk before after (FlushesUnder old)) → SeatGoes key false line (outcome_reply replied outcome) (Some old) (Some new) before after random random'
     line_goes (Went flushed) seen breaks =
         goes_told key false line old before after random random' aside (replied flushed)
         (subst (λ b. CountsFault b before.faults after.faults) (sym (calm flushed).0) seen.on_host, subst (λ b. CountsFault b random.faults random'.faults) (sym (calm flushed).1) seen.on_words) new

@@ -26,7 +26,6 @@ use Rattle.pf_script.proofs.Refusing.{keeps_same}
 use Rattle.pf_script.proofs.Showing.{shows_none, shows_some, shows_more}
 use Rattle.pf_script.proofs.Sparing.{spares_more}
 use Rattle.pf_script.proofs.StepKeeping.{keeps_more, others_too, covers_less}
-use Rattle.pf_script.proofs.WantFlushes.{flushes_less}
 
 -- a seat is the k-th, or another one
 pub same_or_not : (j k : ℕ) → (j ≡ k) ⊎ (j ≢ k)
@@ -212,10 +211,9 @@ module _ (old : DeskState) (desk : IsDesk old) (k : ℕ) (below : k < SEATS) (ta
         same_seat : (j : ℕ) → ◌≡◌ {A = Option ℕ} (Some j) (Some k) → j ≡ k
         same_seat j is = cc
 
-        flushed : (j : ℕ) (session : SessionState) → j ≡ k → session_at old j ≡ Some session → OnDisk before after (FlushesUnder (CoversDesk old) session.name)
+        flushed : (j : ℕ) (session : SessionState) → j ≡ k → session_at old j ≡ Some session → OnDisk before after (FlushesUnder session)
         flushed j session same is =
-            flushes_less (Covers session) (CoversDesk old) session.name before after (λ book seats covers. covers j session is)
-            (wants.flushes session (subst (λ i. session_at old i ≡ Some session) same is))
+            wants.flushes session (subst (λ i. session_at old i ≡ Some session) same is)
 
         broken : IsBrokenSession left → BreaksSeat line new
         broken is = let at = broken_at left is in (k, at.0, names, here ∙ at.1, at.2)

@@ -15,7 +15,7 @@ use Rattle.pf_io.proofs.Telling.{both_same, told_none, told_by}
 use Rattle.pf_session.specs.Asking.{IsTaken as AreTaken}
 use Rattle.pf_session.specs.State.{SessionState}
 use Rattle.pf_script.specs.BookActs.{Act}
-use Rattle.pf_script.specs.BookSeats.{Covering, Covers, KeepsUnder}
+use Rattle.pf_script.specs.BookSeats.{Covering, KeepsUnder}
 use Rattle.pf_script.specs.Desk.{IsSeatOf, IsSeated, Shows}
 use Rattle.pf_script.specs.DeskSteps.{Unfolds, in_the_end, then_more, SeatAsks, CoversSome, Concerns, KeepsSession, TakesNone, SeatGoes}
 use Rattle.pf_script.specs.Rules.{Rule, IsFirst, NoneRefuses, IsBroken, rules, seated_rules}
@@ -85,7 +85,7 @@ nothing_wanting key taken line fault old host words takes seated = record {
     takes = takes;
     told = told_by (λ given. Unit {0}) [] host host (told_none host host refl) tt;
     ends = inl (record { seat = keeps_same old; disk = still; words = refl });
-    flushes = λ session is. kept_flushes (Covers session) session.name host host still;
+    flushes = λ session is. kept_flushes session host host still;
   };
   seated = seated;
   named = λ name has. inl has;

@@ -17,7 +17,6 @@ use Rattle.pf_session.specs.declared.fault.FlushFault.TheVariants as faults
 use Rattle.pf_session.specs.declared.fault.SizeFault.{SizeFault}
 use Rattle.pf_session.specs.declared.fault.SizeFault.TheVariants as sizes
 use Rattle.pf_session.specs.declared.fault.Written.{Written}
-use Rattle.pf_script.specs.BookSeats.{Covers}
 use Rattle.pf_script.specs.Desk.{IsSeated, seat_on}
 use Rattle.pf_script.specs.DeskSteps.{CountsFault, SeatAsks, FlushesUnder, SeatGoes}
 use Rattle.pf_script.specs.Rules.{NoneRefuses, rules, refuses}
@@ -37,7 +36,7 @@ use Rattle.pf_script.proofs.SeatCalls.{seen_by, SheetTurns, whole_turns, host_re
 use Rattle.pf_script.proofs.SizeSeen.{sized, size_result, never_refused, SizeSeen, size_seen}
 use Rattle.pf_script.proofs.SizeTold.{SizeTold, size_ends}
 use Rattle.pf_script.proofs.StepTurns.{LineEnds}
-use Rattle.pf_script.proofs.WantFlushes.{flushed_under, flushes_of, size_flushes}
+use Rattle.pf_script.proofs.WantFlushes.{Any, flushed_under, flushes_of, size_flushes}
 
 -- the fault of a change that no rule refused
 tree_no_limit : (flushed : Bool) (fault : SizeFault) (one : Result (Unit {0}) TreeFault) → ◌≡◌ {A = Result Written SizeFault} (Err fault) (stepped size_of_tree flushed one) → IsNoLimit fault
@@ -104,7 +103,7 @@ module _ (key : List ℕ) (k size : ℕ) (small : size ≤ 2 ^ 32) (old new : Se
         [] [] [] base (none_made sealed base old among linked kept whole) (goes_on_now base) [] refl refl
 
   module _ (result : Result (Unit {0}) SizeFault) (before after : HostState) (random random' : WordsState) (seen : SizeSeen key size small result old new before after random random')
-      (flushes : seen.outcome ≡ Wanted → OnDisk before after (FlushesUnder (Covers old) old.name)) where
+      (flushes : seen.outcome ≡ Wanted → OnDisk before after (FlushesUnder old)) where
     by_outcome : (outcome : Outcome) → seen.outcome ≡ outcome → SeatGoes key false (lines.Size k size) (outcome_reply (sized size) outcome) (Some old) (Some new) before after random random'
     by_outcome (Went flushed) is =
         goes_told key false (lines.Size k size) old before after random random' seen.aside (replies.Sized size)
@@ -175,5 +174,5 @@ size_goes key k size old new result before after random random' small seated who
     subst (λ (r : Result Reply Memory). SeatGoes key false (lines.Size k size) r (Some old) (Some new) before after random random') seen.reply_is
     (by_outcome key k size small old new whole result before after random random' seen
     (λ wants.
-    flushed_under (Covers old) (Covers new) old.name before after
+    flushed_under Any old new before after
     (size_flushes result size (λ fault is. no_flush_wants fault (sym (ap (outcome_reply (sized size)) wants) ∙ seen.reply_is ∙ ap (size_result size) is)) seated.of_script goes)) seen.outcome refl)

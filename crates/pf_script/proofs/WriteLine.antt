@@ -43,7 +43,7 @@ use Rattle.pf_script.proofs.Refusing.{refused_goes, first_then, none_then, at_la
 use Rattle.pf_script.proofs.SeatCalls.{seen_by, whole_turns, goes_on}
 use Rattle.pf_script.proofs.Showing.{shows_whole}
 use Rattle.pf_script.proofs.StepTurns.{all_made}
-use Rattle.pf_script.proofs.WantFlushes.{flushed_under, change_flushes}
+use Rattle.pf_script.proofs.WantFlushes.{Any, flushed_under, change_flushes}
 
 -- a line that writes these bytes; so many are printed
 pub data IsWriteLine (at : ℕ) (bytes : List ℕ) : ScriptLine → ℕ → Type 0 where
@@ -201,7 +201,7 @@ module _ (key : List ℕ) (at : ℕ) (bytes : List ℕ) (line : ScriptLine) (cou
 
     -- a write of some bytes
     some_goes : bytes ≢ [] → (new : SessionState) (before after : HostState) (random random' : WordsState) → Aside old.name before after → OnDisk before after (KeepsUnder (Covers old) (Covers new) (λ name. name ≡ old.name)) → IsSeated key new → new.name ≡ old.name
-        → (outcome : Outcome) → ChangeSeen (Write at bytes) old new outcome before after random random' → (outcome ≡ Wanted → (new.broken ≡ true) × OnDisk before after (FlushesUnder (Covers old) old.name)) → SeatGoes key false line (outcome_reply (written count) outcome) (Some old) (Some new) before after random random'
+        → (outcome : Outcome) → ChangeSeen (Write at bytes) old new outcome before after random random' → (outcome ≡ Wanted → (new.broken ≡ true) × OnDisk before after (FlushesUnder old)) → SeatGoes key false line (outcome_reply (written count) outcome) (Some old) (Some new) before after random random'
     some_goes some new before after random random' aside books seated_new name_is =
         line_goes key line old new whole (Write at bytes) (written count) (λ size. write_asks at bytes line count is_line size (Write at bytes ∷ []) (at_place some refl)) replied passes before after random random' aside books seated_new name_is
         (write_takes at bytes line count is_line) (write_changes at bytes line count is_line) (λ flushed. (refl, refl))
@@ -218,10 +218,10 @@ write_goes key at bytes line count is_line old new result before after random ra
     books = change_keeps old seated.of_script WriteFault (WriteRefused at (length bytes) old.tree.size) (bytes ≡ []) write_of_flush write_of_tree (Write at bytes) result new before after random random' whole goes aside reads
 
     -- where memory was wanting
-    flushes : (outcome : Outcome) → outcome_reply (written count) outcome ≡ write_reply count result → outcome ≡ Wanted → OnDisk before after (FlushesUnder (Covers old) old.name)
+    flushes : (outcome : Outcome) → outcome_reply (written count) outcome ≡ write_reply count result → outcome ≡ Wanted → OnDisk before after (FlushesUnder old)
     flushes outcome replied wants =
-        flushed_under (Covers old) (Covers new) old.name before after
-        (change_flushes old seated.of_script WriteFault (WriteRefused at (length bytes) old.tree.size) (bytes ≡ []) write_of_flush write_of_tree (Write at bytes) result new before after random random' whole
+        flushed_under Any old new before after
+        (change_flushes Any old seated.of_script WriteFault (WriteRefused at (length bytes) old.tree.size) (bytes ≡ []) write_of_flush write_of_tree (Write at bytes) result new before after random random' (λ content. tt) (λ content long. tt) whole
         (λ fault is. no_flush_wants count fault (sym (ap (outcome_reply (written count)) wants) ∙ replied ∙ ap (write_reply count) is)) goes aside reads)
 
     seated_new : IsSeated key new × (new.name ≡ old.name)

@@ -24,6 +24,10 @@ Covering = Book → List Seal → Type 0
 abbrev pub Covers : SessionState → Covering
 Covers session book seats = (entry : Entry) → session.broken ≡ false → book session.name ≡ Some entry → (sheet : Sheet) × Contains seats (seat_of session.key session.name sheet) × IsKeptOn sheet session
 
+-- so under this sheet
+abbrev pub CoversOn : Sheet → SessionState → Covering
+CoversOn sheet session book seats = (entry : Entry) → session.broken ≡ false → book session.name ≡ Some entry → Contains seats (seat_of session.key session.name sheet) × IsKeptOn sheet session
+
 -- there is no session
 abbrev pub CoversNone : Covering
 CoversNone book seats = Unit {0}

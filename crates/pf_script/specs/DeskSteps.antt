@@ -1,5 +1,6 @@
 -- What a step of a desk comes to.
-use Rattle.std.specs.Prelude.{⊤, ◌≡◌, ◌≢◌, ◌⊎◌, ℕ, Bool, true, false, List, [], ◌++◌, Contains, Option, Some, None, IsSomeAnd, Result, Ok, Err}
+use Rattle.std.specs.Prelude.{⊤, ◌≡◌, ◌≢◌, ◌⊎◌, ℕ, Bool, true, false, List, [], ◌++◌, Contains, replicate, Option, Some, None, IsSomeAnd, Result, Ok, Err}
+use Rattle.node_tree.specs.Backing.{now}
 use Rattle.node_tree.specs.Sheet.{Sheet}
 use Rattle.node_tree.specs.Unforged.{Unforged}
 use Rattle.pf_io.specs.Counts.{counted}
@@ -13,10 +14,10 @@ use Rattle.pf_session.specs.Aside.{Apart}
 use Rattle.pf_session.specs.Asking.{IsTaken as AreTaken}
 use Rattle.pf_session.specs.Reading.{KeepsFields}
 use Rattle.pf_session.specs.State.{SessionState}
-use Rattle.pf_script.specs.Book.{Book, Seal, Agrees}
+use Rattle.pf_script.specs.Book.{Book, Entry, Seal, Agrees}
 use Rattle.pf_script.specs.BookActs.{Flush, Act}
 use Rattle.pf_script.specs.BookDebts.{LeavesOthers, KeepsOthers, DidAll}
-use Rattle.pf_script.specs.BookSeats.{Covering, Covers, CoversNone, KeepsUnder}
+use Rattle.pf_script.specs.BookSeats.{Covering, Covers, CoversOn, CoversNone, KeepsUnder}
 use Rattle.pf_script.specs.Desk.{DeskState, session_at, IsSeatOf, Shows, IsStateOf}
 use Rattle.pf_script.specs.Script.{Seat, ScriptState, sheets_of, seat_of_line, name_of_line}
 use Rattle.pf_script.specs.Turns.{Seen, SeatTurn, Turn, on_carried}
@@ -155,16 +156,22 @@ IsBrokenSession new = IsSomeAnd new (λ session. session.broken ≡ true)
 abbrev pub AreFlushes : Name → List Act → Type 0
 AreFlushes name acts = (act : Act) → Contains acts act → (seal : Seal) × (act ≡ record { deed = Flush seal; done = true }) × (seal.name ≡ name)
 
--- under each book that agrees with the disk, with seats as `before` says, nothing but such flushes was done to names
-abbrev pub FlushesUnder : Covering → Name → Honest → Honest → Type 0
-FlushesUnder before name a b =
-    (book : Book) (seats : List Seal) → Agrees book seats a.now → IsImage a.now (reading a.now) → before book seats → (acts : List Act) × (left : List Seal) × DidAll book seats acts left a b × AreFlushes name acts
+-- each act is a flush that sealed this content, or it with zeros behind it
+abbrev pub SealsOnly : List ℕ → List Act → Type 0
+SealsOnly content acts = (act : Act) → Contains acts act → (seal : Seal) × (n : ℕ) × (act.deed ≡ Flush seal) × (seal.sheet.content ≡ content ++ replicate n 0)
+
+-- Under each book that agrees with the disk, with a seat under this sheet where it speaks of the session's name, nothing but such flushes was done to names. They sealed the content of the session.
+abbrev pub FlushesUnder : SessionState → Honest → Honest → Type 0
+FlushesUnder session a b =
+    (book : Book) (seats : List Seal) → Agrees book seats a.now → IsImage a.now (reading a.now) → (sheet : Sheet) → CoversOn sheet session book seats
+    → (acts : List Act) × (left : List Seal) × DidAll book seats acts left a b × AreFlushes session.name acts
+    × ((entry : Entry) → session.broken ≡ false → book session.name ≡ Some entry → SealsOnly (now sheet session.tree) acts)
 
 pub record SeatWants (line : ScriptLine) (old new : Option SessionState) (before after : HostState) (random random' : WordsState) : Type 0 where
   pub takes : ¬ (TakesNone line)
   pub told : WhereTold before after (λ given. ⊤)
   pub ends : SeatIdle old new before after random random' ⊎ (IsChange line × IsBrokenSession new)
-  pub flushes : (session : SessionState) → old ≡ Some session → OnDisk before after (FlushesUnder (Covers session) session.name)
+  pub flushes : (session : SessionState) → old ≡ Some session → OnDisk before after (FlushesUnder session)
 
 pub record NothingDone (old new : DeskState) (before after : HostState) (random random' : WordsState) : Type 0 where
   pub key_is : new.key ≡ old.key
@@ -181,7 +188,7 @@ pub record Wants (line : ScriptLine) (old new : DeskState) (before after : HostS
   pub takes : ¬ (TakesNone line)
   pub told : WhereTold before after (λ given. ⊤)
   pub ends : NothingDone old new before after random random' ⊎ (IsChange line × BreaksSeat line new)
-  pub flushes : (k : ℕ) (session : SessionState) → seat_of_line line ≡ Some k → session_at old k ≡ Some session → OnDisk before after (FlushesUnder (CoversDesk old) session.name)
+  pub flushes : (k : ℕ) (session : SessionState) → seat_of_line line ≡ Some k → session_at old k ≡ Some session → OnDisk before after (FlushesUnder session)
   pub others : (j : ℕ) → seat_of_line line ≢ Some j → KeepsSession (session_at old j) (session_at new j)
 
 abbrev pub WhereWanting : Result Reply Memory → Type 0 → Type 0

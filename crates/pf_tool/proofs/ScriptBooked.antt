@@ -1,6 +1,6 @@
 -- What a session does under a book with which it may begin.
 use Rattle.std.proofs.Common.{◌≡◌, inl, inr, ⊎_elim, ℕ, true, false, List, [], refl, sym, ◌∙◌, ap, subst, Option, Some, None, Err}
-use Rattle.std.specs.Prelude.{Contains, IfSome}
+use Rattle.std.specs.Prelude.{IfSome, IsSome}
 use Rattle.std.specs.List.{flat_map}
 use Rattle.pf_io.specs.Disk.{Name, Disk, IsImage, reading}
 use Rattle.pf_io.specs.Host.{HostState, Both, ReadsAsImage}
@@ -8,23 +8,24 @@ use Rattle.pf_io.specs.Moments.{Honest}
 use Rattle.pf_io.specs.Unchanged.{KeepsDisk}
 use Rattle.pf_io.specs.Words.{WordsState}
 use Rattle.pf_io.specs.declared.faults.Memory.{Memory}
+use Rattle.node_tree.specs.Backing.{now}
 use Rattle.node_tree.specs.Sheet.{Sheet}
-use Rattle.pf_session.specs.Moving.{IsKeptOn}
 use Rattle.pf_session.specs.State.{SessionState}
-use Rattle.pf_script.specs.Book.{Book, Seal, Agrees}
-use Rattle.pf_script.specs.BookDebts.{Unchanged, seat_of}
+use Rattle.pf_script.specs.Book.{Book, Entry, Seal, Agrees}
+use Rattle.pf_script.specs.BookActs.{Act}
+use Rattle.pf_script.specs.BookDebts.{Unchanged}
 use Rattle.pf_script.specs.BookLaws.{StartsWith}
 use Rattle.pf_script.specs.BookRuns.{AreSeated, FollowsUnder}
-use Rattle.pf_script.specs.BookSeats.{Covers}
-use Rattle.pf_script.specs.BookTurns.{ShowsUnder, no_file, of_book, other_file, IsStateUnder}
-use Rattle.pf_script.specs.Desk.{DeskState, session_at}
-use Rattle.pf_script.specs.DeskSteps.{HasItsName, CoversDesk, IsChange, BreaksSeat, AreFlushes, FlushesUnder, DeskGoes}
+use Rattle.pf_script.specs.BookSeats.{CoversOn}
+use Rattle.pf_script.specs.BookTurns.{ShowsUnder, no_file, of_book, other_file}
+use Rattle.pf_script.specs.Desk.{DeskState, session_at, seat_on}
+use Rattle.pf_script.specs.DeskSteps.{HasItsName, IsChange, BreaksSeat, AreFlushes, SealsOnly, FlushesUnder, DeskGoes}
 use Rattle.pf_script.specs.Script.{OwnSeat, Seat, Empty, Own, ScriptState, seat_at, name_of_line}
 use Rattle.pf_script.specs.Words.{SEATS}
 use Rattle.pf_script.specs.declared.line.ScriptLine.{ScriptLine}
 use Rattle.pf_script.specs.declared.line.ScriptLine.TheVariants as lines
 use Rattle.pf_script.proofs.ActKeeping.{unchanged_now}
-use Rattle.pf_script.proofs.BookRunning.{IsUnder, under_as, one_seated}
+use Rattle.pf_script.proofs.BookRunning.{IsUnder, own_same, none_some, under_as, one_seated}
 use Rattle.pf_script.proofs.CallKeeping.{at_both}
 use Rattle.pf_script.proofs.Composing.{all_agrees, all_leaves}
 use Rattle.pf_script.proofs.SparesAll.{did_spares}
@@ -63,20 +64,8 @@ stops_idle starved desk host after book state d b is at_end same =
     let one : d ≡ b = cc in
     stops_still starved desk host book state d b is (subst (λ (z : Honest). Unchanged d z) one (unchanged_now d))
 
--- the seats of a state under a book are covered by it
-covered : (desk : DeskState) (book : Book) (seats : List Seal) (state : ScriptState) → IsStateUnder book seats state desk → CoversDesk desk book seats
-covered desk book seats state is k session at_k = by_seat _ (session_at desk k) at_k (is.shows k)
-  where
-    by_seat : (seat : Seat) (o : Option SessionState) → o ≡ Some session → ShowsUnder book seats seat o → Covers session book seats
-    by_seat seat o some (no_file empty none) entry whole has = let e : None ≡ Some session = sym none ∙ some in absurd (cc)
-    by_seat seat o some (of_book sheet own whole2 contains kept seat_is own_is) entry whole has =
-        let same : own ≡ session = cc in
-        subst (λ (s : SessionState). (sheet : Sheet) × Contains seats (seat_of s.key s.name sheet) × IsKeptOn sheet s) same (sheet, contains, kept)
-    by_seat seat o some (other_file shown own (inl broken) key_is name_is broken_is seat_is own_is) entry whole has = let same : own ≡ session = cc in let e : true ≡ false = sym broken ∙ ap (λ (s : SessionState). s.broken) same ∙ whole in absurd (cc)
-    by_seat seat o some (other_file shown own (inr none) key_is name_is broken_is seat_is own_is) entry whole has =
-        let same : own ≡ session = cc in
-        let e : None ≡ Some entry = sym none ∙ ap (λ (s : SessionState). book s.name) same ∙ has in
-        absurd (cc)
+held_same : (one other : SessionState) → ◌≡◌ {A = Option SessionState} (Some one) (Some other) → one ≡ other
+held_same one other same = cc
 
 -- a change gives no name
 unnamed : (line : ScriptLine) (name : Name) → IsChange line → name_of_line line ≡ Some name → ⊥
@@ -105,6 +94,38 @@ named_own : (seat : Seat) (session : Option SessionState) (name : Name) → Look
 named_own seat None name looks has = absurd has
 named_own seat (Some s) name looks has = record { own = looks.shown; is_own = looks.seat_is; held = s; is_held = refl; name_is = looks.name_is }
 
+-- The sheet on which the session of a seat stands, where the book speaks of it: the content that the seat shows is that of the session.
+record OnSheet (book : Book) (seats : List Seal) (own : OwnSeat) (held : SessionState) : Type 0 where
+  sheet : Sheet
+  covers : CoversOn sheet held book seats
+  shows : IsSome (book own.name) → own.broken ≡ false → (held.broken ≡ false) × (own.content ≡ now sheet held.tree)
+
+on_sheet : (book : Book) (seats : List Seal) (seat : Seat) (session : Option SessionState) (own : OwnSeat) (held : SessionState) → ShowsUnder book seats seat session → seat ≡ Own own → session ≡ Some held → OnSheet book seats own held
+on_sheet book seats seat session own held (no_file empty none) is_own is_held = let e : Empty ≡ Own own = sym empty ∙ is_own in absurd (cc)
+on_sheet book seats seat session own held (of_book sheet s whole contains kept seat_is own_is) is_own is_held =
+    let one = own_same (seat_on sheet s) own (sym seat_is ∙ is_own) in
+    let same = held_same s held (sym own_is ∙ is_held) in
+    subst (λ (h : SessionState). OnSheet book seats own h) same
+    (subst (λ (o : OwnSeat). OnSheet book seats o s) one
+    (record { sheet = sheet; covers = λ entry whole2 is. (contains, kept); shows = λ some whole2. (whole, refl) }))
+on_sheet book seats seat session own held (other_file shown s why key_is name_is broken_is seat_is own_is) is_own is_held =
+    let one = own_same shown own (sym seat_is ∙ is_own) in
+    let same = held_same s held (sym own_is ∙ is_held) in
+    subst (λ (h : SessionState). OnSheet book seats own h) same
+    (subst (λ (o : OwnSeat). OnSheet book seats o s) one
+    (record {
+      sheet = shown.sheet;
+      covers = λ entry whole is. ⊎_elim (λ broken. off broken whole) (λ none. let e : None ≡ Some entry = sym none ∙ is in absurd (cc)) why;
+      shows = λ some whole. ⊎_elim (λ broken. off broken (sym broken_is ∙ whole)) (λ none. absurd (none_some (book shown.name) (ap book name_is ∙ none) some)) why;
+    }))
+  where
+    off : {X : Type 0} → s.broken ≡ true → s.broken ≡ false → X
+    off broken whole = let e : true ≡ false = sym broken ∙ whole in absurd (cc)
+
+some_entry : (o : Option Entry) → IsSome o → (entry : Entry) × (o ≡ Some entry)
+some_entry (Some entry) has = (entry, refl)
+some_entry None has = absurd (none_some None refl has)
+
 -- there was no memory for a line
 pub stops_wanting : (starved : Type 0) → starved → (line : ScriptLine) (none : Memory) (d0 d1 : DeskState) (h0 h1 after : HostState) (r0 r1 : WordsState) (book : Book) (state : ScriptState) (d b : Honest) → IsUnder d0 h0 book state d → DeskGoes line (Err none) d0 d1 h0 h1 r0 r1
     → after.honest ≡ Some b → after ≡ h1 → StopsUnder starved book state d b
@@ -126,9 +147,10 @@ stops_wanting starved is_starved line none d0 d1 h0 h1 after r0 r1 book state d 
     changed change =
         let k = change.1.0 in
         let seat = shown change in
-        let flushes : FlushesUnder (CoversDesk d0) seat.held.name d b =
-        at_both (FlushesUnder (CoversDesk d0) seat.held.name) h0.honest h1.honest d b is.is_disk at_last (goes.wants.flushes k seat.held change.1.2 seat.is_held) in
-        let did = flushes book is.seats is.agrees is.image (covered d0 book is.seats state is.is_state) in
+        let flushes : FlushesUnder seat.held d b =
+        at_both (FlushesUnder seat.held) h0.honest h1.honest d b is.is_disk at_last (goes.wants.flushes k seat.held change.1.2 seat.is_held) in
+        let on = on_sheet book is.seats (seat_at state k) (session_at d0 k) seat.own seat.held (is.is_state.shows k) seat.is_own seat.is_held in
+        let did = flushes book is.seats is.agrees is.image on.sheet on.covers in
         record {
           acts = did.0;
           seats = is.seats;
@@ -139,8 +161,16 @@ stops_wanting starved is_starved line none d0 d1 h0 h1 after r0 r1 book state d 
           leaves = all_leaves book is.seats did.0 did.1 d b is.agrees is.image did.2;
           spares = did_spares book is.seats did.0 did.1 d b did.2;
           agrees = all_agrees book is.seats did.0 did.1 d b is.agrees is.image did.2;
-          none = inr (is_starved, (k, seat.own, seat.is_own, subst (λ (n : Name). AreFlushes n did.0) (sym seat.name_is) did.3));
+          none = inr (is_starved, (k, seat.own, seat.is_own, subst (λ (n : Name). AreFlushes n did.0) (sym seat.name_is) did.3, sealed seat on did.0 did.4));
         }
+
+      where
+        sealed : {s : Seat} {o : Option SessionState} (seat : Named s o) (on : OnSheet book is.seats seat.own seat.held) (acts : List Act)
+            → ((entry : Entry) → seat.held.broken ≡ false → book seat.held.name ≡ Some entry → SealsOnly (now on.sheet seat.held.tree) acts) → IsSome (book seat.own.name) → seat.own.broken ≡ false → SealsOnly seat.own.content acts
+        sealed seat on acts seals has whole =
+            let entry = some_entry (book seat.own.name) has in
+            let shows = on.shows has whole in
+            subst (λ (c : List ℕ). SealsOnly c acts) (sym shows.1) (seals entry.0 shows.0 (ap book (sym seat.name_is) ∙ entry.1))
 
 -- from empty seats
 begun_under : (user : List ℕ) (begun : World) (book : Book) (s : Honest) → Agrees book [] s.now → IsImage s.now (reading s.now) → begun.host.honest ≡ Some s → IsUnder (begins user begun).desk begun.host book (empty_seats user []) s

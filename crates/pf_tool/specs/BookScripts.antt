@@ -1,5 +1,5 @@
 -- What a session does to an honest disk, under a book with which it may begin.
-use Rattle.std.specs.Prelude.{◌≡◌, ◌⊎◌, ℕ, zero, suc, true, List, [], ◌∷◌, ◌++◌, map, IfSome, Ok, Err}
+use Rattle.std.specs.Prelude.{◌≡◌, ◌⊎◌, ℕ, zero, suc, true, false, List, [], ◌∷◌, ◌++◌, map, IfSome, IsSome, Ok, Err}
 use Rattle.std.specs.List.{flat_map}
 use Rattle.pf_io.specs.Counts.{counted}
 use Rattle.pf_io.specs.Disk.{Name, Files, reading}
@@ -9,7 +9,7 @@ use Rattle.pf_script.specs.Book.{Book, Seal, Agrees}
 use Rattle.pf_script.specs.BookActs.{Act, booked_all, FitsDuring}
 use Rattle.pf_script.specs.BookDebts.{Unchanged, AreApart, LeavesOthers, KeepsOthers, DidAll}
 use Rattle.pf_script.specs.BookRuns.{AreSeated, FollowsUnder}
-use Rattle.pf_script.specs.DeskSteps.{AreFlushes}
+use Rattle.pf_script.specs.DeskSteps.{AreFlushes, SealsOnly}
 use Rattle.pf_script.specs.FileRuns.{FollowsOver, TakesWords}
 use Rattle.pf_script.specs.Script.{OwnSeat, ScriptState, Seat, Empty, Own, seat_at}
 use Rattle.pf_script.specs.Words.{SEATS}
@@ -35,7 +35,7 @@ pub record AreClosings (transcript : Transcript) (state : ScriptState) : Type 0 
   pub in_order : closings SEATS 0 state ≡ map (λ exchange. exchange.line) transcript.closed ++ rest
   pub all : transcript.ended ≡ true → rest ≡ []
 
--- Behind the last exchange nothing is done; where there was no memory for a change of a seat, there may be accepted flushes of its name.
+-- Behind the last exchange nothing is done; where there was no memory for a change of a seat, there may be accepted flushes of its name. They sealed its content, or it with zeros behind it.
 pub record StopsUnder (starved : Type 0) (book : Book) (state : ScriptState) (old new : Honest) : Type 0 where
   pub acts : List Act
   pub seats : List Seal
@@ -46,7 +46,7 @@ pub record StopsUnder (starved : Type 0) (book : Book) (state : ScriptState) (ol
   pub leaves : LeavesOnly (FitsDuring book acts) old new
   pub spares : Ran (LeavesOthers (AreApart acts)) (KeepsOthers (AreApart acts)) old new
   pub agrees : Agrees (booked_all acts book) left new.now
-  pub none : ((acts ≡ []) × AreSeated book state left) ⊎ (starved × ((k : ℕ) × (own : OwnSeat) × (seat_at state k ≡ Own own) × AreFlushes own.name acts))
+  pub none : ((acts ≡ []) × AreSeated book state left) ⊎ (starved × ((k : ℕ) × (own : OwnSeat) × (seat_at state k ≡ Own own) × AreFlushes own.name acts × (IsSome (book own.name) → own.broken ≡ false → SealsOnly own.content acts)))
 
 -- The key is read, by which nothing changes; then the lines follow each other, and then the closings.
 pub record RunsUnder (user : List ℕ) (transcript : Transcript) (starved : Type 0) (book : Book) (old new : Honest) : Type 0 where
