@@ -163,7 +163,6 @@ stops_wanting starved is_starved line none d0 d1 h0 h1 after r0 r1 book state d 
           agrees = all_agrees book is.seats did.0 did.1 d b is.agrees is.image did.2;
           none = inr (is_starved, (k, seat.own, seat.is_own, subst (λ (n : Name). AreFlushes n did.0) (sym seat.name_is) did.3, sealed seat on did.0 did.4));
         }
-
       where
         sealed : {s : Seat} {o : Option SessionState} (seat : Named s o) (on : OnSheet book is.seats seat.own seat.held) (acts : List Act)
             → ((entry : Entry) → seat.held.broken ≡ false → book seat.held.name ≡ Some entry → SealsOnly (now on.sheet seat.held.tree) acts) → IsSome (book seat.own.name) → seat.own.broken ≡ false → SealsOnly seat.own.content acts
