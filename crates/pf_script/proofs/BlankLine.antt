@@ -19,8 +19,9 @@ blank_goes desk host words = record {
       (record {
         seen = idle_seen;
         was_seen = record { answers = refl; words = none_taken words; of_host = refl; of_words = refl };
-        turns = λ state is_state. at_last [] (λ unforged. (state, silent refl refl refl refl refl, is_state));
+        turns = λ state is_state. at_last [] (inl refl) (λ unforged. (state, silent refl refl refl refl refl, is_state));
       });
+  caused = record { given = []; told = told_none host host refl; caused = λ state like. inl (refl, refl) };
   books = both_same (KeepsUnder (CoversDesk desk) (CoversDesk desk) (ConcernsDesk lines.Blank desk)) host.honest host.honest refl (same_keeps (CoversDesk desk) (ConcernsDesk lines.Blank desk));
   named = λ k name has. inl has;
   spares = spares_none (ConcernsDesk lines.Blank desk) host;

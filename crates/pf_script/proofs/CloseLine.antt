@@ -49,16 +49,16 @@ module _ (key : List ℕ) (k : ℕ) (old : SessionState) where
   idle_turns : (b : Bool) → old.broken ≡ b → (old.changed ≡ false) ⊎ (old.broken ≡ true) → SeatTurns key false (lines.Close k) (seen_by [] [] false false) (replies.Closed old.broken) (Some old) None []
   idle_turns true is why = λ sealed seat shows.
       let shown = shows_some sealed seat old shows in
-      at_last [] (λ unforged. (Empty, closed_on sealed seat shown.shown shown.seat_is shown.broken_is (inr (shown.broken_is ∙ is)), no_file refl refl))
+      at_last [] (inl refl) (λ unforged. (Empty, closed_on sealed seat shown.shown shown.seat_is shown.broken_is (inr (shown.broken_is ∙ is)), no_file refl refl))
   idle_turns false is (inl clean) =
       whole_turns key false (lines.Close k) (seen_by [] [] false false) (replies.Closed old.broken) old None [] is
-      (λ sealed base among linked kept. at_last [] (λ unforged. (Empty, closed_on sealed (Own (seat_on base old)) (seat_on base old) refl refl (inl clean), no_file refl refl)))
+      (λ sealed base among linked kept. at_last [] (inl refl) (λ unforged. (Empty, closed_on sealed (Own (seat_on base old)) (seat_on base old) refl refl (inl clean), no_file refl refl)))
   idle_turns false is (inr broken) = absurd (false_true old.broken broken is)
 
   module _ (whole : old.broken ≡ false) (was_changed : old.changed ≡ true) where
     lacked_turns : (words : List (List ℕ)) → TooFewToFlush old words → SheetTurns key false (lines.Close k) (seen_by [] words false true) replies.WordsFault old None []
     lacked_turns words fewer sealed base among linked kept =
-        at_last [] (λ unforged. (Empty, words_failed (none_to_close key k (seat_on base old)) (record { host = refl; random = refl }) (no_last_flush k (seat_on base old) was_changed whole fewer) refl, no_file refl refl))
+        at_last [] (inl refl) (λ unforged. (Empty, words_failed (none_to_close key k (seat_on base old)) (record { host = refl; random = refl }) (no_last_flush k (seat_on base old) was_changed whole fewer) refl, no_file refl refl))
 
     failed_turn : (sealed : List Sheet) (base next : Sheet) (these : List Answer) (words : List (List ℕ)) (blame : Blame) → Seals (seat_on base old) words next → BlamesFlush old.name these blame
         → SeatTurn (on_carried key sealed) key false (Own (seat_on base old)) (lines.Close k) (seen_by these words (host_blamed blame) false) (flush_reply (fault_of blame)) (flush_act old next false ∷ []) Empty

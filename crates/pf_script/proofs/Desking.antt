@@ -1,6 +1,6 @@
 -- A line on one seat of a desk, as one on the desk.
 use Rattle.std.proofs.Common.{◌≡◌, ◌≢◌, ◌⊎◌, inl, inr, ⊎_elim, Bool, true, false, List, [], ◌++◌, ℕ, ◌<◌, refl, sym, ◌∙◌, ap, subst, Option, Some, None, Result, Ok, Err, set, length}
-use Rattle.std.specs.Prelude.{IsTrue, ◌↔◌, IfSome}
+use Rattle.std.specs.Prelude.{IsTrue, ◌↔◌, IfSome, IsSomeAnd}
 use Rattle.std.proofs.lemmas.Bool.Decides.{eqb_tells}
 use Rattle.std.proofs.lemmas.List.{get_or-set_same, get_or-set_other, length-set}
 use Rattle.std.proofs.lemmas.Option.{IfSome_then}
@@ -15,15 +15,17 @@ use Rattle.pf_session.specs.State.{SessionState}
 use Rattle.pf_script.specs.Book.{Book, Seal}
 use Rattle.pf_script.specs.BookActs.{Act}
 use Rattle.pf_script.specs.BookSeats.{Covers, CoversEach, CoversBoth, KeepsUnder}
-use Rattle.pf_script.specs.Desk.{DeskState, session_at, IsSeated, IsSeatOf, IsDesk, Shows, IsStateOf}
-use Rattle.pf_script.specs.DeskSteps.{Unfolds, in_the_end, then_more, SeatAsks, Asks, HasItsName, OtherHas, Concerns, ConcernsDesk, CoversSome, CoversDesk, KeepsNames, KeepsSession, NothingDone, IsBrokenSession, BreaksSeat, SeatIdle, FlushesUnder, SeatWants, Wants, WhereWanting, WhereReplied, SeatGoes, DeskGoes}
-use Rattle.pf_script.specs.Script.{Seat, Empty, ScriptState, seat_at, HasThisName, IsTaken, state_with, seat_of_line, name_of_line}
-use Rattle.pf_script.specs.Turns.{SeatTurn, on_seat, on_carried, SaysTaken}
+use Rattle.pf_script.specs.Desk.{DeskState, session_at, IsSeated, IsSeatOf, IsLikeDesk, IsDesk, Shows, IsStateOf}
+use Rattle.pf_script.specs.DeskSteps.{MaySeal, Unfolds, in_the_end, then_more, SomeSeatTurn, SomeTurn, SeatAsks, SeatCaused, DeskCaused, Asks, IsChange, Admits, HasItsName, OtherHas, Concerns, ConcernsDesk, CoversSome, CoversDesk, KeepsNames, KeepsSession, NothingDone, IsBrokenSession, BreaksSeat, SeatIdle, FlushesUnder, SeatWants, Wants, WhereWanting, WhereReplied, SeatGoes, DeskGoes}
+use Rattle.pf_script.specs.Script.{Seat, Empty, ScriptState, seat_at, IsTaken, state_with, seat_of_line, name_of_line}
+use Rattle.pf_script.specs.Turns.{Seen, SeatTurn, Caused, Turn, on_seat, on_carried, SaysTaken}
 use Rattle.pf_script.specs.Words.{SEATS}
 use Rattle.pf_script.specs.declared.line.ScriptLine.{ScriptLine}
 use Rattle.pf_script.specs.declared.reply.Reply.{Reply}
+use Rattle.pf_script.specs.declared.reply.Reply.TheVariants as replies
+use Rattle.pf_script.proofs.Liking.{like_state, like_name}
 use Rattle.pf_script.proofs.Refusing.{keeps_same}
-use Rattle.pf_script.proofs.Showing.{shows_none, shows_some, shows_more}
+use Rattle.pf_script.proofs.Showing.{shows_more}
 use Rattle.pf_script.proofs.Sparing.{spares_more}
 use Rattle.pf_script.proofs.StepKeeping.{keeps_more, others_too, covers_less}
 
@@ -32,21 +34,18 @@ pub same_or_not : (j k : ℕ) → (j ≡ k) ⊎ (j ≢ k)
 same_or_not j k = ⊎_elim (λ e. inl e.1) (λ e. inr e.1) (eqb_tells j k)
 
 -- what follows from what holds in the end
-pub unfolds_as : {key : List ℕ} {sealed : List Sheet} {P Q : List Act → Type 0} {given : List Answer} (acts : List Act) → Unfolds key sealed P given acts → ((acts : List Act) → P acts → Q acts) → Unfolds key sealed Q given acts
-unfolds_as {key} {sealed} {P} {Q} {given} _ (in_the_end acts ends) go = in_the_end acts (λ unforged. go acts (ends unforged))
-unfolds_as {key} {sealed} {P} {Q} {given} _ (then_more acts more these rest split on) go = then_more acts more these rest split (λ unforged. unfolds_as (acts ++ more) (on unforged) go)
+pub unfolds_as : {key : List ℕ} {sealed : List Sheet} {May P Q : List Act → Type 0} {given : List Answer} (acts : List Act) → Unfolds key sealed May P given acts → ((acts : List Act) → P acts → Q acts) → Unfolds key sealed May Q given acts
+unfolds_as {key} {sealed} {May} {P} {Q} {given} _ (in_the_end acts ends) go = in_the_end acts (λ unforged. go acts (ends unforged))
+unfolds_as {key} {sealed} {May} {P} {Q} {given} _ (then_more acts more these rest split may on) go = then_more acts more these rest split may (λ unforged. unfolds_as (acts ++ more) (on unforged) go)
+
+-- what may be sealed may be by another account
+unfolds_where : {key : List ℕ} {sealed : List Sheet} {May Also P : List Act → Type 0} {given : List Answer} (acts : List Act) → Unfolds key sealed May P given acts → ((acts : List Act) → May acts → Also acts) → Unfolds key sealed Also P given acts
+unfolds_where {key} {sealed} {May} {Also} {P} {given} _ (in_the_end acts ends) also = in_the_end acts ends
+unfolds_where {key} {sealed} {May} {Also} {P} {given} _ (then_more acts more these rest split may on) also =
+    then_more acts more these rest split (⊎_elim (λ none. inl none) (λ some. inr (also (acts ++ more) some)) may) (λ unforged. unfolds_where (acts ++ more) (on unforged) also)
 
 no_true : ¬ (IsTrue false)
 no_true is = absurd (cc)
-
--- the session of a seat that shows a name, and the name of its seat
-shown_name : (sealed : List Sheet) (seat : Seat) (session : Option SessionState) (name : Name) → Shows sealed seat session → HasItsName session name ↔ HasThisName name seat
-shown_name sealed seat None name shows = (λ none. absurd none, λ has. absurd (subst (HasThisName name) (shows_none sealed seat shows) has))
-shown_name sealed seat (Some s) name shows =
-    let shown = shows_some sealed seat s shows in (
-      λ has. subst (HasThisName name) (sym shown.seat_is) (shown.name_is ∙ sym has),
-      λ has. sym (sym shown.name_is ∙ subst (HasThisName name) shown.seat_is has),
-    )
 
 covers_at : (o : Option SessionState) (book : Book) (seats : List Seal) → ((s : SessionState) → o ≡ Some s → Covers s book seats) → CoversSome o book seats
 covers_at None book seats each = tt
@@ -60,10 +59,6 @@ seated_of key o s is seated = subst (λ (x : Option SessionState). IsSeatOf key 
 
 pub has_name_of : (o : Option SessionState) (s : SessionState) → o ≡ Some s → HasItsName o s.name
 has_name_of o s is = subst (λ (x : Option SessionState). HasItsName x s.name) (sym is) refl
-
-broken_at : (o : Option SessionState) → IsBrokenSession o → (s : SessionState) × (o ≡ Some s) × (s.broken ≡ true)
-broken_at None none = absurd none
-broken_at (Some s) broken = (s, refl, broken)
 
 -- the name that a line gives is taken where another seat has it
 abbrev pub SaysOther : DeskState → ℕ → Option Name → Bool → Type 0
@@ -136,14 +131,14 @@ module _ (old : DeskState) (desk : IsDesk old) (k : ℕ) (below : k < SEATS) (ta
         (others_too (CoversSome (session_at old k)) (CoversSome left) (Concerns taken line (session_at old k)) Of a b (λ s of. others_apart of.0 s of.1 of.2) keeps))
 
     -- the state of a script after it
-    taken_by : (state : ScriptState) → IsStateOf state old → (name : Name) → OtherHas old k name ↔ IsTaken state k name
-    taken_by state is_state name = (
-      λ other. (other.0, other.1, (shown_name state.sealed (seat_at state other.0) (session_at old other.0) name (is_state.shows other.0)).0 other.2),
-      λ other. (other.0, other.1, (shown_name state.sealed (seat_at state other.0) (session_at old other.0) name (is_state.shows other.0)).1 other.2),
+    taken_by : (state : ScriptState) → IsLikeDesk state old → (name : Name) → OtherHas old k name ↔ IsTaken state k name
+    taken_by state like name = (
+      λ other. (other.0, other.1, (like_name (seat_at state other.0) (session_at old other.0) name (like.like other.0)).0 other.2),
+      λ other. (other.0, other.1, (like_name (seat_at state other.0) (session_at old other.0) name (like.like other.0)).1 other.2),
     )
 
-    state_says : (state : ScriptState) → IsStateOf state old → SaysTaken state k (name_of_line line) taken
-    state_says state is_state = IfSome_then (name_of_line line) says (λ name tells. let by = taken_by state is_state name in (λ is. by.0 (tells.0 is), λ is. tells.1 (by.1 is)))
+    state_says : (state : ScriptState) → IsLikeDesk state old → SaysTaken state k (name_of_line line) taken
+    state_says state like = IfSome_then (name_of_line line) says (λ name tells. let by = taken_by state like name in (λ is. by.0 (tells.0 is), λ is. tells.1 (by.1 is)))
 
     state_after : (state : ScriptState) → IsStateOf state old → (seat : Seat) (acts : List _) → Shows (state_with state k seat acts).sealed seat left → IsStateOf (state_with state k seat acts) new
     state_after state is_state seat acts shows = record {
@@ -166,19 +161,47 @@ module _ (old : DeskState) (desk : IsDesk old) (k : ℕ) (below : k < SEATS) (ta
             subst (λ (x : Seat). Shows (state_with state k seat acts).sealed x (session_at new j)) (sym (get_or-set_other state.seats k j seat Empty apart))
             (subst (λ (o : Option SessionState). Shows (state_with state k seat acts).sealed (seat_at state j) o) (sym (there j apart)) (shows_more state.sealed _ (seat_at state j) (session_at old j) (is_state.shows j)))
 
+    -- a turn of the seat is one of the script
+    turn_on : (state : ScriptState) → IsStateOf state old → (seen : Seen) (reply : Reply) (acts : List Act) (seat : Seat) → SeatTurn (on_carried old.key state.sealed) old.key taken (seat_at state k) line seen reply acts seat
+        → Turn (on_carried old.key state.sealed) state line seen reply acts (state_with state k seat acts)
+    turn_on state is_state seen reply acts seat turn =
+        on_seat k taken seat names (state_says state (like_state state old is_state))
+        (subst (λ (x : List ℕ). SeatTurn (on_carried old.key state.sealed) x taken (seat_at state k) line seen reply acts seat) (sym is_state.key_is) turn) refl
+
+    may_on : (state : ScriptState) → IsStateOf state old → (seen : Seen) (acts : List Act) → MaySeal (SomeSeatTurn old.key state.sealed taken (seat_at state k) line) seen acts → MaySeal (SomeTurn state line) seen acts
+    may_on state is_state seen acts may = record {
+      front = may.front;
+      back = may.back;
+      failed = may.failed;
+      in_order = may.in_order;
+      goes = (
+        state_with state k may.goes.0 may.failed,
+        subst (λ (x : List ℕ). Turn (on_carried x state.sealed) state line (record { given = seen.given; words = may.front; host_failed = true; words_failed = false }) replies.HostFault may.failed (state_with state k may.goes.0 may.failed)) (sym is_state.key_is)
+            (turn_on state is_state (record { given = seen.given; words = may.front; host_failed = true; words_failed = false }) replies.HostFault may.failed may.goes.0 may.goes.1),
+      );
+      sheets = may.sheets;
+    }
+
     asks_on : (reply : Reply) (given : List Answer) → SeatAsks old.key taken line reply (session_at old k) left given before after random random' → Asks line reply old new given before after random random'
     asks_on reply given asks = record {
       seen = asks.seen;
       was_seen = asks.was_seen;
       turns = λ state is_state.
-          unfolds_as [] (asks.turns state.sealed (seat_at state k) (is_state.shows k))
-          (λ acts ends. (
-            state_with state k ends.0 acts,
-            on_seat k taken ends.0 names (state_says state is_state)
-                (subst (λ (x : List ℕ). SeatTurn (on_carried old.key state.sealed) x taken (seat_at state k) line asks.seen reply acts ends.0) (sym is_state.key_is) ends.1) refl,
-            state_after state is_state ends.0 acts ends.2,
-          ));
+          unfolds_as [] (unfolds_where [] (asks.turns state.sealed (seat_at state k) (is_state.shows k)) (may_on state is_state asks.seen))
+          (λ acts ends. (state_with state k ends.0 acts, turn_on state is_state asks.seen reply acts ends.0 ends.1, state_after state is_state ends.0 acts ends.2));
     }
+
+    caused_on : (reply : Reply) → SeatCaused old.key taken line reply (session_at old k) before after → DeskCaused line reply old before after
+    caused_on reply caused = record {
+      given = caused.given;
+      told = caused.told;
+      caused = λ state like.
+          inr (k, taken, names, state_says state like, subst (λ (x : List ℕ). Caused x taken (seat_at state k) line caused.given reply) (sym like.key_is) (caused.caused (seat_at state k) (like.like k)));
+    }
+
+    all_caused : (r : Result Reply Memory) → WhereReplied r (λ reply. SeatCaused old.key taken line reply (session_at old k) before after) → WhereReplied r (λ reply. DeskCaused line reply old before after)
+    all_caused (Ok reply) caused = caused_on reply caused
+    all_caused (Err fault) caused = tt
 
     all_asks : (r : Result Reply Memory) → WhereReplied r (λ reply. WhereTold before after (λ given. SeatAsks old.key taken line reply (session_at old k) left given before after random random'))
         → WhereReplied r (λ reply. WhereTold before after (λ given. Asks line reply old new given before after random random'))
@@ -190,7 +213,7 @@ module _ (old : DeskState) (desk : IsDesk old) (k : ℕ) (below : k < SEATS) (ta
     wants_on wants = record {
       takes = wants.takes;
       told = wants.told;
-      ends = ⊎_elim (λ idle. inl (nothing idle)) (λ breaks. inr (breaks.0, broken breaks.1)) wants.ends;
+      ends = ⊎_elim (λ idle. inl (nothing idle)) (λ breaks. inr (broken breaks.0 breaks.1 breaks.2)) wants.ends;
       flushes = λ j session is_seat is. flushed j session (same_seat j (sym is_seat ∙ names)) is;
       others = λ j other. off j (λ e. other (names ∙ ap (λ (i : ℕ). Some i) (sym e)));
     }
@@ -211,12 +234,12 @@ module _ (old : DeskState) (desk : IsDesk old) (k : ℕ) (below : k < SEATS) (ta
         same_seat : (j : ℕ) → ◌≡◌ {A = Option ℕ} (Some j) (Some k) → j ≡ k
         same_seat j is = cc
 
-        flushed : (j : ℕ) (session : SessionState) → j ≡ k → session_at old j ≡ Some session → OnDisk before after (FlushesUnder session)
+        flushed : (j : ℕ) (session : SessionState) → j ≡ k → session_at old j ≡ Some session → OnDisk before after (FlushesUnder line session)
         flushed j session same is =
             wants.flushes session (subst (λ i. session_at old i ≡ Some session) same is)
 
-        broken : IsBrokenSession left → BreaksSeat line new
-        broken is = let at = broken_at left is in (k, at.0, names, here ∙ at.1, at.2)
+        broken : IsChange line → IsBrokenSession left → IsSomeAnd (session_at old k) (Admits line) → BreaksSeat line old new
+        broken change is admits = record { change = change; seat = k; is_seat = names; broken = subst IsBrokenSession (sym here) is; admitted = admits }
 
     all_wants : (r : Result Reply Memory) → WhereWanting r (SeatWants line (session_at old k) left before after random random') → WhereWanting r (Wants line old new before after random random')
     all_wants (Ok reply) wants = tt
@@ -236,6 +259,7 @@ module _ (old : DeskState) (desk : IsDesk old) (k : ℕ) (below : k < SEATS) (ta
     desk_goes = record {
       key_is = refl;
       asks = all_asks result goes.asks;
+      caused = all_caused result goes.caused;
       books = both_weaker (KeepsUnder (CoversSome (session_at old k)) (CoversSome left) (Concerns taken line (session_at old k))) (KeepsUnder (CoversDesk old) (CoversDesk new) (ConcernsDesk line old)) before.honest after.honest goes.books books_on;
       named = named_on;
       spares = spares_more (Concerns taken line (session_at old k)) (ConcernsDesk line old) concern_desk before after goes.spares;

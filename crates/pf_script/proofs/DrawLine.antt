@@ -33,7 +33,7 @@ module _ (key : List ℕ) (k : ℕ) (old : SessionState) (whole : old.broken ≡
   again_turns : (nonce : List ℕ) → old.drawn ≡ Some nonce → new ≡ old → SheetTurns key false (lines.Draw k) (seen_by [] [] false false) (replies.Drawn nonce) old (Some new) []
   again_turns nonce was same sealed base among linked kept =
       let own = seat_on base old in
-      at_last [] (λ unforged. (
+      at_last [] (inl refl) (λ unforged. (
         Own own,
         accepted (none_then [] (Own own) own refl whole tt) (record { host = refl; random = refl }) (drawn_again k own nonce was refl),
         shows_same sealed (Own own) (Some new) (subst (λ (s : SessionState). Shows sealed (Own own) (Some s)) (sym same) (whole_file base old whole among linked kept refl refl)),
@@ -42,7 +42,7 @@ module _ (key : List ℕ) (k : ℕ) (old : SessionState) (whole : old.broken ≡
   lost_turns : (words : List (List ℕ)) → length words < 2 → old.drawn ≡ None → new ≡ old → SheetTurns key false (lines.Draw k) (seen_by [] words false true) replies.WordsFault old (Some new) []
   lost_turns words fewer none same sealed base among linked kept =
       let own = seat_on base old in
-      at_last [] (λ unforged. (
+      at_last [] (inl refl) (λ unforged. (
         Own own,
         words_failed (none_then [] (Own own) own refl whole tt) (record { host = refl; random = refl }) (no_nonce k own none fewer) refl,
         shows_same sealed (Own own) (Some new) (subst (λ (s : SessionState). Shows sealed (Own own) (Some s)) (sym same) (whole_file base old whole among linked kept refl refl)),
@@ -58,7 +58,7 @@ module _ (key : List ℕ) (k : ℕ) (old : SessionState) (whole : old.broken ≡
   new_turns first second none same sealed base among linked kept =
       let own = seat_on base old in
       let drawn : SessionState = record old { drawn = Some (first ++ second) } in
-      at_last [] (λ unforged. (
+      at_last [] (inl refl) (λ unforged. (
         Own (record own { drawn = Some (first ++ second) }),
         accepted (none_then [] (Own own) own refl whole tt) (record { host = refl; random = refl }) (draws_now k own first second none refl),
         shows_same sealed (Own (record own { drawn = Some (first ++ second) })) (Some new)

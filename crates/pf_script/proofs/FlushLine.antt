@@ -57,7 +57,7 @@ module _ (key : List ℕ) (k : ℕ) (old : SessionState) (seated : IsSeated key 
   -- no word came
   lacked_turns : (words : List (List ℕ)) → TooFewToFlush old words → new ≡ old → SheetTurns key false (lines.Flush k) (seen_by [] words false true) replies.WordsFault old (Some new) []
   lacked_turns words fewer same sealed base among linked kept =
-      at_last [] (λ unforged. (
+      at_last [] (inl refl) (λ unforged. (
         Own (seat_on base old),
         words_failed (none_then [] (Own (seat_on base old)) (seat_on base old) refl whole tt) (record { host = refl; random = refl }) (no_flush k (seat_on base old) fewer) refl,
         shows_same sealed (Own (seat_on base old)) (Some new) (subst (λ (s : SessionState). Shows sealed (Own (seat_on base old)) (Some s)) (sym same) (whole_file base old whole among linked kept refl refl)),

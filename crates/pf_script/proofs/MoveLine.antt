@@ -265,7 +265,7 @@ module _ (key : List ℕ) (k : ℕ) (to : Name) (old : SessionState) (seated : I
         → SeatGoes key false line (Ok reply) (Some old) (Some new) before after random random'
     as_before reply these words of_host of_words seen host_is words_is same turns =
         move_on reply these words of_host of_words seen host_is words_is
-        (λ sealed base among linked kept. at_last [] (λ unforged. (
+        (λ sealed base among linked kept. at_last [] (inl refl) (λ unforged. (
           Own (seat_on base old),
           turns sealed base,
           shows_same sealed (Own (seat_on base old)) (Some new) (subst (λ (s : SessionState). Shows sealed (Own (seat_on base old)) (Some s)) (sym same) (whole_file base old whole among linked kept refl refl)),

@@ -108,10 +108,11 @@ module _ (key : List ℕ) (line : ScriptLine) (name : Name) (names : name_of_lin
         (λ a b keeps. keeps_more CoversNone (CoversSome new) (λ n. n ≡ name) (Concerns false line None) a b concerns keeps)
 
     pub empty_goes : (reply : Reply) (these : List Answer) (words : List (List ℕ)) (of_host of_words : Bool) → SeenOf these words of_host of_words before after random random' → is_host_fault reply ≡ of_host → is_words_fault reply ≡ of_words
-        → SeatTurns key false line (seen_by these words of_host of_words) reply None new these → SeatGoes key false line (Ok reply) None new before after random random'
-    empty_goes reply these words of_host of_words seen host_is words_is turns = record {
+        → SeatTurns key false line (seen_by these words of_host of_words) reply None new these → Caused key false Empty line these reply → SeatGoes key false line (Ok reply) None new before after random random'
+    empty_goes reply these words of_host of_words seen host_is words_is turns caused = record {
       asks = told_by (λ given. SeatAsks key false line reply None new given before after random random') these before after seen.told
           (record { seen = seen_by these words of_host of_words; was_seen = record { answers = refl; words = seen.taken; of_host = seen.on_host; of_words = seen.on_words }; turns = turns });
+      caused = record { given = these; told = seen.told; caused = λ seat like. subst (λ (x : Seat). Caused key false x line these reply) (sym (like_none seat like)) caused };
       books = books;
       counts = (subst (λ b. CountsFault b before.faults after.faults) (sym host_is) seen.on_host, subst (λ b. CountsFault b random.faults random'.faults) (sym words_is) seen.on_words);
       wants = tt;
@@ -124,6 +125,7 @@ module _ (key : List ℕ) (line : ScriptLine) (name : Name) (names : name_of_lin
     pub empty_wants : ¬ (TakesNone line) → new ≡ None → KeepsDisk before after → after.faults ≡ before.faults → random' ≡ random → WhereTold before after (λ given. Unit {0}) → SeatGoes key false line (Err (record {})) None new before after random random'
     empty_wants takes none disk calm same told = record {
       asks = tt;
+      caused = tt;
       books = books;
       counts = (calm, ap (λ (w : WordsState). w.faults) same);
       wants = record { takes = takes; told = told; ends = inl (record { seat = none; disk = disk; words = same }); flushes = λ session is. absurd (cc) };
@@ -186,23 +188,23 @@ module _ (key : List ℕ) (line : ScriptLine) (name : Name) (names : name_of_lin
       })
 
   -- on any host, acts that do not depend on what was sealed
-  pub empty_turns : (seen : Seen) (reply : Reply) (new : Option SessionState) (given : List Answer) (acts : List Act) (left : Seat) → ((standing : Standing) → SeatTurn standing key false Empty line seen reply acts left)
-      → ((sealed : List Sheet) → Shows (sealed ++ sheets_of acts) left new) → SeatTurns key false line seen reply None new given
-  empty_turns seen reply new given acts left turn shows_new sealed seat shows =
-      subst (λ (x : Seat). Unfolds key sealed (λ acts. (left : Seat) × SeatTurn (on_carried key sealed) key false x line seen reply acts left × Shows (sealed ++ sheets_of acts) left new) given []) (sym (shows_none sealed seat shows))
-      (at_last acts (λ unforged. (left, turn (on_carried key sealed), shows_new sealed)))
+  pub empty_turns : (seen : Seen) (reply : Reply) (new : Option SessionState) (given : List Answer) (acts : List Act) (left : Seat) → ((sealed : List Sheet) → (sheets_of acts ≡ []) ⊎ MaySeal (SomeSeatTurn key sealed false Empty line) seen acts)
+      → ((standing : Standing) → SeatTurn standing key false Empty line seen reply acts left) → ((sealed : List Sheet) → Shows (sealed ++ sheets_of acts) left new) → SeatTurns key false line seen reply None new given
+  empty_turns seen reply new given acts left may turn shows_new sealed seat shows =
+      subst (λ (x : Seat). Unfolds key sealed (MaySeal (SomeSeatTurn key sealed false x line) seen) (λ acts. (left : Seat) × SeatTurn (on_carried key sealed) key false x line seen reply acts left × Shows (sealed ++ sheets_of acts) left new) given []) (sym (shows_none sealed seat shows))
+      (at_last acts (may sealed) (λ unforged. (left, turn (on_carried key sealed), shows_new sealed)))
 
   still_shows : (sealed : List Sheet) → Shows (sealed ++ []) Empty None
   still_shows sealed = no_file_now refl refl
 
   -- nothing was done
   pub empty_idle : (before after : HostState) (random random' : WordsState) (reply : Reply) (these : List Answer) (words : List (List ℕ)) (of_host of_words : Bool) → OnDisk before after Unchanged → SeenOf these words of_host of_words before after random random'
-      → is_host_fault reply ≡ of_host → is_words_fault reply ≡ of_words → ((standing : Standing) → SeatTurn standing key false Empty line (seen_by these words of_host of_words) reply [] Empty)
+      → is_host_fault reply ≡ of_host → is_words_fault reply ≡ of_words → ((standing : Standing) → SeatTurn standing key false Empty line (seen_by these words of_host of_words) reply [] Empty) → Caused key false Empty line these reply
       → ((a : Honest) → before.honest ≡ Some a → Failed (seen_by these words of_host of_words) false false → TurnsOver (reading a.now) words reply) → BothHalves key line (Ok reply) None before after random random'
-  empty_idle before after random random' reply these words of_host of_words only seen host_is words_is turn over = record {
+  empty_idle before after random random' reply these words of_host of_words only seen host_is words_is turn caused over = record {
     goes = empty_goes None before after random random'
         (both_weaker Unchanged (KeepsUnder CoversNone CoversNone (λ n. n ≡ name)) before.honest after.honest only (λ a b only_ab. only_reads CoversNone a b (λ n. n ≡ name) only_ab)) (spares_kept (Concerns false line None) before after only) tt (λ n none. absurd none)
-        reply these words of_host of_words seen host_is words_is (empty_turns (seen_by these words of_host of_words) reply None these [] Empty turn still_shows);
+        reply these words of_host of_words seen host_is words_is (empty_turns (seen_by these words of_host of_words) reply None these [] Empty (λ sealed. inl refl) turn still_shows) caused;
     booked = record {
       seen = seen_by these words of_host of_words;
       was_seen = seen_in these words of_host of_words before after random random' seen;

@@ -147,7 +147,7 @@ module _ (key : List ℕ) (k at count : ℕ) (old : SessionState) (seated : IsSe
     given_turns : (n : ℕ) → n ≡ readable old.tree at (length buffer) → ReadFacts (Ok n) at buffer old new given → SheetTurns key false (lines.Read k at count) (seen_by given [] false false) (replies.Given buffer) old (Some new) given
     given_turns n counted facts sealed base among linked kept =
         let own = seat_on base old in
-        at_last [] (λ unforged.
+        at_last [] (inl refl) (λ unforged.
         let out = on_sheet (Ok n) facts sealed base among kept.backed unforged in (
           Own own,
           subst (λ (b : List ℕ). SeatTurn (on_carried key sealed) key false (Own own) (lines.Read k at count) (seen_by given [] false false) (replies.Given b) [] (Own own)) (sym (slice_is n counted base out.0.slice))
@@ -158,7 +158,7 @@ module _ (key : List ℕ) (k at count : ℕ) (old : SessionState) (seated : IsSe
     damage_turns : (d : Damage) → ReadFacts (Err (trees.Damaged d)) at buffer old new given → SheetTurns key false (lines.Read k at count) (seen_by given [] false false) (replies.DamagedNode d) old (Some new) given
     damage_turns d facts sealed base among linked kept =
         let own = seat_on base old in
-        at_last [] (λ unforged.
+        at_last [] (inl refl) (λ unforged.
         let out = on_sheet (Err (trees.Damaged d)) facts sealed base among kept.backed unforged in (
           Own own,
           was_damaged d (read_passes key k at count own whole few) (record { host = refl; random = refl }) (not_read k at count own (ByDamage d) refl out.1) refl,
@@ -168,7 +168,7 @@ module _ (key : List ℕ) (k at count : ℕ) (old : SessionState) (seated : IsSe
     host_turns : ReadFacts (Err trees.Host) at buffer old new given → SheetTurns key false (lines.Read k at count) (seen_by given [] true false) replies.HostFault old (Some new) given
     host_turns facts sealed base among linked kept =
         let own = seat_on base old in
-        at_last [] (λ unforged.
+        at_last [] (inl refl) (λ unforged.
         let out = on_sheet (Err trees.Host) facts sealed base among kept.backed unforged in (
           Own own,
           host_failed (read_passes key k at count own whole few) (record { host = refl; random = refl }) (not_read k at count own ByHost refl tt) refl,

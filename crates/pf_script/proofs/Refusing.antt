@@ -1,5 +1,5 @@
 -- Lines that are refused by a rule: nothing is done.
-use Rattle.std.proofs.Common.{◌≡◌, inl, inr, Bool, true, false, List, [], ◌++◌, ℕ, refl, sym, ◌∙◌, subst, Option, Some, None, Result, Ok, Err}
+use Rattle.std.proofs.Common.{◌≡◌, ◌⊎◌, inl, inr, Bool, true, false, List, [], ◌++◌, ℕ, refl, sym, ◌∙◌, subst, Option, Some, None, Result, Ok, Err}
 use Rattle.std.proofs.lemmas.List.{append-nil}
 use Rattle.node_tree.specs.Sheet.{Sheet}
 use Rattle.node_tree.specs.Unforged.{Unforged}
@@ -16,17 +16,18 @@ use Rattle.pf_session.specs.Asking.{IsTaken as AreTaken}
 use Rattle.pf_session.specs.State.{SessionState}
 use Rattle.pf_script.specs.BookActs.{Act}
 use Rattle.pf_script.specs.BookSeats.{Covering, KeepsUnder}
-use Rattle.pf_script.specs.Desk.{IsSeatOf, IsSeated, Shows}
-use Rattle.pf_script.specs.DeskSteps.{Unfolds, in_the_end, then_more, SeatAsks, CoversSome, Concerns, KeepsSession, TakesNone, SeatGoes}
+use Rattle.pf_script.specs.Desk.{IsSeatOf, IsSeated, IsLike, Shows}
+use Rattle.pf_script.specs.DeskSteps.{Unfolds, in_the_end, then_more, SeatCaused, SeatAsks, CoversSome, Concerns, KeepsSession, TakesNone, SeatGoes}
 use Rattle.pf_script.specs.Rules.{Rule, IsFirst, NoneRefuses, IsBroken, rules, seated_rules}
 use Rattle.pf_script.specs.Script.{OwnSeat, Seat, Empty, Own, sheets_of}
-use Rattle.pf_script.specs.Turns.{Seen, refused}
+use Rattle.pf_script.specs.Turns.{Seen, Caused, refused}
 use Rattle.pf_script.specs.declared.line.ScriptLine.{ScriptLine}
 use Rattle.pf_script.specs.declared.reply.Reply.{Reply}
 use Rattle.pf_script.specs.declared.reply.Reply.TheVariants as replies
 use Rattle.pf_script.specs.declared.reply.Why.{Why}
 use Rattle.pf_script.specs.declared.reply.Why.TheVariants as whys
 use Rattle.pf_script.proofs.ActKeeping.{unchanged_now}
+use Rattle.pf_script.proofs.Liking.{like_shown}
 use Rattle.pf_script.proofs.Sparing.{spares_none}
 use Rattle.pf_script.proofs.WantFlushes.{kept_flushes}
 
@@ -41,19 +42,23 @@ pub same_keeps : (cover : Covering) (concerns : Name → Type 0) (a : Honest) �
 same_keeps cover concerns a book seats agrees reads covers = ([], seats, (unchanged_now a, λ seat has. has), covers, λ seat has apart. has, λ name none. absurd none)
 
 -- all that was done, at once
-pub at_last : {key : List ℕ} {sealed : List Sheet} {P : List Act → Type 0} {given : List Answer} (acts : List Act) → (Unforged key (sealed ++ sheets_of acts) given → P acts) → Unfolds key sealed P given []
-at_last {key} {sealed} {P} {given} acts ends = then_more [] acts [] given refl (λ unforged. in_the_end acts ends)
+pub at_last : {key : List ℕ} {sealed : List Sheet} {May P : List Act → Type 0} {given : List Answer} (acts : List Act) → (sheets_of acts ≡ []) ⊎ May acts → (Unforged key (sealed ++ sheets_of acts) given → P acts) → Unfolds key sealed May P given []
+at_last {key} {sealed} {May} {P} {given} acts may ends = then_more [] acts [] given refl may (λ unforged. in_the_end acts ends)
+
+-- the cause of a reply to a line by which nothing was asked of the host
+pub unasked_cause : (key : List ℕ) (taken : Bool) (line : ScriptLine) (reply : Reply) (old : Option SessionState) (host : HostState) → ((seat : Seat) → IsLike seat old → Caused key taken seat line [] reply) → SeatCaused key taken line reply old host host
+unasked_cause key taken line reply old host caused = record { given = []; told = told_none host host refl; caused = caused }
 
 module _ (key : List ℕ) (taken : Bool) (line : ScriptLine) (why : Why) (old : Option SessionState) (host : HostState) (words : WordsState)
-    (first : (sealed : List Sheet) (seat : Seat) → Shows sealed seat old → IsFirst (rules key taken seat line []) why) where
+    (first : (seat : Seat) → IsLike seat old → IsFirst (rules key taken seat line []) why) where
   refused_asks : SeatAsks key taken line (replies.Refused why) old old [] host host words words
   refused_asks = record {
     seen = idle_seen;
     was_seen = record { answers = refl; words = none_taken words; of_host = refl; of_words = refl };
     turns = λ sealed seat shows.
-        at_last [] (λ unforged. (
+        at_last [] (inl refl) (λ unforged. (
           seat,
-          refused why (first sealed seat shows) (record { host = refl; random = refl }) refl refl refl refl,
+          refused why (first seat (like_shown sealed seat old shows)) (record { host = refl; random = refl }) refl refl refl refl,
           subst (λ (l : List Sheet). Shows l seat old) (sym (append-nil sealed)) shows,
         ));
   }
@@ -61,6 +66,7 @@ module _ (key : List ℕ) (taken : Bool) (line : ScriptLine) (why : Why) (old : 
   pub refused_goes : IsSeatOf key old → SeatGoes key taken line (Ok (replies.Refused why)) old old host host words words
   refused_goes seated = record {
     asks = told_by (λ given. SeatAsks key taken line (replies.Refused why) old old given host host words words) [] host host (told_none host host refl) refused_asks;
+    caused = unasked_cause key taken line (replies.Refused why) old host first;
     books = both_same (KeepsUnder (CoversSome old) (CoversSome old) (Concerns taken line old)) host.honest host.honest refl (same_keeps (CoversSome old) (Concerns taken line old));
     counts = (refl, refl);
     wants = tt;
@@ -79,6 +85,7 @@ pub nothing_wanting : (key : List ℕ) (taken : Bool) (line : ScriptLine) (fault
     → SeatGoes key taken line (Err fault) old old host host words words
 nothing_wanting key taken line fault old host words takes seated = record {
   asks = tt;
+  caused = tt;
   books = both_same (KeepsUnder (CoversSome old) (CoversSome old) (Concerns taken line old)) host.honest host.honest refl (same_keeps (CoversSome old) (Concerns taken line old));
   counts = (refl, refl);
   wants = record {

@@ -12,11 +12,11 @@ use Rattle.pf_io.proofs.Telling.{told_by, both_weaker}
 use Rattle.pf_session.specs.Aside.{Aside}
 use Rattle.pf_session.specs.State.{SessionState}
 use Rattle.pf_script.specs.BookSeats.{Covering, Covers, CoversNone, KeepsUnder}
-use Rattle.pf_script.specs.Desk.{IsSeated, Shows, seat_on}
-use Rattle.pf_script.specs.DeskSteps.{Unfolds, CountsFault, SeatTurns, SeatAsks, Concerns, CountsReply, Spares, SeatWants, SeatGoes, is_host_fault, is_words_fault}
+use Rattle.pf_script.specs.Desk.{IsSeated, IsLike, Shows, seat_on}
+use Rattle.pf_script.specs.DeskSteps.{MaySeal, Unfolds, SomeSeatTurn, CountsFault, SeatTurns, SeatCaused, SeatAsks, Concerns, CountsReply, Spares, SeatWants, SeatGoes, is_host_fault, is_words_fault}
 use Rattle.pf_script.specs.Script.{OwnSeat, Seat, Own, sheets_of}
 use Rattle.pf_script.specs.SeatReplies.{flush_reply}
-use Rattle.pf_script.specs.Turns.{Seen, SeatTurn, on_carried, Blame, ByHost, ByDamage}
+use Rattle.pf_script.specs.Turns.{Seen, SeatTurn, Caused, on_carried, Blame, ByHost, ByDamage}
 use Rattle.pf_script.specs.declared.line.ScriptLine.{ScriptLine}
 use Rattle.pf_script.specs.declared.reply.Reply.{Reply}
 use Rattle.pf_script.proofs.Flushed.{SeenOf, host_blamed, fault_of}
@@ -47,13 +47,13 @@ own_same sheet key key' name name' content content' dirty dirty' changed changed
 abbrev pub SheetTurns : List ℕ → Bool → ScriptLine → Seen → Reply → SessionState → Option SessionState → List Answer → Type 0
 SheetTurns key taken line seen reply old new given =
     (sealed : List Sheet) (base : Sheet) → Contains sealed base → IsLinked base → IsKeptOn base old
-    → Unfolds key sealed (λ acts. (left : Seat) × SeatTurn (on_carried key sealed) key taken (Own (seat_on base old)) line seen reply acts left × Shows (sealed ++ sheets_of acts) left new) given []
+    → Unfolds key sealed (MaySeal (SomeSeatTurn key sealed taken (Own (seat_on base old)) line) seen) (λ acts. (left : Seat) × SeatTurn (on_carried key sealed) key taken (Own (seat_on base old)) line seen reply acts left × Shows (sealed ++ sheets_of acts) left new) given []
 
 pub whole_turns : (key : List ℕ) (taken : Bool) (line : ScriptLine) (seen : Seen) (reply : Reply) (old : SessionState) (new : Option SessionState) (given : List Answer) → old.broken ≡ false
     → SheetTurns key taken line seen reply old new given → SeatTurns key taken line seen reply (Some old) new given
 whole_turns key taken line seen reply old new given whole turns sealed seat shows =
     let on = shows_whole sealed seat old whole shows in
-    subst (λ (x : Seat). Unfolds key sealed (λ acts. (left : Seat) × SeatTurn (on_carried key sealed) key taken x line seen reply acts left × Shows (sealed ++ sheets_of acts) left new) given []) (sym on.seat_is)
+    subst (λ (x : Seat). Unfolds key sealed (MaySeal (SomeSeatTurn key sealed taken x line) seen) (λ acts. (left : Seat) × SeatTurn (on_carried key sealed) key taken x line seen reply acts left × Shows (sealed ++ sheets_of acts) left new) given []) (sym on.seat_is)
     (turns sealed on.sheet on.among on.linked on.kept)
 
 -- the counts that rose where a flush failed
@@ -86,6 +86,7 @@ module _ (key : List ℕ) (taken : Bool) (line : ScriptLine) (old : SessionState
       → after.faults ≡ before.faults → random'.faults ≡ random.faults → SeatGoes key taken line (Err fault) (Some old) (Some new) before after random random'
   goes_wanting fault new wants books seated name_is on_host on_words = record {
     asks = tt;
+    caused = tt;
     books = books_on (Covers new) books;
     counts = (on_host, on_words);
     wants = wants;
@@ -97,13 +98,14 @@ module _ (key : List ℕ) (taken : Bool) (line : ScriptLine) (old : SessionState
   module _ (reply : Reply) (counts : CountsReply (Ok reply) before after random random') where
     -- the session goes on
     pub goes_told : (new : SessionState) → WhereTold before after (λ given. SeatAsks key taken line reply (Some old) (Some new) given before after random random')
-        → OnDisk before after (KeepsUnder (Covers old) (Covers new) (λ name. name ≡ old.name)) → IsSeated key new → new.name ≡ old.name → SeatGoes key taken line (Ok reply) (Some old) (Some new) before after random random'
-    goes_told new asks books seated name_is = record { asks = asks; books = books_on (Covers new) books; counts = counts; wants = tt; seated = seated; named = λ name has. inl (has ∙ name_is); spares = spares_on }
+        → SeatCaused key taken line reply (Some old) before after → OnDisk before after (KeepsUnder (Covers old) (Covers new) (λ name. name ≡ old.name)) → IsSeated key new → new.name ≡ old.name
+        → SeatGoes key taken line (Ok reply) (Some old) (Some new) before after random random'
+    goes_told new asks caused books seated name_is = record { asks = asks; caused = caused; books = books_on (Covers new) books; counts = counts; wants = tt; seated = seated; named = λ name has. inl (has ∙ name_is); spares = spares_on }
 
     -- it is let go
     pub out_told : WhereTold before after (λ given. SeatAsks key taken line reply (Some old) None given before after random random')
-        → OnDisk before after (KeepsUnder (Covers old) CoversNone (λ name. name ≡ old.name)) → SeatGoes key taken line (Ok reply) (Some old) None before after random random'
-    out_told asks books = record { asks = asks; books = books_on CoversNone books; counts = counts; wants = tt; seated = tt; named = λ name none. absurd none; spares = spares_on }
+        → SeatCaused key taken line reply (Some old) before after → OnDisk before after (KeepsUnder (Covers old) CoversNone (λ name. name ≡ old.name)) → SeatGoes key taken line (Ok reply) (Some old) None before after random random'
+    out_told asks caused books = record { asks = asks; caused = caused; books = books_on CoversNone books; counts = counts; wants = tt; seated = tt; named = λ name none. absurd none; spares = spares_on }
 
 module _ (key : List ℕ) (taken : Bool) (line : ScriptLine) (reply : Reply) (old : SessionState) (before after : HostState) (random random' : WordsState) (aside : Aside old.name before after) (these : List Answer) (words : List (List ℕ)) (of_host of_words : Bool)
     (seen : SeenOf these words of_host of_words before after random random') (host_is : is_host_fault reply ≡ of_host) (words_is : is_words_fault reply ≡ of_words) where
@@ -117,14 +119,17 @@ module _ (key : List ℕ) (taken : Bool) (line : ScriptLine) (reply : Reply) (ol
   counts_by : CountsReply (Ok reply) before after random random'
   counts_by = (subst (λ b. CountsFault b before.faults after.faults) (sym host_is) seen.on_host, subst (λ b. CountsFault b random.faults random'.faults) (sym words_is) seen.on_words)
 
-  pub goes_on : (new : SessionState) → SeatTurns key taken line (seen_by these words of_host of_words) reply (Some old) (Some new) these → OnDisk before after (KeepsUnder (Covers old) (Covers new) (λ name. name ≡ old.name))
-      → IsSeated key new → new.name ≡ old.name → SeatGoes key taken line (Ok reply) (Some old) (Some new) before after random random'
-  goes_on new turns =
-      goes_told key taken line old before after random random' aside reply counts_by new
-      (told_by (λ given. SeatAsks key taken line reply (Some old) (Some new) given before after random random') these before after seen.told (asks_by (Some new) turns))
+  caused_by : ((seat : Seat) → IsLike seat (Some old) → Caused key taken seat line these reply) → SeatCaused key taken line reply (Some old) before after
+  caused_by caused = record { given = these; told = seen.told; caused = caused }
 
-  pub goes_out : SeatTurns key taken line (seen_by these words of_host of_words) reply (Some old) None these → OnDisk before after (KeepsUnder (Covers old) CoversNone (λ name. name ≡ old.name))
+  pub goes_on : (new : SessionState) → SeatTurns key taken line (seen_by these words of_host of_words) reply (Some old) (Some new) these → ((seat : Seat) → IsLike seat (Some old) → Caused key taken seat line these reply) → OnDisk before after (KeepsUnder (Covers old) (Covers new) (λ name. name ≡ old.name))
+      → IsSeated key new → new.name ≡ old.name → SeatGoes key taken line (Ok reply) (Some old) (Some new) before after random random'
+  goes_on new turns caused =
+      goes_told key taken line old before after random random' aside reply counts_by new
+      (told_by (λ given. SeatAsks key taken line reply (Some old) (Some new) given before after random random') these before after seen.told (asks_by (Some new) turns)) (caused_by caused)
+
+  pub goes_out : SeatTurns key taken line (seen_by these words of_host of_words) reply (Some old) None these → ((seat : Seat) → IsLike seat (Some old) → Caused key taken seat line these reply) → OnDisk before after (KeepsUnder (Covers old) CoversNone (λ name. name ≡ old.name))
       → SeatGoes key taken line (Ok reply) (Some old) None before after random random'
-  goes_out turns =
+  goes_out turns caused =
       out_told key taken line old before after random random' aside reply counts_by
-      (told_by (λ given. SeatAsks key taken line reply (Some old) None given before after random random') these before after seen.told (asks_by None turns))
+      (told_by (λ given. SeatAsks key taken line reply (Some old) None given before after random random') these before after seen.told (asks_by None turns)) (caused_by caused)

@@ -195,7 +195,7 @@ module _ (key : List ℕ) (at : ℕ) (bytes : List ℕ) (line : ScriptLine) (cou
         (record { told = told_none host host refl; taken = none_taken words; on_host = refl; on_words = refl }) refl refl old
         (whole_turns key false line (seen_by [] [] false false) (replies.Written count false) old (Some old) [] whole
         (λ sealed base among linked kept.
-        at_last [] (λ unforged. all_made key sealed (seat_on base old) line [] old [] [] [] base (none_made sealed base old among linked kept whole)
+        at_last [] (inl refl) (λ unforged. all_made key sealed (seat_on base old) line [] old [] [] [] base (none_made sealed base old among linked kept whole)
         (write_asks at bytes line count is_line (length (now base old.tree)) [] (nothing none refl)) (replies.Written count false) (write_replies at bytes line count is_line []) (passes base))))
         (both_same (KeepsUnder (Covers old) (Covers old) (λ name. name ≡ old.name)) host.honest host.honest refl (same_keeps (Covers old) (λ name. name ≡ old.name))) seated refl
 

@@ -1,11 +1,13 @@
 -- What a step of a desk comes to.
-use Rattle.std.specs.Prelude.{⊤, ◌≡◌, ◌≢◌, ◌⊎◌, ℕ, Bool, true, false, List, [], ◌++◌, Contains, replicate, Option, Some, None, IsSomeAnd, Result, Ok, Err}
+use Rattle.std.specs.Prelude.{⊤, ◌≡◌, ◌≢◌, ◌⊎◌, ℕ, ◌+◌, ◌<◌, Bool, true, false, List, [], ◌++◌, length, Contains, replicate, Option, Some, None, IsSomeAnd, Result, Ok, Err}
 use Rattle.node_tree.specs.Backing.{now}
+use Rattle.node_tree.specs.Reading.{KeepsFields as KeepsTree}
 use Rattle.node_tree.specs.Sheet.{Sheet}
+use Rattle.node_tree.specs.State.{Held}
 use Rattle.node_tree.specs.Unforged.{Unforged}
 use Rattle.pf_io.specs.Counts.{counted}
 use Rattle.pf_io.specs.Disk.{Name, IsImage, reading}
-use Rattle.pf_io.specs.Host.{Answer, HostState, Both, WhereTold, OnDisk}
+use Rattle.pf_io.specs.Host.{Answer, HostState, Both, IsMore, WhereTold, OnDisk}
 use Rattle.pf_io.specs.Moments.{Honest, Ran}
 use Rattle.pf_io.specs.Unchanged.{KeepsDisk}
 use Rattle.pf_io.specs.Words.{WordsState}
@@ -17,10 +19,11 @@ use Rattle.pf_session.specs.State.{SessionState}
 use Rattle.pf_script.specs.Book.{Book, Entry, Seal, Agrees}
 use Rattle.pf_script.specs.BookActs.{Flush, Act}
 use Rattle.pf_script.specs.BookDebts.{LeavesOthers, KeepsOthers, DidAll}
-use Rattle.pf_script.specs.BookSeats.{Covering, Covers, CoversOn, CoversNone, KeepsUnder}
-use Rattle.pf_script.specs.Desk.{DeskState, session_at, IsSeatOf, Shows, IsStateOf}
+use Rattle.pf_script.specs.BookSeats.{Covering, Covers, CoversOn, CoversNone, KeepsUnder, SparesSeats}
+use Rattle.pf_script.specs.Desk.{DeskState, session_at, IsSeatOf, IsLike, IsLikeDesk, Shows, IsStateOf}
+use Rattle.pf_script.specs.Rules.{NoneRefuses, rules}
 use Rattle.pf_script.specs.Script.{Seat, ScriptState, sheets_of, seat_of_line, name_of_line}
-use Rattle.pf_script.specs.Turns.{Seen, SeatTurn, Turn, on_carried}
+use Rattle.pf_script.specs.Turns.{Seen, SeatTurn, Caused, CausedIn, Turn, on_carried}
 use Rattle.pf_script.specs.declared.line.ScriptLine.{ScriptLine}
 use Rattle.pf_script.specs.declared.line.ScriptLine.TheVariants as lines
 use Rattle.pf_script.specs.declared.reply.Reply.{Reply}
@@ -38,17 +41,30 @@ pub record WasSeen (seen : Seen) (given : List Answer) (before after : HostState
   pub of_host : CountsFault seen.host_failed before.faults after.faults
   pub of_words : CountsFault seen.words_failed random.faults random'.faults
 
--- What a step did to names, as far as nothing is forged: the acts so far; where no block that was given until then opens to what none of the sheets has that were sealed so
--- far, there may be more; and in the end P holds of them all.
-pub data Unfolds (key : List ℕ) (sealed : List Sheet) (P : List Act → Type 0) (given : List Answer) : List Act → Type 0 where
-  in_the_end : (acts : List Act) → (Unforged key (sealed ++ sheets_of acts) given → P acts) → Unfolds key sealed P given acts
-  then_more : (acts more : List Act) (these rest : List Answer) → given ≡ these ++ rest → (Unforged key (sealed ++ sheets_of acts) these → Unfolds key sealed P given (acts ++ more)) → Unfolds key sealed P given acts
+-- The line may have sealed the sheets of these acts: with the first of the words that were taken it goes so far, where the host then fails.
+pub record MaySeal (Goes : Seen → Reply → List Act → Type 0) (seen : Seen) (acts : List Act) : Type 0 where
+  pub front : List (List ℕ)
+  pub back : List (List ℕ)
+  pub failed : List Act
+  pub in_order : seen.words ≡ front ++ back
+  pub goes : Goes (record { given = seen.given; words = front; host_failed = true; words_failed = false }) replies.HostFault failed
+  pub sheets : sheets_of acts ≡ sheets_of failed
+
+-- What a step did to names, as far as nothing is forged: the acts so far; where no block that was given until then opens to what none of the sheets has that were sealed so far, there may be more, as
+-- long as the line may have sealed their sheets; and in the end P holds of them all.
+pub data Unfolds (key : List ℕ) (sealed : List Sheet) (May P : List Act → Type 0) (given : List Answer) : List Act → Type 0 where
+  in_the_end : (acts : List Act) → (Unforged key (sealed ++ sheets_of acts) given → P acts) → Unfolds key sealed May P given acts
+  then_more : (acts more : List Act) (these rest : List Answer) → given ≡ these ++ rest → (sheets_of more ≡ []) ⊎ May (acts ++ more) → (Unforged key (sealed ++ sheets_of acts) these → Unfolds key sealed May P given (acts ++ more)) → Unfolds key sealed May P given acts
+
+-- a turn of a line on a seat, whatever seat it leaves
+abbrev pub SomeSeatTurn : List ℕ → List Sheet → Bool → Seat → ScriptLine → Seen → Reply → List Act → Type 0
+SomeSeatTurn key sealed taken seat line seen reply acts = (left : Seat) × SeatTurn (on_carried key sealed) key taken seat line seen reply acts left
 
 -- Whatever the seat shows, and whatever was sealed before: the line is answered on the seat as it may be.
 abbrev pub SeatTurns : List ℕ → Bool → ScriptLine → Seen → Reply → Option SessionState → Option SessionState → List Answer → Type 0
 SeatTurns key taken line seen reply old new given =
     (sealed : List Sheet) (seat : Seat) → Shows sealed seat old
-    → Unfolds key sealed (λ acts. (left : Seat) × SeatTurn (on_carried key sealed) key taken seat line seen reply acts left × Shows (sealed ++ sheets_of acts) left new) given []
+    → Unfolds key sealed (MaySeal (SomeSeatTurn key sealed taken seat line) seen) (λ acts. (left : Seat) × SeatTurn (on_carried key sealed) key taken seat line seen reply acts left × Shows (sealed ++ sheets_of acts) left new) given []
 
 pub record SeatAsks (key : List ℕ) (taken : Bool) (line : ScriptLine) (reply : Reply) (old new : Option SessionState) (given : List Answer) (before after : HostState) (random random' : WordsState) : Type 0 where
   pub seen : Seen
@@ -89,12 +105,28 @@ abbrev pub KeepsNames : ScriptLine → DeskState → DeskState → Type 0
 KeepsNames line old new =
     (k : ℕ) (name : Name) → HasItsName (session_at new k) name → HasItsName (session_at old k) name ⊎ ((seat_of_line line ≡ Some k) × (name_of_line line ≡ Some name))
 
+-- a turn of a line in a script, whatever state it leaves
+abbrev pub SomeTurn : ScriptState → ScriptLine → Seen → Reply → List Act → Type 0
+SomeTurn state line seen reply acts = (left : ScriptState) × Turn (on_carried state.key state.sealed) state line seen reply acts left
+
+-- The cause of a reply, also where something is forged: by some answers that came in the step, which are those that were told, where the host tells them.
+pub record SeatCaused (key : List ℕ) (taken : Bool) (line : ScriptLine) (reply : Reply) (old : Option SessionState) (before after : HostState) : Type 0 where
+  pub given : List Answer
+  pub told : Both before.given after.given (IsMore given)
+  pub caused : (seat : Seat) → IsLike seat old → Caused key taken seat line given reply
+
+-- so for a desk
+pub record DeskCaused (line : ScriptLine) (reply : Reply) (old : DeskState) (before after : HostState) : Type 0 where
+  pub given : List Answer
+  pub told : Both before.given after.given (IsMore given)
+  pub caused : (state : ScriptState) → IsLikeDesk state old → CausedIn state line given reply
+
 -- What was asked of a desk.
 pub record Asks (line : ScriptLine) (reply : Reply) (old new : DeskState) (given : List Answer) (before after : HostState) (random random' : WordsState) : Type 0 where
   pub seen : Seen
   pub was_seen : WasSeen seen given before after random random'
   pub turns : (state : ScriptState) → IsStateOf state old
-      → Unfolds old.key state.sealed (λ acts. (left : ScriptState) × Turn (on_carried old.key state.sealed) state line seen reply acts left × IsStateOf left new) given []
+      → Unfolds old.key state.sealed (MaySeal (SomeTurn state line) seen) (λ acts. (left : ScriptState) × Turn (on_carried old.key state.sealed) state line seen reply acts left × IsStateOf left new) given []
 
 -- where the book speaks of the name of a seat's session, it is covered
 abbrev pub CoversSome : Option SessionState → Covering
@@ -139,10 +171,15 @@ IsChange (lines.Fill seat at count byte) = ⊤
 IsChange (lines.Size seat size) = ⊤
 IsChange other = ⊥
 
--- A session is as before, but for the nodes that it holds.
+-- A session is as before, but for further nodes that it holds.
+pub record HoldsMore (old new : SessionState) : Type 0 where
+  pub fields : KeepsFields old new
+  pub tree : KeepsTree old.tree new.tree
+  pub held : (k : ℕ) (plain : List ℕ) → Held old.tree k plain → Held new.tree k plain
+
 abbrev pub KeepsSession : Option SessionState → Option SessionState → Type 0
 KeepsSession None new = new ≡ None
-KeepsSession (Some old) new = IsSomeAnd new (KeepsFields old)
+KeepsSession (Some old) new = IsSomeAnd new (HoldsMore old)
 
 pub record SeatIdle (old new : Option SessionState) (before after : HostState) (random random' : WordsState) : Type 0 where
   pub seat : KeepsSession old new
@@ -156,22 +193,33 @@ IsBrokenSession new = IsSomeAnd new (λ session. session.broken ≡ true)
 abbrev pub AreFlushes : Name → List Act → Type 0
 AreFlushes name acts = (act : Act) → Contains acts act → (seal : Seal) × (act ≡ record { deed = Flush seal; done = true }) × (seal.name ≡ name)
 
--- each act is a flush that sealed this content, or it with zeros behind it
-abbrev pub SealsOnly : List ℕ → List Act → Type 0
-SealsOnly content acts = (act : Act) → Contains acts act → (seal : Seal) × (n : ℕ) × (act.deed ≡ Flush seal) × (seal.sheet.content ≡ content ++ replicate n 0)
+-- how many zeros a line may have put behind a content of this length before a flush: none, and those of the steps of `size` before its last one
+abbrev pub MayGrow : ScriptLine → ℕ → ℕ → Type 0
+MayGrow (lines.Size seat size) held n = (n ≡ 0) ⊎ (held + n < size)
+MayGrow other held n = n ≡ 0
 
--- Under each book that agrees with the disk, with a seat under this sheet where it speaks of the session's name, nothing but such flushes was done to names. They sealed the content of the session.
-abbrev pub FlushesUnder : SessionState → Honest → Honest → Type 0
-FlushesUnder session a b =
+-- each act is a flush that sealed this content, with zeros behind it where the line may have put some
+abbrev pub SealsOnly : ScriptLine → List ℕ → List Act → Type 0
+SealsOnly line content acts = (act : Act) → Contains acts act → (seal : Seal) × (n : ℕ) × (act.deed ≡ Flush seal) × (seal.sheet.content ≡ content ++ replicate n 0) × MayGrow line (length content) n
+
+-- Under each book that agrees with the disk, with a seat under this sheet where it speaks of the session's name, nothing but such flushes was done to names. They sealed the content of the session,
+-- and the seats on other names stay.
+abbrev pub FlushesUnder : ScriptLine → SessionState → Honest → Honest → Type 0
+FlushesUnder line session a b =
     (book : Book) (seats : List Seal) → Agrees book seats a.now → IsImage a.now (reading a.now) → (sheet : Sheet) → CoversOn sheet session book seats
-    → (acts : List Act) × (left : List Seal) × DidAll book seats acts left a b × AreFlushes session.name acts
-    × ((entry : Entry) → session.broken ≡ false → book session.name ≡ Some entry → SealsOnly (now sheet session.tree) acts)
+    → (acts : List Act) × (left : List Seal) × DidAll book seats acts left a b × AreFlushes session.name acts × SparesSeats acts seats left
+    × ((entry : Entry) → session.broken ≡ false → book session.name ≡ Some entry → SealsOnly line (now sheet session.tree) acts)
+
+-- No rule refuses the line on a seat that is like the session, which is whole.
+pub record Admits (line : ScriptLine) (session : SessionState) : Type 0 where
+  pub whole : session.broken ≡ false
+  pub none : (key : List ℕ) (taken : Bool) (seat : Seat) → IsLike seat (Some session) → NoneRefuses (rules key taken seat line [])
 
 pub record SeatWants (line : ScriptLine) (old new : Option SessionState) (before after : HostState) (random random' : WordsState) : Type 0 where
   pub takes : ¬ (TakesNone line)
   pub told : WhereTold before after (λ given. ⊤)
-  pub ends : SeatIdle old new before after random random' ⊎ (IsChange line × IsBrokenSession new)
-  pub flushes : (session : SessionState) → old ≡ Some session → OnDisk before after (FlushesUnder session)
+  pub ends : SeatIdle old new before after random random' ⊎ (IsChange line × IsBrokenSession new × IsSomeAnd old (Admits line))
+  pub flushes : (session : SessionState) → old ≡ Some session → OnDisk before after (FlushesUnder line session)
 
 pub record NothingDone (old new : DeskState) (before after : HostState) (random random' : WordsState) : Type 0 where
   pub key_is : new.key ≡ old.key
@@ -179,16 +227,20 @@ pub record NothingDone (old new : DeskState) (before after : HostState) (random 
   pub disk : KeepsDisk before after
   pub words : random' ≡ random
 
--- a change for which there was no memory leaves its seat broken
-abbrev pub BreaksSeat : ScriptLine → DeskState → Type 0
-BreaksSeat line new = (k : ℕ) × (session : SessionState) × (seat_of_line line ≡ Some k) × (session_at new k ≡ Some session) × (session.broken ≡ true)
+-- a change that no rule refuses, and for which there was no memory, leaves its seat broken
+pub record BreaksSeat (line : ScriptLine) (old new : DeskState) : Type 0 where
+  pub change : IsChange line
+  pub seat : ℕ
+  pub is_seat : seat_of_line line ≡ Some seat
+  pub broken : IsBrokenSession (session_at new seat)
+  pub admitted : IsSomeAnd (session_at old seat) (Admits line)
 
 -- want of memory; what the host tells goes on, and each other seat is as before
 pub record Wants (line : ScriptLine) (old new : DeskState) (before after : HostState) (random random' : WordsState) : Type 0 where
   pub takes : ¬ (TakesNone line)
   pub told : WhereTold before after (λ given. ⊤)
-  pub ends : NothingDone old new before after random random' ⊎ (IsChange line × BreaksSeat line new)
-  pub flushes : (k : ℕ) (session : SessionState) → seat_of_line line ≡ Some k → session_at old k ≡ Some session → OnDisk before after (FlushesUnder session)
+  pub ends : NothingDone old new before after random random' ⊎ BreaksSeat line old new
+  pub flushes : (k : ℕ) (session : SessionState) → seat_of_line line ≡ Some k → session_at old k ≡ Some session → OnDisk before after (FlushesUnder line session)
   pub others : (j : ℕ) → seat_of_line line ≢ Some j → KeepsSession (session_at old j) (session_at new j)
 
 abbrev pub WhereWanting : Result Reply Memory → Type 0 → Type 0
@@ -202,6 +254,7 @@ WhereReplied (Err fault) P = ⊤
 -- A line on one seat of a desk under this key.
 pub record SeatGoes (key : List ℕ) (taken : Bool) (line : ScriptLine) (result : Result Reply Memory) (old new : Option SessionState) (before after : HostState) (random random' : WordsState) : Type 0 where
   pub asks : WhereReplied result (λ reply. WhereTold before after (λ given. SeatAsks key taken line reply old new given before after random random'))
+  pub caused : WhereReplied result (λ reply. SeatCaused key taken line reply old before after)
   pub books : OnDisk before after (KeepsUnder (CoversSome old) (CoversSome new) (Concerns taken line old))
   pub counts : CountsReply result before after random random'
   pub wants : WhereWanting result (SeatWants line old new before after random random')
@@ -213,6 +266,7 @@ pub record SeatGoes (key : List ℕ) (taken : Bool) (line : ScriptLine) (result 
 pub record DeskGoes (line : ScriptLine) (result : Result Reply Memory) (old new : DeskState) (before after : HostState) (random random' : WordsState) : Type 0 where
   pub key_is : new.key ≡ old.key
   pub asks : WhereReplied result (λ reply. WhereTold before after (λ given. Asks line reply old new given before after random random'))
+  pub caused : WhereReplied result (λ reply. DeskCaused line reply old before after)
   pub books : KeepsBooks line old new before after
   pub named : KeepsNames line old new
   pub spares : Spares (ConcernsDesk line old) before after

@@ -165,13 +165,13 @@ pub data Loses (key : List ℕ) (seen : Seen) : Seat → ScriptLine → List Act
   no_flush_before : (own mid : OwnSeat) (line : ScriptLine) (next : Step) (words lost : List (List ℕ)) (sheets : List Sheet) → MadeSome line own next words sheets mid → FlushesFirst (length mid.content) mid.dirty next
       → seen.words ≡ words ++ lost → length lost < words_of_flush mid → Loses key seen (Own own) line (flushes own sheets) (Own mid)
 
--- What a line may be answered on its seat, with what was done to names and the seat after it. `taken` says whether another seat has the name that the line gives. A fault of the host comes only
--- where no rule refuses before the host is asked.
+-- What a line may be answered on its seat, with what was done to names and the seat after it. `taken` says whether another seat has the name that the line gives. Where it is no refusal, no rule refuses by
+-- what the host answered, in a fault of the host by what it answered until then.
 pub data SeatTurn (standing : Standing) (key : List ℕ) (taken : Bool) (seat : Seat) (line : ScriptLine) (seen : Seen) (reply : Reply) (acts : List Act) (after : Seat) : Type 0 where
   refused : (why : Why) → IsFirst (rules key taken seat line seen.given) why → Failed seen false false → seen.words ≡ [] → reply ≡ replies.Refused why → acts ≡ [] → after ≡ seat
       → SeatTurn standing key taken seat line seen reply acts after
   accepted : NoneRefuses (rules key taken seat line seen.given) → Failed seen false false → Accepts standing key seen seat line reply acts after → SeatTurn standing key taken seat line seen reply acts after
-  host_failed : NoneRefuses (rules key taken seat line []) → Failed seen true false → Fails key seen ByHost seat line acts after → reply ≡ replies.HostFault → SeatTurn standing key taken seat line seen reply acts after
+  host_failed : NoneRefuses (rules key taken seat line seen.given) → Failed seen true false → Fails key seen ByHost seat line acts after → reply ≡ replies.HostFault → SeatTurn standing key taken seat line seen reply acts after
   was_damaged : (damage : Damage) → NoneRefuses (rules key taken seat line seen.given) → Failed seen false false → Fails key seen (ByDamage damage) seat line acts after → reply ≡ replies.DamagedNode damage → SeatTurn standing key taken seat line seen reply acts after
   words_failed : NoneRefuses (rules key taken seat line seen.given) → Failed seen false true → Loses key seen seat line acts after → reply ≡ replies.WordsFault → SeatTurn standing key taken seat line seen reply acts after
 
@@ -184,3 +184,46 @@ pub data Turn (standing : Standing) (state : ScriptState) (line : ScriptLine) (s
   silent : line ≡ lines.Blank → seen ≡ record { given = []; words = []; host_failed = false; words_failed = false } → reply ≡ replies.None → acts ≡ [] → after ≡ state → Turn standing state line seen reply acts after
   on_seat : (k : ℕ) (taken : Bool) (seat : Seat) → seat_of_line line ≡ Some k → SaysTaken state k (name_of_line line) taken → SeatTurn standing state.key taken (seat_at state k) line seen reply acts seat
       → after ≡ state_with state k seat acts → Turn standing state line seen reply acts after
+
+-- a whole block that was given in this step does not open
+pub record IsClosed (name : Name) (given : List Answer) (damage : Damage) : Type 0 where
+  pub block : List ℕ
+  pub gave : Given name given damage.node block
+  pub whole : length block ≡ 4096
+  pub kind_is : damage.kind ≡ kinds.Tag
+
+-- where the damages come from that a flush meets, and a fetch of nodes
+abbrev pub FlushDamage : Seat → List Answer → Damage → Type 0
+FlushDamage Empty given damage = ⊥
+FlushDamage (Own own) given damage = IsShort own.name given damage
+
+abbrev pub FetchDamage : Seat → List Answer → Damage → Type 0
+FetchDamage Empty given damage = ⊥
+FetchDamage (Own own) given damage = IsShort own.name given damage ⊎ IsClosed own.name given damage
+
+-- so by the line
+abbrev pub DamageComes : List ℕ → Seat → ScriptLine → List Answer → Damage → Type 0
+DamageComes key seat lines.Blank given damage = ⊥
+DamageComes key seat (lines.Create k name) given damage = ⊥
+DamageComes key seat (lines.Open k name) given damage = IsOpeningDamage key name given damage
+DamageComes key seat (lines.View k path) given damage = ⊥
+DamageComes key seat (lines.Read k at count) given damage = FetchDamage seat given damage
+DamageComes key seat (lines.Write k at bytes) given damage = FetchDamage seat given damage
+DamageComes key seat (lines.Fill k at count byte) given damage = FetchDamage seat given damage
+DamageComes key seat (lines.Size k size) given damage = FetchDamage seat given damage
+DamageComes key seat (lines.Flush k) given damage = FlushDamage seat given damage
+DamageComes key seat (lines.Move k name) given damage = FlushDamage seat given damage
+DamageComes key seat (lines.Draw k) given damage = ⊥
+DamageComes key seat (lines.Close k) given damage = FlushDamage seat given damage
+
+-- The cause of a reply by the seat, the line and the answers, also where something is forged: a refusal is that of the first rule that refuses, and behind any other reply none refuses.
+abbrev pub Caused : List ℕ → Bool → Seat → ScriptLine → List Answer → Reply → Type 0
+Caused key taken seat line given (replies.Refused why) = IsFirst (rules key taken seat line given) why
+Caused key taken seat line given (replies.DamagedNode damage) = NoneRefuses (rules key taken seat line given) × DamageComes key seat line given damage
+Caused key taken seat line given other = NoneRefuses (rules key taken seat line given)
+
+-- so for a line of a script; a blank one has no reply
+abbrev pub CausedIn : ScriptState → ScriptLine → List Answer → Reply → Type 0
+CausedIn state line given reply =
+    ((line ≡ lines.Blank) × (reply ≡ replies.None))
+    ⊎ ((k : ℕ) × (taken : Bool) × (seat_of_line line ≡ Some k) × SaysTaken state k (name_of_line line) taken × Caused state.key taken (seat_at state k) line given reply)

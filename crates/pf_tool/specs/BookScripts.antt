@@ -1,33 +1,27 @@
 -- What a session does to an honest disk, under a book with which it may begin.
-use Rattle.std.specs.Prelude.{◌≡◌, ◌⊎◌, ℕ, zero, suc, true, false, List, [], ◌∷◌, ◌++◌, map, IfSome, IsSome, Ok, Err}
+use Rattle.std.specs.Prelude.{◌≡◌, ◌⊎◌, ℕ, true, false, List, [], ◌∷◌, ◌++◌, length, map, Some, IfSome, IsSome, Ok, Err}
 use Rattle.std.specs.List.{flat_map}
 use Rattle.pf_io.specs.Counts.{counted}
 use Rattle.pf_io.specs.Disk.{Name, Files, reading}
 use Rattle.pf_io.specs.Host.{OnHonest}
+use Rattle.pf_io.specs.Lines.{lines_of}
 use Rattle.pf_io.specs.Moments.{Honest, LeavesOnly, Ran}
 use Rattle.pf_script.specs.Book.{Book, Seal, Agrees}
 use Rattle.pf_script.specs.BookActs.{Act, booked_all, FitsDuring}
 use Rattle.pf_script.specs.BookDebts.{Unchanged, AreApart, LeavesOthers, KeepsOthers, DidAll}
 use Rattle.pf_script.specs.BookRuns.{AreSeated, FollowsUnder}
-use Rattle.pf_script.specs.DeskSteps.{AreFlushes, SealsOnly}
+use Rattle.pf_script.specs.BookSeats.{SparesSeats}
+use Rattle.pf_script.specs.DeskSteps.{IsChange, AreFlushes, SealsOnly}
 use Rattle.pf_script.specs.FileRuns.{FollowsOver, TakesWords}
-use Rattle.pf_script.specs.Script.{OwnSeat, ScriptState, Seat, Empty, Own, seat_at}
+use Rattle.pf_script.specs.Script.{OwnSeat, ScriptState, Own, seat_at, seat_of_line}
+use Rattle.pf_script.specs.ScriptLines.{IsScriptLine}
+use Rattle.pf_script.specs.ScriptRuns.{closings}
 use Rattle.pf_script.specs.Words.{SEATS}
 use Rattle.pf_script.specs.declared.line.ScriptLine.{ScriptLine}
-use Rattle.pf_script.specs.declared.line.ScriptLine.TheVariants as lines
 use Rattle.pf_tool.specs.Endings.{Ending}
 use Rattle.pf_tool.specs.Keys.{KeyOver}
-use Rattle.pf_tool.specs.Transcripts.{Transcript, exchange_of, exchanges_of, empty_seats, AnswersFirst, IsStarved, PutOut, SeenUntil}
+use Rattle.pf_tool.specs.Transcripts.{Transcript, Item, exchange_of, exchanges_of, empty_seats, AnswersFirst, IsStarved, PutOut, SeenUntil}
 use Rattle.pf_tool.specs.World.{World}
-
--- the lines that close the seats that are not empty, from the k-th on
-abbrev pub closing_of : ℕ → Seat → List ScriptLine
-closing_of k Empty = []
-closing_of k (Own own) = lines.Close k ∷ []
-
-abbrev pub closings : ℕ → ℕ → ScriptState → List ScriptLine
-closings zero k state = []
-closings (suc more) k state = closing_of k (seat_at state k) ++ closings more (suc k) state
 
 -- The seats that the lines leave are closed in order: the first of them, and all where `end` followed.
 pub record AreClosings (transcript : Transcript) (state : ScriptState) : Type 0 where
@@ -35,8 +29,19 @@ pub record AreClosings (transcript : Transcript) (state : ScriptState) : Type 0 
   pub in_order : closings SEATS 0 state ≡ map (λ exchange. exchange.line) transcript.closed ++ rest
   pub all : transcript.ended ≡ true → rest ≡ []
 
--- Behind the last exchange nothing is done; where there was no memory for a change of a seat, there may be accepted flushes of its name. They sealed its content, or it with zeros behind it.
-pub record StopsUnder (starved : Type 0) (book : Book) (state : ScriptState) (old new : Honest) : Type 0 where
+-- There was no memory for this change of a seat: accepted flushes of its name were done, which sealed its content, and the seats on other names stay.
+pub record StarvedUnder (line : ScriptLine) (book : Book) (state : ScriptState) (acts : List Act) (seats left : List Seal) : Type 0 where
+  pub k : ℕ
+  pub own : OwnSeat
+  pub is_seat : seat_of_line line ≡ Some k
+  pub is_own : seat_at state k ≡ Own own
+  pub flushes : AreFlushes own.name acts
+  pub spares : SparesSeats acts seats left
+  pub whole : own.broken ≡ false
+  pub seals : IsSome (book own.name) → SealsOnly line own.content acts
+
+-- Behind the last exchange nothing is done, or there was no memory for a line.
+pub record StopsUnder (starved : ScriptLine → Type 0) (book : Book) (state : ScriptState) (old new : Honest) : Type 0 where
   pub acts : List Act
   pub seats : List Seal
   pub left : List Seal
@@ -46,10 +51,26 @@ pub record StopsUnder (starved : Type 0) (book : Book) (state : ScriptState) (ol
   pub leaves : LeavesOnly (FitsDuring book acts) old new
   pub spares : Ran (LeavesOthers (AreApart acts)) (KeepsOthers (AreApart acts)) old new
   pub agrees : Agrees (booked_all acts book) left new.now
-  pub none : ((acts ≡ []) × AreSeated book state left) ⊎ (starved × ((k : ℕ) × (own : OwnSeat) × (seat_at state k ≡ Own own) × AreFlushes own.name acts × (IsSome (book own.name) → own.broken ≡ false → SealsOnly own.content acts)))
+  pub none : ((acts ≡ []) × AreSeated book state left) ⊎ ((line : ScriptLine) × starved line × StarvedUnder line book state acts seats left)
+
+-- The line is the next one of the input behind those that the items answer.
+pub record IsNextLine (input : List ℕ) (items : List Item) (line : ScriptLine) : Type 0 where
+  pub first : List (List ℕ)
+  pub bytes : List ℕ
+  pub rest : List (List ℕ)
+  pub whole : lines_of input ≡ first ++ bytes ∷ rest
+  pub as_many : length first ≡ length items
+  pub is_line : IsScriptLine bytes line
+
+-- There was no memory for this line, behind which nothing was answered.
+pub record StarvesAt (transcript : Transcript) (old new : World) (status : ℕ) (line : ScriptLine) : Type 0 where
+  pub starved : IsStarved old new status
+  pub change : IsChange line
+  pub none_closed : transcript.closed ≡ []
+  pub next : IfSome old.input.left (λ input. IsNextLine input transcript.items line)
 
 -- The key is read, by which nothing changes; then the lines follow each other, and then the closings.
-pub record RunsUnder (user : List ℕ) (transcript : Transcript) (starved : Type 0) (book : Book) (old new : Honest) : Type 0 where
+pub record RunsUnder (user : List ℕ) (transcript : Transcript) (starved : ScriptLine → Type 0) (book : Book) (old new : Honest) : Type 0 where
   pub start : Honest
   pub reads : Unchanged old start
   pub agrees : Agrees book [] start.now
@@ -65,7 +86,7 @@ NoScript key files old new status = ((ending : Ending) × KeyOver files key (Err
 pub data KeepsScript (key : Name) (old new : World) (status : ℕ) (book : Book) (a b : Honest) : Type 0 where
   no_script : NoScript key (reading a.now) old new status → new.input ≡ old.input → Unchanged a b → KeepsScript key old new status book a b
   script : (user : List ℕ) (transcript : Transcript) → KeyOver (reading a.now) key (Ok user) → SeenUntil key user (exchanges_of transcript) old new status → IfSome old.input.left (AnswersFirst transcript) → PutOut transcript old new status
-      → RunsUnder user transcript (IsStarved old new status) book a b → KeepsScript key old new status book a b
+      → RunsUnder user transcript (StarvesAt transcript old new status) book a b → KeepsScript key old new status book a b
 
 -- what the run leaves of files
 abbrev pub FilesAre : Files → World → Type 0

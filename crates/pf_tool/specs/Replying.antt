@@ -1,9 +1,8 @@
 -- What a session says of its lines, and the status that its replies give.
-use Rattle.std.specs.Prelude.{ℕ, zero, suc, List, [], codes, Option, Some, None, Result, Ok, Err, ◌≡◌}
+use Rattle.std.specs.Prelude.{ℕ, zero, suc, List, [], codes, Option, Some, None, Result, IfOk, ◌≡◌}
 use Rattle.pf_io.specs.Streams.{SinkState}
-use Rattle.pf_io.specs.Writing.{WroteAll, SinkFailed}
 use Rattle.pf_io.specs.declared.faults.StreamFault.{StreamFault}
-use Rattle.pf_script.specs.Replies.{ended, reply_text}
+use Rattle.pf_script.specs.Replies.{ended, reply_text, Said}
 use Rattle.pf_script.specs.declared.reply.Reply.{Reply}
 use Rattle.pf_script.specs.declared.reply.Reply.TheVariants as replies
 
@@ -25,10 +24,9 @@ abbrev pub spoken_status : Option Reply → ℕ
 spoken_status None = 3
 spoken_status (Some reply) = reply_status reply
 
--- a reply was written, and this is its status; or the output failed in it
+-- A reply was said, and this is its status.
 abbrev pub Says : Result ℕ StreamFault → Option Reply → SinkState → SinkState → Type 0
-Says (Ok status) reply old new = (status ≡ spoken_status reply) × WroteAll (spoken_text reply) old new
-Says (Err fault) reply old new = SinkFailed (spoken_text reply) old new
+Says result reply old new = Said result (spoken_text reply) old new × IfOk result (λ status. status ≡ spoken_status reply)
 
 -- the first of two statuses that is not 0
 abbrev pub first_of : ℕ → ℕ → ℕ
@@ -48,10 +46,9 @@ abbrev pub closed_status : Option Reply → ℕ
 closed_status None = 0
 closed_status (Some reply) = reply_status reply
 
--- a closing that failed was replied to, and this is its status; or the output failed in the reply
+-- A closing that failed was replied to, and this is its status.
 abbrev pub SaysClosing : Result ℕ StreamFault → Option Reply → SinkState → SinkState → Type 0
-SaysClosing (Ok status) reply old new = (status ≡ closed_status reply) × WroteAll (closed_text reply) old new
-SaysClosing (Err fault) reply old new = SinkFailed (closed_text reply) old new
+SaysClosing result reply old new = Said result (closed_text reply) old new × IfOk result (λ status. status ≡ closed_status reply)
 
 -- what comes last
 abbrev pub end_text : List ℕ

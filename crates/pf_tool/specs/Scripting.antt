@@ -108,7 +108,7 @@ pub record AllLines (start : At) (status : ℕ) (now : At) : Type 0 where
 pub data LineStops (fault : Fault) (old new : At) : Type 0 where
   not_read : (cause : StreamFault) → Reads (Err cause) old new → Nothing old new → SaysNothing old.world new.world → fault ≡ faults.Stream → LineStops fault old new
   not_answered : (none : Memory) → Reads (Ok nexts.Whole) old new → Answers new.reader.line (Err none) old new → SaysNothing old.world new.world → fault ≡ faults.Memory → LineStops fault old new
-  not_said : (reply : Option Reply) → LineAnswered reply old new → SinkFailed (spoken_text reply) old.world.out new.world.out → fault ≡ faults.Stream → LineStops fault old new
+  not_said : (reply : Option Reply) → LineAnswered reply old new → spoken_text reply ≢ [] → SinkFailed (spoken_text reply) old.world.out new.world.out → fault ≡ faults.Stream → LineStops fault old new
 
 -- what the next line comes to: its status, or that there is none
 abbrev pub NextGoes : Result (Option ℕ) Fault → At → At → Type 0
@@ -142,6 +142,7 @@ pub data Closings (start : At) : ℕ → ℕ → At → Type 0 where
 pub record ClosingStops (seat : ℕ) (old new : At) : Type 0 where
   pub reply : Option Reply
   pub closed : SeatClosed seat reply old new
+  pub some : closed_text reply ≢ []
   pub failed : SinkFailed (closed_text reply) old.world.out new.world.out
 
 -- what a closing comes to, and what they all do

@@ -2,7 +2,7 @@
 use Rattle.std.specs.Prelude.{◌≡◌, ℕ, ◌+◌, ◌<◌, ◌==◌, ◌&&◌, Bool, false, List, [], ◌∷◌, ◌++◌, length, filter, bytes_eq, Contains, None}
 use Rattle.std.specs.List.{AllByRecursion, concat}
 use Rattle.node_tree.specs.Backing.{Backs}
-use Rattle.node_tree.specs.Next.{NextSheet, KeepsShape}
+use Rattle.node_tree.specs.Next.{NextSheet, IsSealedAs, KeepsShape}
 use Rattle.node_tree.specs.Parts.{PIECE}
 use Rattle.node_tree.specs.Sheet.{Sheet, IsLinked}
 use Rattle.node_tree.specs.State.{TreeState}
@@ -44,7 +44,7 @@ pub record TakenInPieces (input : Name) (these : List Answer) (content : List �
   pub content_is : content ≡ concat (whole ++ last ∷ [])
 
 -- The last sealing: on a sheet that backs the tree, of the next one, which has the output's name as path and this content. Behind earlier words, the first that were taken of the old ones, came
--- two for its nonce, and then one for each dirty node as its key; no word was taken after these. Its nodes were written to the side file, which then took the name.
+-- two for its nonce, and then one for each dirty node as its key; no word was taken after these. Its nodes, and no other, were written to the side file, which then took the name.
 pub record SealedLast (user : List ℕ) (output : Name) (content : List ℕ) (these : List Answer) (old new : WordsState) : Type 0 where
   pub base : Sheet
   pub tree : TreeState
@@ -61,6 +61,7 @@ pub record SealedLast (user : List ℕ) (output : Name) (content : List ℕ) (th
   pub content_is : next.content ≡ content
   pub sealed : TreeState
   pub shape : KeepsShape tree sealed
+  pub as_sealed : IsSealedAs next sealed
   pub front : List Answer
   pub last_calls : these ≡ front ++ (seal_steps user output nonce (side_of output) tree.dirty keys sealed ++ Swapped (side_of output) output ∷ [])
 
