@@ -113,7 +113,7 @@ abbrev pub HasFailCause : Result NextLine StreamFault → ReaderState → Source
 HasFailCause (Ok next) new from to = to.faults ≡ from.faults
 HasFailCause (Err fault) new from to = FailCause new from to
 
--- Only the last read brought a line feed: the reads before it took a byte each, and none of these is one.
+-- Before the first line feed came, each read took a byte; they are at most one more than the bytes that came before it.
 pub record IsPrompt (these : List ℕ) (old new : ReaderState) : Type 0 where
   pub early : List ℕ
   pub late : List ℕ

@@ -235,7 +235,8 @@ impl Session {
     }
 
     /// Moves the file to a new name, which also becomes its path. What was changed is flushed first. On an honest disk where
-    /// the file stood for what was last sealed, the content is at every moment under one of the two names.
+    /// the file stood for what was last sealed, a crash up to the end of that flush leaves this or what it seals under the old
+    /// name; from then on the content is at every moment under one of the two names, or under both.
     ///
     /// The refusals are, in this order: `BadName`, where a protected file may not have the new name; `Memory`; `Host`, where
     /// the host failed to say whether the new name is there; `TargetExists`, where it is, also where it is the session's own;
