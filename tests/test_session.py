@@ -5,12 +5,15 @@ import signal
 import subprocess
 import time
 
-from harness import KEY, PROGRAM, TOP, decrypt, encrypt, got, holds, put, run, same
+from harness import KEY, PROGRAM, TOP, decrypt, encrypt, got, holds, put, run, same, traced
 from protected import NODE
 
 SESSION = [PROGRAM, "session", "-w", "key"]
 LONGEST = 131072
 PIECE = 32768
+
+# the calls by which the program may change a disk
+CHANGES = ("openat", "pwrite64", "write", "ftruncate", "fsync", "renameat", "unlinkat")
 
 
 def led(script, **how):
@@ -173,3 +176,98 @@ def test_session_killed_at_any_moment():
             session.send_signal(signal.SIGKILL)
         ran = run([PROGRAM, "decrypt", "-w", "key", "-i", "a.pf"])
         same((ran.status, ran.out in contents), (0, True), f"after kill {turn} ({ran})")
+
+
+def moments(trace):
+    """Each call of the program that may change a disk, as its name and how often it was made until then."""
+    made = {}
+    for line in trace:
+        call = line.split("(")[0]
+        if call in CHANGES:
+            made[call] = made.get(call, 0) + 1
+            yield call, made[call]
+
+
+def test_session_killed_at_each_call():
+    """A kill before any call that may change the disk leaves what was acknowledged last, or what was being flushed or moved."""
+    dice = random.Random(8)
+    old, first, second = (dice.randbytes(9000) for _ in range(3))
+    put("in", old)
+    same(encrypt(out="a.pf").status, 0, "encrypt")
+    sealed = got("a.pf")
+    script = f"open 0 a.pf\nwrite 0 0 {first.hex()}\nflush 0\nwrite 0 0 {second.hex()}\nmove 0 b.pf\nclose 0\n".encode()
+    choose = ("-e", f"trace={','.join(CHANGES)}")
+    ran, lines = traced(SESSION, *choose, stdin=None, input=script)
+    same((ran.status, ran.out.splitlines()[-1]), (0, b"end"), f"whole run ({ran})")
+    kills = list(moments(lines))
+    for call, count in kills:
+        for name in set(os.listdir(".")) - {"in", "key"}:
+            os.remove(name)
+        put("a.pf", sealed)
+        ran, _ = traced(SESSION, *choose, "-e", f"inject={call}:signal=KILL:when={count}", stdin=None, input=script)
+        replies = ran.out.splitlines()
+        if b"ok move" in replies:
+            contents = [second]
+        elif b"ok flush" in replies:
+            contents = [first, second]
+        else:
+            contents = [old, first]
+        there = {name: decrypt(name) for name in ("a.pf", "b.pf") if os.path.exists(name)}
+        same(there != {}, True, f"a name is there after a kill at {call} {count}")
+        for name, opened in there.items():
+            same((opened.status, opened.out in contents), (0, True), f"{name} after a kill at {call} {count} ({opened})")
+
+
+def asked(session, line):
+    """The reply to a line of a session that is led through pipes."""
+    session.stdin.write(line.encode() + b"\n")
+    return session.stdout.readline().decode().rstrip("\n")
+
+
+def test_session_over_a_live_host():
+    """A host that changes the file between two lines is answered by the version that was opened, or by a damage of the node."""
+    dice = random.Random(9)
+    versions = []
+    for _ in range(2):
+        put("in", dice.randbytes(300000))
+        same(encrypt(out="a.pf").status, 0, "encrypt")
+        versions.append((got("in"), got("a.pf")))
+    (_, older), (content, newer) = versions
+    damaged, given = 0, 0
+    with subprocess.Popen(SESSION, stdin=subprocess.PIPE, stdout=subprocess.PIPE, bufsize=0) as session:
+        same(asked(session, "open 0 a.pf"), "ok open 300000", "open")
+        for turn in range(200):
+            at = dice.randrange(300000 - 100)
+            cut = dice.randrange(len(newer))
+            put("a.pf", [newer, older, newer[:cut], newer[:cut] + older[cut:], older[:cut] + newer[cut:]][turn % 5])
+            reply = asked(session, f"read 0 {at} 100")
+            if reply.startswith("damaged node "):
+                damaged += 1
+                continue
+            given += 1
+            same(reply, f"ok read 100 {content[at : at + 100].hex()}", f"turn {turn}")
+        put("a.pf", newer)
+        session.stdin.write(b"read 0 299900 100\n")
+        same(session.stdout.readline(), f"ok read 100 {content[299900:].hex()}\n".encode(), "the file that was opened")
+        session.stdin.close()
+        same(session.stdout.read(), b"end\n", "end")
+    same((damaged > 0, given > 0), (True, True), f"{damaged} damaged, {given} given")
+
+
+def test_session_a_live_host_stops_a_change():
+    """A change that meets a damage breaks its seat and no other; what was sealed stays."""
+    put("in", bytes(300000))
+    same(encrypt(out="a.pf").status, 0, "encrypt")
+    sealed = got("a.pf")
+    with subprocess.Popen(SESSION, stdin=subprocess.PIPE, stdout=subprocess.PIPE, bufsize=0) as session:
+        same([asked(session, line) for line in ("open 0 a.pf", "create 1 b.pf", "write 1 0 6162")], ["ok open 300000", "ok create", "ok write 2"], "begin")
+        put("a.pf", sealed[: 50 * NODE] + bytes(NODE) + sealed[51 * NODE :])
+        same(asked(session, f"write 0 {3072 + 48 * NODE + 5} 61"), "damaged node 50 tag", "a write into the node")
+        same([asked(session, line) for line in ("flush 0", "close 0", "flush 1", "read 1 0 9")], ["refused broken", "ok close lost", "ok flush", "ok read 2 6162"], "the seats after it")
+        put("a.pf", sealed)
+        same([asked(session, line) for line in ("open 0 a.pf", "write 0 0 61")], ["ok open 300000", "ok write 1"], "opened again")
+        put("a.pf", sealed[: 90 * NODE])
+        same([asked(session, line) for line in ("flush 0", "flush 1")], [f"damaged node {90} short", "ok flush"], "a node to be copied is short")
+        session.stdin.close()
+        same((session.stdout.read(), session.wait(60)), (b"end\n", 1), "end")
+    holds(b"ab", "b.pf")
