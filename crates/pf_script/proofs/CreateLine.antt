@@ -1,6 +1,7 @@
 -- The line `create`, from the contract of a creation.
 use Rattle.std.proofs.Common.{◌≡◌, inl, inr, Bool, true, false, List, [], ◌∷◌, ℕ, refl, sym, ◌∙◌, ap, subst, Option, Some, None, Result, Ok, Err, arith}
-use Rattle.std.proofs.lemmas.List.Elements.{Contains-push}
+use Rattle.std.proofs.lemmas.List.{append-nil}
+use Rattle.std.proofs.lemmas.List.Elements.{Contains-push, Contains-append_left}
 use Rattle.std.specs.List.{AllByRecursion}
 use Rattle.std.specs.Prelude.{Contains}
 use Rattle.std.specs.Str.{IsUtf8}
@@ -16,7 +17,7 @@ use Rattle.pf_io.specs.Words.{WordsState}
 use Rattle.pf_io.specs.declared.faults.Memory.{Memory}
 use Rattle.pf_io.proofs.Telling.{told_by, told_none, told_on, both_same, both_weaker}
 use Rattle.pf_session.specs.Aside.{Aside, LeavesApart, KeepsApart}
-use Rattle.pf_session.specs.Asking.{IsTaken as AreTaken}
+use Rattle.pf_session.specs.Asking.{IsTaken as AreTaken, Stopped}
 use Rattle.pf_session.specs.Creating.{CreateGoes, misnamed, no_memory, look_up_failed, was_there, no_words, create_stopped, created, CreatesOn, AreNamed, empty_sheet, empty_node, fresh}
 use Rattle.pf_session.specs.Drawing.{IsDrawn}
 use Rattle.pf_session.specs.Placing.{place_steps}
@@ -28,13 +29,13 @@ use Rattle.pf_script.specs.BookDebts.{Unchanged, seat_of}
 use Rattle.pf_script.specs.BookSeats.{CoversNone, CoversMade, KeepsUnder}
 use Rattle.pf_script.specs.BookTurns.{ShowsUnder, no_file, of_book, SeatUnder, MadeBy}
 use Rattle.pf_script.specs.Desk.{no_file as no_seat, whole_file, seat_on}
-use Rattle.pf_script.specs.DeskSteps.{Concerns}
+use Rattle.pf_script.specs.DeskSteps.{MaySeal, SomeSeatTurn, Concerns}
 use Rattle.pf_script.specs.FileTurns.{stands_on, answers_of, seen_over, FilesAfter, whole_file as whole_over, LineOver, SeatFiles}
-use Rattle.pf_script.specs.Rules.{Rule, NoneRefuses, refuses}
+use Rattle.pf_script.specs.Rules.{Rule, IsFirst, NoneRefuses, refuses, rules}
 use Rattle.pf_script.specs.Script.{Seat, Empty, Own}
 use Rattle.pf_script.specs.SeatReplies.{create_reply}
 use Rattle.pf_script.specs.SeatSteps.{SealsEmpty}
-use Rattle.pf_script.specs.Turns.{Seen, Failed, Standing, SeatTurn, refused, accepted, host_failed, words_failed, created as creates_file, not_asked, not_created, no_creation, new_seat}
+use Rattle.pf_script.specs.Turns.{Seen, Failed, Standing, SeatTurn, refused, accepted, host_failed, words_failed, created as creates_file, not_asked, not_created, no_creation, new_seat, on_carried}
 use Rattle.pf_script.specs.declared.line.ScriptLine.{ScriptLine}
 use Rattle.pf_script.specs.declared.line.ScriptLine.TheVariants as lines
 use Rattle.pf_script.specs.declared.reply.Reply.{Reply}
@@ -72,6 +73,13 @@ was_absent name node size =
     (not_of (Wrote (side_of name) 0 node) other (Synced (side_of name) ∷ Swapped (side_of name) name ∷ []) (λ same. absurd (cc))
     (not_of (Synced (side_of name)) other (Swapped (side_of name) name ∷ []) (λ same. absurd (cc))
     (not_of (Swapped (side_of name) name) other [] (λ same. absurd (cc)) (λ none. absurd (omega (arith, none.1))))))))
+
+-- nor among the steps that were answered before one failed
+absent_until : (name : Name) (node : List ℕ) (between after : HostState) (stopped : Stopped (place_steps name node) between after) (size : ℕ) → ¬ (Contains (LengthWas name None ∷ stopped.answered) (LengthWas name (Some size)))
+absent_until name node between after stopped size is =
+    was_absent name node size
+    (subst (λ (l : List Answer). Contains (LengthWas name None ∷ l) (LengthWas name (Some size))) (sym stopped.in_order)
+    (Contains-append_left (LengthWas name None ∷ stopped.answered) (stopped.failed ∷ stopped.left) (LengthWas name (Some size)) is))
 
 no_length : (name : Name) (file : Option (List ℕ)) → file ≡ None → (size : ℕ) → Contains (LengthWas name (length_of file) ∷ []) (LengthWas name (Some size)) → ⊥
 no_length name None none size = not_of (LengthWas name None) (LengthWas name (Some size)) [] (λ same. absurd (cc)) (λ none. absurd (omega (arith, none.1)))
@@ -115,6 +123,20 @@ module _ (key : List ℕ) (k : ℕ) (name : Name) (utf8 : IsUtf8 name) (before a
 
     seals_empty : IsLinked sheet → SealsEmpty name words sheet
     seals_empty linked = record { first = drawn.first; second = drawn.second; words_are = refl; sheet_is = ap (λ (n : List ℕ). empty_sheet name n) drawn.is; linked = linked }
+
+    -- it may have sealed the sheet, and then failed at the host
+    fails_to_create : NoneRefuses (rules key false Empty line these) → IsLinked sheet → (standing : Standing) → SeatTurn standing key false Empty line (seen_by these words true false) replies.HostFault (act false ∷ []) Empty
+    fails_to_create none linked standing = host_failed none (record { host = refl; random = refl }) (not_created k name sheet (seals_empty linked)) refl
+
+    may_seal : (of_host done : Bool) → NoneRefuses (rules key false Empty line these) → IsLinked sheet → (sealed : List Sheet) → MaySeal (SomeSeatTurn key sealed false Empty line) (seen_by these words of_host false) (act done ∷ [])
+    may_seal of_host done none linked sealed = record {
+      front = words;
+      back = [];
+      failed = act false ∷ [];
+      in_order = sym (append-nil words);
+      goes = (Empty, fails_to_create none linked (on_carried key sealed));
+      sheets = refl;
+    }
 
     only_it : (done : Bool) (n : Name) → Among (act done ∷ []) n → Concerns false line None n
     only_it done n (inl same) = concerns key line name refl n same
@@ -161,11 +183,12 @@ module _ (key : List ℕ) (k : ℕ) (name : Name) (utf8 : IsUtf8 name) (before a
   by_case : (result : Result SessionState CreateFault) → Aside name before after → ReadsAsImage after → (IsTarget name → OnDisk before after (KeepsUnder CoversNone (CoversMade result) (λ n. n ≡ name))) → CreateGoes key name name before after random random' result
       → Both (create_result name result) (made_seat result)
   by_case result aside reads keeps (misnamed bad stays same said) =
+      let first : (given : List Answer) → IsFirst (rules key false Empty line given) whys.BadName = λ given. seat_first (naming_rules name given) whys.BadName (inl (refl, λ target. bad (named_target name utf8 target))) in
       let turn : (standing : Standing) (given : List Answer) → SeatTurn standing key false Empty line (seen_by given [] false false) (replies.Refused whys.BadName) [] Empty = λ standing given.
-      refused whys.BadName (seat_first (naming_rules name given) whys.BadName (inl (refl, λ target. bad (named_target name utf8 target)))) (record { host = refl; random = refl }) refl refl refl refl in
+      refused whys.BadName (first given) (record { host = refl; random = refl }) refl refl refl refl in
       subst (λ (r : Result SessionState CreateFault). Both (create_result name r) (made_seat r)) (sym said)
       (empty_idle key line name refl before after random random' (replies.Refused whys.BadName) [] [] false false (stays_so stays)
-      (record { told = told_none before after (ap (λ (h : HostState). h.given) stays); taken = none_taken_now same; on_host = ap (λ (h : HostState). h.faults) stays; on_words = ap (λ (w : WordsState). w.faults) same }) refl refl (λ standing. turn standing [])
+      (record { told = told_none before after (ap (λ (h : HostState). h.given) stays); taken = none_taken_now same; on_host = ap (λ (h : HostState). h.faults) stays; on_words = ap (λ (w : WordsState). w.faults) same }) refl refl (λ standing. turn standing []) (first [])
       (λ a is calm. turn (stands_on key (reading a.now)) (answers_of (reading a.now) line)))
   by_case result aside reads keeps (no_memory good stays same said) =
       subst (λ (r : Result SessionState CreateFault). Both (create_result name r) (made_seat r)) (sym said)
@@ -176,26 +199,30 @@ module _ (key : List ℕ) (k : ℕ) (name : Name) (utf8 : IsUtf8 name) (before a
         booked = tt;
       })
   by_case result aside reads keeps (look_up_failed good fails same said) =
+      let none : NoneRefuses (rules key false Empty line []) = seat_none (naming_rules name []) (naming_none name [] good.is_target (λ size. none_contained)) in
       subst (λ (r : Result SessionState CreateFault). Both (create_result name r) (made_seat r)) (sym said)
       (empty_idle key line name refl before after random random' replies.HostFault [] [] true false fails.disk
       (record { told = fails.asked.asked.told; taken = none_taken_now same; on_host = fails.asked.asked.faults; on_words = ap (λ (w : WordsState). w.faults) same }) refl refl
-      (λ standing. host_failed (seat_none (naming_rules name []) (naming_none name [] good.is_target (λ size. none_contained))) (record { host = refl; random = refl }) (not_asked k name refl) refl) (λ a is calm. absurd (no_host_fault calm)))
+      (λ standing. host_failed none (record { host = refl; random = refl }) (not_asked k name refl) refl) none (λ a is calm. absurd (no_host_fault calm)))
   by_case result aside reads keeps (was_there size good looks same said) =
       let given = LengthWas name (Some size) ∷ [] in
+      let first : IsFirst (rules key false Empty line given) (whys.Exists name) =
+      seat_first (naming_rules name given) (whys.Exists name) (inr ((λ other refuses. refuses.1 good.is_target), inl (refl, (size, Contains-push [] (LengthWas name (Some size)))))) in
       let turn : (standing : Standing) → SeatTurn standing key false Empty line (seen_by given [] false false) (replies.Refused (whys.Exists name)) [] Empty = λ standing.
-      refused (whys.Exists name)
-      (seat_first (naming_rules name given) (whys.Exists name) (inr ((λ other refuses. refuses.1 good.is_target), inl (refl, (size, Contains-push [] (LengthWas name (Some size))))))) (record { host = refl; random = refl }) refl refl refl refl in
+      refused (whys.Exists name) first (record { host = refl; random = refl }) refl refl refl refl in
       subst (λ (r : Result SessionState CreateFault). Both (create_result name r) (made_seat r)) (sym said)
       (empty_idle key line name refl before after random random' (replies.Refused (whys.Exists name)) given [] false false looks.disk
-      (record { told = looks.asked.asked.told; taken = none_taken_now same; on_host = looks.asked.asked.faults; on_words = ap (λ (w : WordsState). w.faults) same }) refl refl turn
+      (record { told = looks.asked.asked.told; taken = none_taken_now same; on_host = looks.asked.asked.faults; on_words = ap (λ (w : WordsState). w.faults) same }) refl refl turn first
       (λ a is calm.
       same_over key (reading a.now) false Empty line given [] (replies.Refused (whys.Exists name)) [] Empty
       (ap (λ (o : Option ℕ). LengthWas name o ∷ []) (on_reading (λ files. AllByRecursion (IsAnswerOf files) given) before.honest a is looks.asked.answered.honest).0) (turn (stands_on key (reading a.now)))))
   by_case result aside reads keeps (no_words good looks fewer said) =
+      let given = LengthWas name None ∷ [] in
+      let none : NoneRefuses (rules key false Empty line given) = seat_none (naming_rules name given) (naming_none name given good.is_target (no_length name None refl)) in
       subst (λ (r : Result SessionState CreateFault). Both (create_result name r) (made_seat r)) (sym said)
-      (empty_idle key line name refl before after random random' replies.WordsFault (LengthWas name None ∷ []) fewer.words false true looks.disk
+      (empty_idle key line name refl before after random random' replies.WordsFault given fewer.words false true looks.disk
       (record { told = looks.asked.asked.told; taken = fewer.told; on_host = looks.asked.asked.faults; on_words = fewer.once }) refl refl
-      (λ standing. words_failed (seat_none (naming_rules name (LengthWas name None ∷ [])) (naming_none name (LengthWas name None ∷ []) good.is_target (no_length name None refl))) (record { host = refl; random = refl }) (no_creation k name fewer.fewer) refl) (λ a is calm. absurd (no_words_fault calm)))
+      (λ standing. words_failed none (record { host = refl; random = refl }) (no_creation k name fewer.fewer) refl) none (λ a is calm. absurd (no_words_fault calm)))
   by_case result aside reads keeps (create_stopped nonce between good looks drawn stopped said) =
       let those = stopped.stopped.answered in
       let these = LengthWas name None ∷ those in
@@ -206,13 +233,15 @@ module _ (key : List ℕ) (k : ℕ) (name : Name) (utf8 : IsUtf8 name) (before a
         on_host = counted_kind stopped.stopped.failed between.faults after.faults stopped.stopped.asked.faults ∙ ap counted looks.asked.asked.faults;
         on_words = drawn.took.calm;
       } in
-      let turn : (standing : Standing) → SeatTurn standing key false Empty line (seen_by these words true false) replies.HostFault (act nonce these drawn false ∷ []) Empty = λ standing.
-      host_failed (seat_none (naming_rules name []) (naming_none name [] good.is_target (λ size. none_contained))) (record { host = refl; random = refl }) (not_created k name (empty_sheet name nonce) (seals_empty nonce these drawn stopped.linked)) refl in
+      let none : NoneRefuses (rules key false Empty line these) =
+      seat_none (naming_rules name these) (naming_none name these good.is_target (absent_until name (empty_node key name nonce) between after stopped.stopped)) in
+      let turn : (standing : Standing) → SeatTurn standing key false Empty line (seen_by these words true false) replies.HostFault (act nonce these drawn false ∷ []) Empty = fails_to_create nonce these drawn none stopped.linked in
       subst (λ (r : Result SessionState CreateFault). Both (create_result name r) (made_seat r)) (sym said)
       (record {
         goes = empty_goes key line name refl None before after random random' (subst (λ (r : Result SessionState CreateFault). OnDisk before after (KeepsUnder CoversNone (CoversMade r) (λ n. n ≡ name))) said (keeps good.is_target)) (spares_given key line name refl before after aside) tt (λ n none. absurd none)
             replies.HostFault these words true false seen refl refl
-            (empty_turns key line name refl (seen_by these words true false) replies.HostFault None these (act nonce these drawn false ∷ []) Empty turn (λ sealed. no_seat refl refl));
+            (empty_turns key line name refl (seen_by these words true false) replies.HostFault None these (act nonce these drawn false ∷ []) Empty (λ sealed. inr (may_seal nonce these drawn true false none stopped.linked sealed)) turn (λ sealed. no_seat refl refl))
+            none;
         booked = record {
           seen = seen_by these words true false;
           was_seen = seen_in these words true false before after random random' seen;
@@ -232,11 +261,12 @@ module _ (key : List ℕ) (k : ℕ) (name : Name) (utf8 : IsUtf8 name) (before a
         on_host = asked.faults ∙ looks.asked.asked.faults;
         on_words = drawn.took.calm;
       } in
+      let none : NoneRefuses (rules key false Empty line these) = seat_none (naming_rules name these) (naming_none name these good.is_target (was_absent name (empty_node key name nonce))) in
       let turn : (standing : Standing) → SeatTurn standing key false Empty line (seen_by these words false false) replies.Created (act nonce these drawn true ∷ []) (Own (new_seat key name sheet)) = λ standing.
-      accepted (seat_none (naming_rules name these) (naming_none name these good.is_target (was_absent name (empty_node key name nonce)))) (record { host = refl; random = refl })
+      accepted none (record { host = refl; random = refl })
       (creates_file k name sheet (seals_empty nonce these drawn is_fresh.linked)) in
-      let by_files : (files : Files) → files name ≡ None → SeatTurn (stands_on key files) key false Empty line (seen_over files line words) replies.Created (act nonce these drawn true ∷ []) (Own (new_seat key name sheet)) = λ files none.
-      accepted (seat_none (naming_rules name (answers_of files line)) (naming_none name (answers_of files line) good.is_target (no_length name (files name) none))) (record { host = refl; random = refl })
+      let by_files : (files : Files) → files name ≡ None → SeatTurn (stands_on key files) key false Empty line (seen_over files line words) replies.Created (act nonce these drawn true ∷ []) (Own (new_seat key name sheet)) = λ files absent.
+      accepted (seat_none (naming_rules name (answers_of files line)) (naming_none name (answers_of files line) good.is_target (no_length name (files name) absent))) (record { host = refl; random = refl })
       (creates_file k name sheet (seals_empty nonce these drawn is_fresh.linked)) in
       let same : new_seat key name sheet ≡ seat_on sheet made = own_same sheet key key name name [] (now sheet made.tree) [] [] false false None None false false refl refl (sym is_fresh.stands.now_is) refl refl refl refl in
       subst (λ (r : Result SessionState CreateFault). Both (create_result name r) (made_seat r)) (sym said)
@@ -244,8 +274,9 @@ module _ (key : List ℕ) (k : ℕ) (name : Name) (utf8 : IsUtf8 name) (before a
         goes = empty_goes key line name refl (Some made) before after random random' (subst (λ (r : Result SessionState CreateFault). OnDisk before after (KeepsUnder CoversNone (CoversMade r) (λ n. n ≡ name))) said (keeps good.is_target)) (spares_given key line name refl before after aside)
             (record { of_script = of_created key name nonce good; key_is = refl; clean = λ whole calm. refl }) (λ n has. has)
             replies.Created these words false false seen refl refl
-            (empty_turns key line name refl (seen_by these words false false) replies.Created (Some made) these (act nonce these drawn true ∷ []) (Own (new_seat key name sheet)) turn
-            (λ sealed. whole_file sheet made refl (Contains-push sealed sheet) is_fresh.linked (record { backed = is_fresh.stands.backed; rests = λ calm. record { stands = is_fresh.stands; clean = refl } }) (ap Own same) refl));
+            (empty_turns key line name refl (seen_by these words false false) replies.Created (Some made) these (act nonce these drawn true ∷ []) (Own (new_seat key name sheet)) (λ sealed. inr (may_seal nonce these drawn false true none is_fresh.linked sealed)) turn
+            (λ sealed. whole_file sheet made refl (Contains-push sealed sheet) is_fresh.linked (record { backed = is_fresh.stands.backed; rests = λ calm. record { stands = is_fresh.stands; clean = refl } }) (ap Own same) refl))
+            none;
         booked = record {
           seen = seen_by these words false false;
           was_seen = seen_in these words false false before after random random' seen;

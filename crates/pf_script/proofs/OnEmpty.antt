@@ -1,5 +1,5 @@
 -- A line that puts a file on an empty seat.
-use Rattle.std.proofs.Common.{◌≡◌, ◌≢◌, ⊎_elim, inl, inr, Bool, true, false, List, [], ◌∷◌, ◌++◌, ℕ, refl, sym, ◌∙◌, ap, subst, Option, Some, None, Result, Ok, Err, arith}
+use Rattle.std.proofs.Common.{◌≡◌, ◌≢◌, ◌⊎◌, ⊎_elim, inl, inr, Bool, true, false, List, [], ◌∷◌, ◌++◌, ℕ, refl, sym, ◌∙◌, ap, subst, Option, Some, None, Result, Ok, Err, arith}
 use Rattle.std.specs.Prelude.{Contains}
 use Rattle.std.specs.Option.{is_some}
 use Rattle.std.proofs.lemmas.List.Elements.{Contains-push_cases, Contains-append_cases}
@@ -19,11 +19,11 @@ use Rattle.pf_script.specs.BookDebts.{Unchanged}
 use Rattle.pf_script.specs.BookSeats.{CoversNone, KeepsUnder}
 use Rattle.pf_script.specs.BookTurns.{no_file, LineUnder, SeatUnder, SeatBooked, MadeBy}
 use Rattle.pf_script.specs.FileTurns.{stands_on, seen_over, no_file as no_file_over, ReopensOpened, LineOver, SeatFiles}
-use Rattle.pf_script.specs.Desk.{IsSeatOf, Shows, no_file as no_file_now}
-use Rattle.pf_script.specs.DeskSteps.{Unfolds, SeatTurns, SeatAsks, CountsFault, CoversSome, Concerns, Spares, HasItsName, SeatGoes, TakesNone, is_host_fault, is_words_fault}
+use Rattle.pf_script.specs.Desk.{IsSeatOf, IsLike, Shows, no_file as no_file_now}
+use Rattle.pf_script.specs.DeskSteps.{MaySeal, Unfolds, SomeSeatTurn, SeatTurns, SeatAsks, CountsFault, CoversSome, Concerns, Spares, HasItsName, SeatGoes, TakesNone, is_host_fault, is_words_fault}
 use Rattle.pf_script.specs.Rules.{Rule, IsFirst, NoneRefuses, seating_rules}
 use Rattle.pf_script.specs.Script.{Seat, Empty, name_of_line, sheets_of}
-use Rattle.pf_script.specs.Turns.{Seen, Failed, Standing, SeatTurn, on_carried}
+use Rattle.pf_script.specs.Turns.{Seen, Failed, Standing, SeatTurn, Caused, on_carried}
 use Rattle.pf_script.specs.declared.line.ScriptLine.{ScriptLine}
 use Rattle.pf_script.specs.declared.reply.Reply.{Reply}
 use Rattle.pf_script.specs.declared.reply.Why.{Why}
@@ -32,11 +32,12 @@ use Rattle.pf_script.proofs.ActKeeping.{only_reads, unchanged_now}
 use Rattle.pf_script.proofs.CallKeeping.{both_with}
 use Rattle.pf_script.proofs.FlushUnder.{seen_in}
 use Rattle.pf_script.proofs.Flushed.{SeenOf}
+use Rattle.pf_script.proofs.Liking.{like_none, like_some}
 use Rattle.pf_script.proofs.MadeActs.{none_is}
 use Rattle.pf_script.proofs.OverGiven.{over_idle}
 use Rattle.pf_script.proofs.Refusing.{at_last, not_empty}
 use Rattle.pf_script.proofs.SeatCalls.{seen_by}
-use Rattle.pf_script.proofs.Showing.{shows_none, shows_some}
+use Rattle.pf_script.proofs.Showing.{shows_none}
 use Rattle.pf_script.proofs.Sparing.{spares_none, spares_kept, spares_aside}
 use Rattle.pf_script.proofs.StepKeeping.{keeps_more}
 use Rattle.pf_script.proofs.Under.{LooksLike, looks_like, looks_over, idle_none}
@@ -74,9 +75,9 @@ pub looks_busy : (o : Option SessionState) → o ≢ None → (seat : Seat) → 
 looks_busy None some seat looks is = some refl
 looks_busy (Some s) some seat looks is = not_empty seat looks.shown looks.seat_is is
 
-pub shows_busy : (sealed : List Sheet) (o : Option SessionState) → o ≢ None → (seat : Seat) → Shows sealed seat o → seat ≢ Empty
-shows_busy sealed None some seat shows is = some refl
-shows_busy sealed (Some s) some seat shows is = let shown = shows_some sealed seat s shows in not_empty seat shown.shown shown.seat_is is
+pub like_busy : (o : Option SessionState) → o ≢ None → (seat : Seat) → IsLike seat o → seat ≢ Empty
+like_busy None some seat like is = some refl
+like_busy (Some s) some seat like is = let at = like_some seat s like in not_empty seat at.own at.seat_is is
 
 -- what a test of the seat says
 pub some_there : (o : Option SessionState) → is_some o ≡ true → o ≢ None

@@ -37,11 +37,11 @@ use Rattle.pf_script.specs.BookSeats.{CoversNone, CoversMade, KeepsUnder}
 use Rattle.pf_script.specs.BookTurns.{of_book, Knows, LineUnder, SeatUnder, MadeBy}
 use Rattle.pf_script.specs.FileTurns.{stands_on, opening_answers, whole_file as whole_over, SeatFiles}
 use Rattle.pf_script.specs.Desk.{IsSeated, Shows, whole_file, seat_on}
-use Rattle.pf_script.specs.DeskSteps.{CountsFault, Unfolds, then_more, in_the_end, SeatTurns, SeatAsks, Concerns, CoversSome}
-use Rattle.pf_script.specs.Rules.{IsFirst as IsFirstRule, NoneRefuses, opening_rules}
+use Rattle.pf_script.specs.DeskSteps.{CountsFault, MaySeal, Unfolds, then_more, in_the_end, SomeSeatTurn, SeatTurns, SeatAsks, Concerns, CoversSome}
+use Rattle.pf_script.specs.Rules.{IsFirst as IsFirstRule, NoneRefuses, opening_rules, rules}
 use Rattle.pf_script.specs.Script.{Seat, Empty, Own, sheets_of}
 use Rattle.pf_script.specs.SeatReplies.{open_reply}
-use Rattle.pf_script.specs.Turns.{Seen, Standing, SeatTurn, refused, accepted as accepts, host_failed, was_damaged, opened, not_opened as fails_to_open, ByHost, ByDamage, BlamesOpening, short_zero, closed_zero, new_seat, on_carried}
+use Rattle.pf_script.specs.Turns.{Seen, Standing, SeatTurn, Caused, refused, accepted as accepts, host_failed, was_damaged, opened, not_opened as fails_to_open, ByHost, ByDamage, BlamesOpening, short_zero, closed_zero, new_seat, on_carried}
 use Rattle.pf_script.specs.declared.line.ScriptLine.{ScriptLine}
 use Rattle.pf_script.specs.declared.line.ScriptLine.TheVariants as lines
 use Rattle.pf_script.specs.declared.reply.Reply.{Reply}
@@ -54,11 +54,12 @@ use Rattle.pf_script.proofs.CreateLine.{named_target}
 use Rattle.pf_script.proofs.Dealing.{Deals}
 use Rattle.pf_script.proofs.Flushed.{SeenOf, length_now}
 use Rattle.pf_script.proofs.FlushUnder.{seen_in}
+use Rattle.pf_script.proofs.Liking.{like_none}
 use Rattle.pf_script.proofs.MadeActs.{one_is}
 use Rattle.pf_script.proofs.OnEmpty.{made_seat, BothHalves, concerns, empty_wants, empty_under, empty_over, empty_idle, seat_first, seat_none}
 use Rattle.pf_script.proofs.OpenKeeping.{WasOpened, was_opened, known_opening, opened_acts, open_keeps}
 use Rattle.pf_script.proofs.OverGiven.{no_host_fault, on_reading, same_over}
-use Rattle.pf_script.proofs.OpenRules.{none_given, node_given, none_unasked, not_protected_first, unbuilt_first, version_first, path_first, none_refuses, none_closed, none_short}
+use Rattle.pf_script.proofs.OpenRules.{none_given, node_given, none_unasked, none_measured, not_protected_first, unbuilt_first, version_first, path_first, none_refuses, none_closed, none_short}
 use Rattle.pf_script.proofs.Refusing.{none_taken}
 use Rattle.pf_script.proofs.SeatCalls.{seen_by, own_same, shows_same}
 use Rattle.pf_script.proofs.Seats.{seats_after, seat_is_left}
@@ -109,7 +110,7 @@ module _ (key : List ℕ) (k : ℕ) (name : Name) (utf8 : IsUtf8 name) (before a
       → ((a : Honest) → before.honest ≡ Some a → IsFirstRule (opening_rules key name (opening_answers name (reading a.now name))) why) → Halves (Ok (replies.Refused why)) None
   refuses_to_open these why told calm first by_files =
       empty_idle key line name refl before after words words (replies.Refused why) these [] false false only (seen_of these false told calm) refl refl
-      (λ standing. refused why (seat_first (opening_rules key name these) why first) (record { host = refl; random = refl }) refl refl refl refl)
+      (λ standing. refused why (seat_first (opening_rules key name these) why first) (record { host = refl; random = refl }) refl refl refl refl) (seat_first (opening_rules key name these) why first)
       (λ a is none_failed. refused why (seat_first (opening_rules key name (opening_answers name (reading a.now name))) why (by_files a is)) (record { host = refl; random = refl }) refl refl refl refl)
 
   -- so where the answers are those of the files
@@ -117,10 +118,10 @@ module _ (key : List ℕ) (k : ℕ) (name : Name) (utf8 : IsUtf8 name) (before a
   refuses_by these why told calm first of_files = refuses_to_open these why told calm first (λ a is. subst (λ (l : List Answer). IsFirstRule (opening_rules key name l) why) (of_files a is) first)
 
   -- a call failed
-  host_fails : IsTarget name → (these : List Answer) → BothAre before.given after.given (IsMore these) → after.faults ≡ counted before.faults → Halves (Ok replies.HostFault) None
-  host_fails target these told rose =
+  host_fails : (these : List Answer) → BothAre before.given after.given (IsMore these) → after.faults ≡ counted before.faults → NoneRefuses (opening_rules key name these) → Halves (Ok replies.HostFault) None
+  host_fails these told rose none =
       empty_idle key line name refl before after words words replies.HostFault these [] true false only (seen_of these true told rose) refl refl
-      (λ standing. host_failed (seat_none (opening_rules key name []) (none_unasked key name target)) (record { host = refl; random = refl }) (fails_to_open k name ByHost refl tt) refl) (λ a is none_failed. absurd (no_host_fault none_failed))
+      (λ standing. host_failed (seat_none (opening_rules key name these) none) (record { host = refl; random = refl }) (fails_to_open k name ByHost refl tt) refl) (seat_none (opening_rules key name these) none) (λ a is none_failed. absurd (no_host_fault none_failed))
 
   -- node 0 is damaged
   is_damaged : (these : List Answer) (damage : Damage) → BothAre before.given after.given (IsMore these) → after.faults ≡ before.faults → NoneRefuses (opening_rules key name these) → BlamesOpening key name these (ByDamage damage) → AreOfFiles these
@@ -128,7 +129,7 @@ module _ (key : List ℕ) (k : ℕ) (name : Name) (utf8 : IsUtf8 name) (before a
   is_damaged these damage told calm none blames of_files =
       let turn : (standing : Standing) → SeatTurn standing key false Empty line (seen_by these [] false false) (replies.DamagedNode damage) [] Empty = λ standing.
       was_damaged damage (seat_none (opening_rules key name these) none) (record { host = refl; random = refl }) (fails_to_open k name (ByDamage damage) refl blames) refl in
-      empty_idle key line name refl before after words words (replies.DamagedNode damage) these [] false false only (seen_of these false told calm) refl refl turn
+      empty_idle key line name refl before after words words (replies.DamagedNode damage) these [] false false only (seen_of these false told calm) refl refl turn (seat_none (opening_rules key name these) none, blames)
       (λ a is none_failed. same_over key (reading a.now) false Empty line these [] (replies.DamagedNode damage) [] Empty (of_files a is) (turn (stands_on key (reading a.now))))
 
   wants_memory : after.faults ≡ before.faults → WhereTold before after (λ given. Unit {0}) → Halves (Err (record {})) None
@@ -188,24 +189,27 @@ module _ (key : List ℕ) (k : ℕ) (name : Name) (utf8 : IsUtf8 name) (before a
     abbrev act : Sheet → Act
     act sheet = record { deed = Opening (seat_of key name sheet); done = true }
 
+    none_here : NoneRefuses (rules key false Empty line came)
+    none_here = seat_none (opening_rules key name came) (none_refuses key name target size block openable secret is.opened is.path_is)
+
     turn : (standing : Standing) (sheet : Sheet) → StandsOn sheet session → standing name came sheet → SeatTurn standing key false Empty line seen (replies.Opened session.tree.size) (record { deed = Opening (seat_of key name sheet); done = true } ∷ []) (Own (new_seat key name sheet))
     turn standing sheet on stands =
         subst (λ n. SeatTurn standing key false Empty line seen (replies.Opened n) (record { deed = Opening (seat_of key name sheet); done = true } ∷ []) (Own (new_seat key name sheet))) (sym (ap (λ (c : List ℕ). length c) on.now_is) ∙ length_now sheet session.tree)
-        (accepts (seat_none (opening_rules key name came) (none_refuses key name target size block openable secret is.opened is.path_is)) (record { host = refl; random = refl })
+        (accepts none_here (record { host = refl; random = refl })
         (opened k name sheet stands (sym on.backed.path_is ∙ sym is.path_is) refl))
 
     turns : ((sheets : List Sheet) → Unforged key sheets came → OnFirst sheets session came) → SeatTurns key false line seen (replies.Opened session.tree.size) None (Some session) came
     turns first sealed seat shows =
-        subst (λ (x : Seat). Unfolds key sealed (λ acts. (left : Seat) × SeatTurn (on_carried key sealed) key false x line seen (replies.Opened session.tree.size) acts left × Shows (sealed ++ sheets_of acts) left (Some session)) came []) (sym (shows_none sealed seat shows))
-        (then_more [] [] came [] (sym (append-nil came)) (λ unforged. on_first (subst (λ (l : List Sheet). Unforged key l came) (append-nil sealed) unforged)))
+        subst (λ (x : Seat). Unfolds key sealed (MaySeal (SomeSeatTurn key sealed false x line) seen) (λ acts. (left : Seat) × SeatTurn (on_carried key sealed) key false x line seen (replies.Opened session.tree.size) acts left × Shows (sealed ++ sheets_of acts) left (Some session)) came []) (sym (shows_none sealed seat shows))
+        (then_more [] [] came [] (sym (append-nil came)) (inl refl) (λ unforged. on_first (subst (λ (l : List Sheet). Unforged key l came) (append-nil sealed) unforged)))
       where
-        on_first : Unforged key sealed came → Unfolds key sealed (λ acts. (left : Seat) × SeatTurn (on_carried key sealed) key false Empty line seen (replies.Opened session.tree.size) acts left × Shows (sealed ++ sheets_of acts) left (Some session)) came []
+        on_first : Unforged key sealed came → Unfolds key sealed (MaySeal (SomeSeatTurn key sealed false Empty line) seen) (λ acts. (left : Seat) × SeatTurn (on_carried key sealed) key false Empty line seen (replies.Opened session.tree.size) acts left × Shows (sealed ++ sheets_of acts) left (Some session)) came []
         on_first unforged =
             let on = first sealed unforged in
             let among : Contains sealed on.sheet = subst (λ (l : List Sheet). Contains l on.sheet) (sym on.first.split)
             (Contains-append_right on.first.before (on.sheet ∷ on.first.after) on.sheet (Contains-append_left (on.sheet ∷ []) on.first.after on.sheet (Contains-push [] on.sheet))) in
             let acts = record { deed = Opening (seat_of key name on.sheet); done = true } ∷ [] in
-            then_more [] acts [] came refl
+            then_more [] acts [] came refl (inl refl)
             (λ _. in_the_end acts
             (λ _. (
               Own (new_seat key name on.sheet),
@@ -301,6 +305,7 @@ module _ (key : List ℕ) (k : ℕ) (name : Name) (utf8 : IsUtf8 name) (before a
       goes = record {
         asks = told_these (λ came. (sheets : List Sheet) → Unforged key sheets came → OnFirst sheets session came) (λ given. SeatAsks key false line (replies.Opened session.tree.size) None (Some session) given before after words words) came before after told first
             (λ on. record { seen = seen; was_seen = record { answers = refl; words = none_taken words; of_host = calm; of_words = refl }; turns = turns on });
+        caused = record { given = came; told = told; caused = λ seat like. subst (λ (x : Seat). Caused key false x line came (replies.Opened session.tree.size)) (sym (like_none seat like)) none_here };
         books = both_weaker (KeepsUnder CoversNone (CoversMade {E = OpenFault} (Ok session)) (λ n. n ≡ name)) (KeepsUnder CoversNone (CoversSome (Some session)) (Concerns false line None)) before.honest after.honest
             (open_keeps key name before after (Ok session) goes either only)
             (λ a b keeps. keeps_more CoversNone (CoversSome (Some session)) (λ n. n ≡ name) (Concerns false line None) a b (concerns key line name refl) keeps);
@@ -338,8 +343,8 @@ module _ (key : List ℕ) (k : ℕ) (name : Name) (utf8 : IsUtf8 name) (before a
       (is_accepted size block secret good.target openable is (subst (λ (l : List Answer). BothAre before.given after.given (IsMore l)) are asked.asked.told) asked.asked.faults
       (subst (λ (l : List Answer). OnHonest before (λ files. AllByRecursion (IsAnswerOf files) l)) are asked.answered.honest) key_length (by_answers these asked (accepted size block secret good are openable is refl))
       (subst (λ (r : Result SessionState OpenFault). IfOk r (λ session. OpensOnFirst session before after)) said first) (subst (λ (r : Result SessionState OpenFault). IfOk r (λ session. OnDisk before after (OpensEither session))) said either))
-  by_case key_length result first either (length_failed good asked said) = subst (λ (r : Result SessionState OpenFault). Halves (open_result name r) (made_seat r)) (sym said) (host_fails good.target [] asked.asked.told asked.asked.faults)
-  by_case key_length result first either (read_failed size good asked said) = subst (λ (r : Result SessionState OpenFault). Halves (open_result name r) (made_seat r)) (sym said) (host_fails good.target (LengthWas name (Some size) ∷ []) asked.asked.told asked.asked.faults)
+  by_case key_length result first either (length_failed good asked said) = subst (λ (r : Result SessionState OpenFault). Halves (open_result name r) (made_seat r)) (sym said) (host_fails [] asked.asked.told asked.asked.faults (none_unasked key name good.target))
+  by_case key_length result first either (read_failed size good asked said) = subst (λ (r : Result SessionState OpenFault). Halves (open_result name r) (made_seat r)) (sym said) (host_fails (LengthWas name (Some size) ∷ []) asked.asked.told asked.asked.faults (none_measured key name size good.target))
   by_case key_length result first either (no_names good stays said) =
       subst (λ (r : Result SessionState OpenFault). Halves (open_result name r) (made_seat r)) (sym said)
       (wants_memory (ap (λ (h : HostState). h.faults) stays) (told_by (λ given. Unit {0}) [] before after (told_none before after (ap (λ (h : HostState). h.given) stays)) tt))

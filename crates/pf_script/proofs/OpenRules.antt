@@ -73,18 +73,30 @@ module _ (name : Name) (size : ℕ) (block : List ℕ) where
       not_block block openable (faults.BadVersion refuses.1 refuses.2)
       (other_version refuses.1 refuses.2 openable.whole openable.flag (subst (λ (b : List ℕ). IsPlainFault b (BadVersion refuses.1 refuses.2)) (last_one name size block refuses.0 refuses.3) refuses.6) refl)
 
--- before any answer came a target is not refused
-pub none_unasked : (key : List ℕ) (name : Name) → IsTarget name → NoneRefuses (opening_rules key name [])
-none_unasked key name target = (
+-- before node 0 came a target is not refused, unless it is absent
+none_before : (key : List ℕ) (name : Name) (given : List Answer) → IsTarget name → ¬ (Contains given (LengthWas name None)) → ((block : List ℕ) → ¬ (IsLast name given block)) → NoneRefuses (opening_rules key name given)
+none_before key name given target there none = (
   λ why refuses. refuses.1 target,
   (
-    λ why refuses. none_contained refuses.1,
+    λ why refuses. there refuses.1,
     (
-      λ why refuses. none_last name refuses.1.0 refuses.1.1,
-      (λ why refuses. none_last name refuses.1.0 refuses.1.1, (λ why refuses. none_last name refuses.0 refuses.3, (λ why refuses. none_last name refuses.0 refuses.2, tt))),
+      λ why refuses. none refuses.1.0 refuses.1.1,
+      (λ why refuses. none refuses.1.0 refuses.1.1, (λ why refuses. none refuses.0 refuses.3, (λ why refuses. none refuses.0 refuses.2, tt))),
     ),
   ),
 )
+
+-- so before any answer came, and where only the length did
+pub none_unasked : (key : List ℕ) (name : Name) → IsTarget name → NoneRefuses (opening_rules key name [])
+none_unasked key name target = none_before key name [] target (λ is. none_contained is) (none_last name)
+
+pub none_measured : (key : List ℕ) (name : Name) (size : ℕ) → IsTarget name → NoneRefuses (opening_rules key name (LengthWas name (Some size) ∷ []))
+none_measured key name size target =
+    none_before key name (LengthWas name (Some size) ∷ []) target (not_of (LengthWas name (Some size)) (LengthWas name None) [] (λ same. absurd (cc)) (λ is. none_contained is)) (λ block last. by_front block last.after last.before last.split)
+  where
+    by_front : (block : List ℕ) (after before : List Answer) → LengthWas name (Some size) ∷ [] ≡ before ++ Gave name 0 4096 block ∷ after → ⊥
+    by_front block after [] same = absurd (cc)
+    by_front block after (first ∷ before) same = absurd (omega (arith, ap (λ (l : List Answer). length l) same, length-append before (Gave name 0 4096 block ∷ after)))
 
 module _ (key : List ℕ) (name : Name) (target : IsTarget name) (size : ℕ) (block : List ℕ) where
   abbrev given : List Answer

@@ -3,7 +3,7 @@ use Rattle.std.proofs.lemmas.Result.{err_from_is_err_and}
 use Rattle.pf_io.specs.declared.faults.Memory.{Memory}
 use Rattle.pf_session.specs.State.{SessionState}
 use Rattle.pf_script.specs.BookTurns.{SeatBooked}
-use Rattle.pf_script.specs.Desk.{Shows}
+use Rattle.pf_script.specs.Desk.{IsLike}
 use Rattle.pf_script.specs.DeskSteps.{SeatGoes}
 use Rattle.pf_script.specs.SeatReplies.{create_reply}
 use Rattle.pf_script.specs.declared.line.ScriptLine.TheVariants as lines
@@ -11,9 +11,9 @@ use Rattle.pf_script.specs.declared.reply.Reply.{Reply}
 use Rattle.pf_script.specs.declared.reply.Reply.TheVariants as replies
 use Rattle.pf_script.specs.declared.reply.Why.TheVariants as whys
 use Rattle.pf_script.proofs.CreateLine.{create_line, naming_rules}
-use Rattle.pf_script.proofs.OnEmpty.{some_there, none_there, busy_first, taken_first, looks_busy, shows_busy, goes_at, booked_at, empty_unasked}
+use Rattle.pf_script.proofs.Liking.{like_none}
+use Rattle.pf_script.proofs.OnEmpty.{some_there, none_there, busy_first, taken_first, looks_busy, like_busy, goes_at, booked_at, empty_unasked}
 use Rattle.pf_script.proofs.Refusing.{refused_goes}
-use Rattle.pf_script.proofs.Showing.{shows_none}
 use Rattle.pf_script.proofs.Under.{LooksLike, refused_agrees}
 use Rattle.pf_script.proofs.opening.create_file.Goals as goal
 
@@ -21,7 +21,7 @@ pub returns-then-is_some-clause-goes : goal.returns-then-is_some-clause-goes
 returns-then-is_some-clause-goes g c k seated =
     let line = lines.Create k c.args.name.now in
     refused_goes c.args.key.now c.args.taken line whys.SeatBusy c.args.seat.now (g.H.Host.state c.args.host.now) (g.R.Words.state c.args.random.now)
-    (λ sealed seat shows. busy_first (naming_rules c.args.name.now []) c.args.taken seat (shows_busy sealed c.args.seat.now (some_there c.args.seat.now (sym c.is_some.ensures ∙ c.if-is_some.true)) seat shows)) seated
+    (λ seat like. busy_first (naming_rules c.args.name.now []) c.args.taken seat (like_busy c.args.seat.now (some_there c.args.seat.now (sym c.is_some.ensures ∙ c.if-is_some.true)) seat like)) seated
 
 pub returns-then-is_some-clause-booked : goal.returns-then-is_some-clause-booked
 returns-then-is_some-clause-booked g c k seated =
@@ -34,7 +34,7 @@ returns-then-taken-clause-goes g c k seated =
     let line = lines.Create k c.args.name.now in
     let none = none_there c.args.seat.now (sym c.is_some.ensures ∙ c.if-is_some.false) in
     refused_goes c.args.key.now c.args.taken line whys.NameBusy c.args.seat.now (g.H.Host.state c.args.host.now) (g.R.Words.state c.args.random.now)
-    (λ sealed seat shows. taken_first (naming_rules c.args.name.now []) c.args.taken seat (shows_none sealed seat (subst (λ (o : Option SessionState). Shows sealed seat o) none shows)) c.if-taken.true) seated
+    (λ seat like. taken_first (naming_rules c.args.name.now []) c.args.taken seat (like_none seat (subst (λ (o : Option SessionState). IsLike seat o) none like)) c.if-taken.true) seated
 
 pub returns-then-taken-clause-booked : goal.returns-then-taken-clause-booked
 returns-then-taken-clause-booked g c k seated =
