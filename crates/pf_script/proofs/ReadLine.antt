@@ -27,7 +27,7 @@ use Rattle.pf_session.specs.State.{SessionState, file_of}
 use Rattle.pf_session.proofs.Created.{aside_kept}
 use Rattle.pf_script.specs.BookSeats.{Covers, KeepsUnder}
 use Rattle.pf_script.specs.Desk.{IsSeated, IsLike, Shows, whole_file, seat_on}
-use Rattle.pf_script.specs.DeskSteps.{SeatAsks, SeatCaused, HoldsMore, SeatGoes}
+use Rattle.pf_script.specs.DeskSteps.{SeatAsks, SeatCaused, SeatGoes}
 use Rattle.pf_script.specs.Rules.{NoneRefuses, rules, refuses}
 use Rattle.pf_script.specs.Script.{OwnSeat, Seat, Own}
 use Rattle.pf_script.specs.SeatReplies.{read_reply}
@@ -132,10 +132,6 @@ module _ (key : List ℕ) (k at count : ℕ) (old : SessionState) (seated : IsSe
   pub whole_new : new.broken ≡ false
   whole_new = ap (λ (s : SessionState). s.broken) fields ∙ whole
 
-  -- the session holds the nodes that came
-  holds_more : HoldsMore old new
-  holds_more = record { fields = fields; tree = reads.rest; held = reads.fetched.kept }
-
   seated_new : IsSeated key new
   seated_new = record {
     of_script = of_read old new seated.of_script fields;
@@ -233,8 +229,8 @@ module _ (key : List ℕ) (k at count : ℕ) (old : SessionState) (seated : IsSe
         (record {
           takes = λ none. none;
           told = told_weaker (ReadFacts (Err trees.Memory) at buffer old new) (λ given. Unit {0}) before after told (λ given facts. tt);
-          ends = inl (record { seat = holds_more; disk = disk; words = refl });
-          flushes = λ session is. kept_flushes session before after disk;
+          ends = inl (record { seat = record { fields = fields; tree = reads.rest; held = reads.fetched.kept }; disk = disk; words = refl });
+          flushes = λ session is. kept_flushes (lines.Read k at count) session before after disk;
         }) books seated_new
         (ap (λ (s : SessionState). s.name) fields) cause.still refl
 
