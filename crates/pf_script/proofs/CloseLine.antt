@@ -1,5 +1,6 @@
 -- The line `close`, from the contract of a closing.
 use Rattle.std.proofs.Common.{◌≡◌, ◌⊎◌, inl, inr, Bool, true, false, List, [], ◌∷◌, ℕ, refl, sym, ◌∙◌, ap, subst, Some, None, Result, Ok, Err}
+use Rattle.std.proofs.lemmas.List.{append-nil}
 use Rattle.node_tree.specs.Sheet.{Sheet}
 use Rattle.pf_io.specs.Host.{Answer, HostState, Both, OnDisk, ReadsAsImage}
 use Rattle.pf_io.specs.Words.{WordsState}
@@ -11,19 +12,20 @@ use Rattle.pf_session.specs.Ending.{CloseGoes, let_go, flushed_last}
 use Rattle.pf_session.specs.State.{SessionState}
 use Rattle.pf_session.specs.declared.fault.FlushFault.{FlushFault}
 use Rattle.pf_script.specs.BookSeats.{Covers, CoversNone, KeepsUnder}
-use Rattle.pf_script.specs.Desk.{IsSeated, no_file, seat_on}
-use Rattle.pf_script.specs.DeskSteps.{SeatTurns, SeatGoes}
+use Rattle.pf_script.specs.Desk.{IsSeated, IsLike, no_file, seat_on}
+use Rattle.pf_script.specs.DeskSteps.{MaySeal, SomeSeatTurn, SeatTurns, SeatGoes}
 use Rattle.pf_script.specs.Rules.{NoneRefuses, rules}
 use Rattle.pf_script.specs.Script.{OwnSeat, Seat, Empty, Own}
 use Rattle.pf_script.specs.SeatReplies.{flush_reply}
 use Rattle.pf_script.specs.SeatSteps.{Seals}
-use Rattle.pf_script.specs.Turns.{Blame, ByHost, ByDamage, SeatTurn, accepted, host_failed, was_damaged, words_failed, let_go as lets_go, flushed_last as flushes_last, not_sealed, of_close, no_last_flush, on_carried, BlamesFlush}
+use Rattle.pf_script.specs.Turns.{Blame, ByHost, ByDamage, SeatTurn, accepted, host_failed, was_damaged, words_failed, let_go as lets_go, flushed_last as flushes_last, not_sealed, of_close, no_last_flush, on_carried, BlamesFlush, Caused}
 use Rattle.pf_script.specs.declared.line.ScriptLine.TheVariants as lines
 use Rattle.pf_script.specs.declared.reply.Reply.{Reply}
 use Rattle.pf_script.specs.declared.reply.Reply.TheVariants as replies
 use Rattle.pf_script.proofs.CallKeeping.{close_keeps}
-use Rattle.pf_script.proofs.FlushLine.{flush_act}
+use Rattle.pf_script.proofs.FlushLine.{flush_act, like_short}
 use Rattle.pf_script.proofs.Flushed.{SealsOwn, TooFewToFlush, FlushCase, lacked, failed, done, flush_case, host_blamed, fault_of}
+use Rattle.pf_script.proofs.Liking.{like_some}
 use Rattle.pf_script.proofs.Refusing.{at_last, not_empty, none_taken}
 use Rattle.pf_script.proofs.SeatCalls.{seen_by, SheetTurns, whole_turns, goes_out, host_reply, words_reply, false_true}
 use Rattle.pf_script.proofs.Showing.{shows_some}
@@ -38,6 +40,14 @@ pub none_to_close : (key : List ℕ) (k : ℕ) (own : OwnSeat) → NoneRefuses (
 none_to_close key k own = ((λ other refuses. not_empty (Own own) own refl refuses.1), tt)
 
 module _ (key : List ℕ) (k : ℕ) (old : SessionState) where
+  -- no rule refuses on a seat that is like the session
+  passes_like : (seat : Seat) → IsLike seat (Some old) → NoneRefuses (rules key false seat (lines.Close k) [])
+  passes_like seat like = let on = like_some seat old like in subst (λ (s : Seat). NoneRefuses (rules key false s (lines.Close k) [])) (sym on.seat_is) (none_to_close key k on.own)
+
+  failed_caused : (these : List Answer) (blame : Blame) → BlamesFlush old.name these blame → (seat : Seat) → IsLike seat (Some old) → Caused key false seat (lines.Close k) these (flush_reply (fault_of blame))
+  failed_caused these ByHost blames seat like = passes_like seat like
+  failed_caused these (ByDamage damage) blames seat like = (passes_like seat like, like_short seat old these damage like blames)
+
   closed_on : (sealed : List Sheet) (seat : Seat) (own : OwnSeat) → seat ≡ Own own → own.broken ≡ old.broken → (own.changed ≡ false) ⊎ (own.broken ≡ true)
       → SeatTurn (on_carried key sealed) key false seat (lines.Close k) (seen_by [] [] false false) (replies.Closed old.broken) [] Empty
   closed_on sealed seat own is same because =
@@ -67,17 +77,29 @@ module _ (key : List ℕ) (k : ℕ) (old : SessionState) where
     failed_turn sealed base next these words (ByDamage damage) seals blames =
         was_damaged damage (none_to_close key k (seat_on base old)) (record { host = refl; random = refl }) (not_sealed (seat_on base old) (lines.Close k) next (ByDamage damage) Empty seals blames (of_close k was_changed whole)) refl
 
+    -- it may have sealed the sheet
+    may_seal : (sealed : List Sheet) (base next : Sheet) (these : List Answer) (words : List (List ℕ)) (of_host is_done : Bool) → Seals (seat_on base old) words next
+        → MaySeal (SomeSeatTurn key sealed false (Own (seat_on base old)) (lines.Close k)) (seen_by these words of_host false) (flush_act old next is_done ∷ [])
+    may_seal sealed base next these words of_host is_done seals = record {
+      front = words;
+      back = [];
+      failed = flush_act old next false ∷ [];
+      in_order = sym (append-nil words);
+      goes = (Empty, failed_turn sealed base next these words ByHost seals tt);
+      sheets = refl;
+    }
+
     failed_turns : (these : List Answer) (words : List (List ℕ)) (blame : Blame) → SealsOwn old words (λ next. Unit {0}) → BlamesFlush old.name these blame
         → SheetTurns key false (lines.Close k) (seen_by these words (host_blamed blame) false) (flush_reply (fault_of blame)) old None these
     failed_turns these words blame seals blames sealed base among linked kept =
         let next = seals base linked kept.backed in
-        at_last (flush_act old next.0 false ∷ []) (λ unforged. (Empty, failed_turn sealed base next.0 these words blame next.1 blames, no_file refl refl))
+        at_last (flush_act old next.0 false ∷ []) (inr (may_seal sealed base next.0 these words (host_blamed blame) false next.1)) (λ unforged. (Empty, failed_turn sealed base next.0 these words blame next.1 blames, no_file refl refl))
 
     done_turns : (new : SessionState) (these : List Answer) (words : List (List ℕ)) → SealsOwn old words (λ next. StandsOn next new) → SheetTurns key false (lines.Close k) (seen_by these words false false) (replies.Closed false) old None these
     done_turns new these words seals sealed base among linked kept =
         let next = seals base linked kept.backed in
         let own = seat_on base old in
-        at_last (flush_act old next.0 true ∷ []) (λ unforged. (Empty, accepted (none_to_close key k own) (record { host = refl; random = refl }) (flushes_last k own next.0 was_changed whole next.1), no_file refl refl))
+        at_last (flush_act old next.0 true ∷ []) (inr (may_seal sealed base next.0 these words false true next.1)) (λ unforged. (Empty, accepted (none_to_close key k own) (record { host = refl; random = refl }) (flushes_last k own next.0 was_changed whole next.1), no_file refl refl))
 
   module _ (before after : HostState) (random random' : WordsState) (aside : Aside old.name before after) (books : OnDisk before after (KeepsUnder (Covers old) CoversNone (λ name. name ≡ old.name))) where
     by_case : (result : Result (Unit {0}) FlushFault) (mid : SessionState) → old.broken ≡ false → old.changed ≡ true → FlushCase result old mid before after random random'
@@ -85,15 +107,15 @@ module _ (key : List ℕ) (k : ℕ) (old : SessionState) where
     by_case result mid whole was_changed (lacked words fewer seen same stays said) =
         subst (λ (r : Result (Unit {0}) FlushFault). SeatGoes key false (lines.Close k) (Ok (close_result false r)) (Some old) None before after random random') (sym said)
         (goes_out key false (lines.Close k) replies.WordsFault old before after random random' aside [] words false true seen refl refl
-        (whole_turns key false (lines.Close k) (seen_by [] words false true) replies.WordsFault old None [] whole (lacked_turns whole was_changed words fewer)) books)
+        (whole_turns key false (lines.Close k) (seen_by [] words false true) replies.WordsFault old None [] whole (lacked_turns whole was_changed words fewer)) passes_like books)
     by_case result mid whole was_changed (failed blame these words seen blames seals key_is name_is broken said) =
         subst (λ (r : Result (Unit {0}) FlushFault). SeatGoes key false (lines.Close k) (Ok (close_result false r)) (Some old) None before after random random') (sym said)
         (goes_out key false (lines.Close k) (flush_reply (fault_of blame)) old before after random random' aside these words (host_blamed blame) false seen (host_reply blame) (words_reply blame)
-        (whole_turns key false (lines.Close k) (seen_by these words (host_blamed blame) false) (flush_reply (fault_of blame)) old None these whole (failed_turns whole was_changed these words blame seals blames)) books)
+        (whole_turns key false (lines.Close k) (seen_by these words (host_blamed blame) false) (flush_reply (fault_of blame)) old None these whole (failed_turns whole was_changed these words blame seals blames)) (failed_caused these blame blames) books)
     by_case result mid whole was_changed (done these words seen seals same dirty said) =
         subst (λ (r : Result (Unit {0}) FlushFault). SeatGoes key false (lines.Close k) (Ok (close_result false r)) (Some old) None before after random random') (sym said)
         (goes_out key false (lines.Close k) (replies.Closed false) old before after random random' aside these words false false seen refl refl
-        (whole_turns key false (lines.Close k) (seen_by these words false false) (replies.Closed false) old None these whole (done_turns whole was_changed mid these words seals)) books)
+        (whole_turns key false (lines.Close k) (seen_by these words false false) (replies.Closed false) old None these whole (done_turns whole was_changed mid these words seals)) passes_like books)
 
 pub close_goes : (key : List ℕ) (k : ℕ) (old : SessionState) (result : Result (Unit {0}) FlushFault) (before after : HostState) (random random' : WordsState) → IsSeated key old
     → CloseGoes result old before after random random' → Aside old.name before after → ReadsAsImage after → SeatGoes key false (lines.Close k) (Ok (close_result old.broken result)) (Some old) None before after random random'
@@ -111,7 +133,7 @@ close_goes key k old result before after random random' seated goes aside reads 
           taken = subst (λ (w : WordsState). Both random.left w.left (AreTaken [])) (sym same) (none_taken random);
           on_host = ap (λ (h : HostState). h.faults) stays;
           on_words = ap (λ (w : WordsState). w.faults) same;
-        }) refl refl (idle_turns key k old old.broken refl why) books)
+        }) refl refl (idle_turns key k old old.broken refl why) (passes_like key k old) books)
     by_end (flushed_last mid was_changed whole flushes) =
         subst (λ (b : Bool). SeatGoes key false (lines.Close k) (Ok (close_result b result)) (Some old) None before after random random') (sym whole)
         (by_case key k old before after random random' aside books result mid whole was_changed (flush_case old seated.of_script mid before after random random' result flushes))

@@ -1,5 +1,5 @@
 -- The line `draw`, from the contract of a drawing.
-use Rattle.std.proofs.Common.{◌≡◌, true, false, List, [], ◌∷◌, ◌++◌, length, ℕ, ◌<◌, refl, sym, ◌∙◌, ap, subst, Option, Some, None, Result, Ok, Err}
+use Rattle.std.proofs.Common.{◌≡◌, inl, true, false, List, [], ◌∷◌, ◌++◌, length, ℕ, ◌<◌, refl, sym, ◌∙◌, ap, subst, Option, Some, None, Result, Ok, Err}
 use Rattle.node_tree.specs.Sheet.{Sheet}
 use Rattle.pf_io.specs.Host.{HostState, Both, OnDisk}
 use Rattle.pf_io.specs.Words.{WordsState}
@@ -12,13 +12,15 @@ use Rattle.pf_session.specs.Drawing.{DrawGoes, drawn_before, drawn_now, not_draw
 use Rattle.pf_session.specs.State.{SessionState}
 use Rattle.pf_session.proofs.Created.{aside_none}
 use Rattle.pf_script.specs.BookSeats.{Covers, KeepsUnder}
-use Rattle.pf_script.specs.Desk.{IsSeated, Shows, whole_file, seat_on}
+use Rattle.pf_script.specs.Desk.{IsSeated, IsLike, Shows, whole_file, seat_on}
 use Rattle.pf_script.specs.DeskSteps.{SeatGoes}
-use Rattle.pf_script.specs.Script.{Own}
+use Rattle.pf_script.specs.Rules.{NoneRefuses, rules}
+use Rattle.pf_script.specs.Script.{Seat, Own}
 use Rattle.pf_script.specs.Turns.{accepted, words_failed, drawn_again, drawn_now as draws_now, no_nonce}
 use Rattle.pf_script.specs.declared.line.ScriptLine.TheVariants as lines
 use Rattle.pf_script.specs.declared.reply.Reply.{Reply}
 use Rattle.pf_script.specs.declared.reply.Reply.TheVariants as replies
+use Rattle.pf_script.proofs.Liking.{like_some}
 use Rattle.pf_script.proofs.OfScript.{of_drawn}
 use Rattle.pf_script.proofs.ReadKeeping.{draw_keeps}
 use Rattle.pf_script.proofs.Refusing.{at_last, none_then, none_taken}
@@ -81,6 +83,10 @@ draw_goes key k old new result host random random' seated whole goes = by_case g
       clean = λ also unchanged. ap (λ (s : SessionState). s.tree.dirty) same ∙ seated.clean whole (sym (ap (λ (s : SessionState). s.changed) same) ∙ unchanged);
     }
 
+    -- no rule refuses on a seat that is like the session
+    passes_like : (seat : Seat) → IsLike seat (Some old) → NoneRefuses (rules key false seat (lines.Draw k) [])
+    passes_like seat like = let on = like_some seat old like in none_then [] seat on.own on.seat_is (on.like.broken_is ∙ whole) tt
+
     by_case : DrawGoes result old new random random' → SeatGoes key false (lines.Draw k) (Ok (draw_result result)) (Some old) (Some new) host host random random'
     by_case (drawn_before nonce was same words said) =
         subst (λ (r : Result (List ℕ) WordsFault). SeatGoes key false (lines.Draw k) (Ok (draw_result r)) (Some old) (Some new) host host random random') (sym said)
@@ -90,7 +96,7 @@ draw_goes key k old new result host random random' seated whole goes = by_case g
           taken = subst (λ (w : WordsState). Both random.left w.left (AreTaken [])) (sym words) (none_taken random);
           on_host = refl;
           on_words = ap (λ (w : WordsState). w.faults) words;
-        }) refl refl new (whole_turns key false (lines.Draw k) (seen_by [] [] false false) (replies.Drawn nonce) old (Some new) [] whole (again_turns key k old whole new nonce was same)) books
+        }) refl refl new (whole_turns key false (lines.Draw k) (seen_by [] [] false false) (replies.Drawn nonce) old (Some new) [] whole (again_turns key k old whole new nonce was same)) passes_like books
         (subst (λ (s : SessionState). IsSeated key s) (sym same) seated) (ap (λ (s : SessionState). s.name) same))
     by_case (drawn_now nonce none drawn same said) =
         let joined : new ≡ record old { drawn = Some (drawn.first ++ drawn.second) } = subst (λ (n : List ℕ). new ≡ record old { drawn = Some n }) drawn.is same in
@@ -99,10 +105,10 @@ draw_goes key k old new result host random random' seated whole goes = by_case g
         (goes_on key false (lines.Draw k) (replies.Drawn (drawn.first ++ drawn.second)) old host host random random' (aside_none old.name host) [] (drawn.first ∷ drawn.second ∷ []) false false
         (record { told = told_none host host refl; taken = drawn.took.told; on_host = refl; on_words = drawn.took.calm }) refl refl new
         (whole_turns key false (lines.Draw k) (seen_by [] (drawn.first ∷ drawn.second ∷ []) false false) (replies.Drawn (drawn.first ++ drawn.second)) old (Some new) [] whole
-        (new_turns key k old whole new drawn.first drawn.second none joined)) books (seated_now same) (ap (λ (s : SessionState). s.name) same)))
+        (new_turns key k old whole new drawn.first drawn.second none joined)) passes_like books (seated_now same) (ap (λ (s : SessionState). s.name) same)))
     by_case (not_drawn fault none fewer same said) =
         subst (λ (r : Result (List ℕ) WordsFault). SeatGoes key false (lines.Draw k) (Ok (draw_result r)) (Some old) (Some new) host host random random') (sym said)
         (goes_on key false (lines.Draw k) replies.WordsFault old host host random random' (aside_none old.name host) [] fewer.words false true
         (record { told = told_none host host refl; taken = fewer.told; on_host = refl; on_words = fewer.once }) refl refl new
-        (whole_turns key false (lines.Draw k) (seen_by [] fewer.words false true) replies.WordsFault old (Some new) [] whole (lost_turns key k old whole new fewer.words fewer.fewer none same)) books
+        (whole_turns key false (lines.Draw k) (seen_by [] fewer.words false true) replies.WordsFault old (Some new) [] whole (lost_turns key k old whole new fewer.words fewer.fewer none same)) passes_like books
         (subst (λ (s : SessionState). IsSeated key s) (sym same) seated) (ap (λ (s : SessionState). s.name) same))

@@ -1,9 +1,12 @@
 -- The line `flush`, from the contract of a flush.
-use Rattle.std.proofs.Common.{◌≡◌, Bool, true, false, List, [], ◌∷◌, ◌++◌, ℕ, refl, sym, ◌∙◌, ap, subst, Some, None, Result, Ok, Err}
+use Rattle.std.proofs.Common.{◌≡◌, inl, inr, Bool, true, false, List, [], ◌∷◌, ◌++◌, ℕ, refl, sym, ◌∙◌, ap, subst, Some, None, Result, Ok, Err}
+use Rattle.std.proofs.lemmas.List.{append-nil}
 use Rattle.std.proofs.lemmas.List.Elements.{Contains-push}
+use Rattle.node_layout.specs.declared.damage.Damage.{Damage}
 use Rattle.node_tree.specs.Backing.{now}
 use Rattle.node_tree.specs.Sheet.{Sheet}
 use Rattle.node_tree.specs.State.{TreeState}
+use Rattle.pf_io.specs.Disk.{Name}
 use Rattle.pf_io.specs.Host.{Answer, HostState, OnDisk, ReadsAsImage}
 use Rattle.pf_io.specs.Words.{WordsState}
 use Rattle.pf_session.specs.Aside.{Aside}
@@ -14,17 +17,19 @@ use Rattle.pf_session.specs.declared.fault.FlushFault.{FlushFault}
 use Rattle.pf_script.specs.BookActs.{Flush, Act}
 use Rattle.pf_script.specs.BookDebts.{seat_of}
 use Rattle.pf_script.specs.BookSeats.{IsOfScript, Covers, KeepsUnder}
-use Rattle.pf_script.specs.Desk.{IsSeated, Shows, whole_file, broken_file, seat_on}
-use Rattle.pf_script.specs.DeskSteps.{SeatGoes}
-use Rattle.pf_script.specs.Script.{Own}
+use Rattle.pf_script.specs.Desk.{IsSeated, IsLike, Shows, whole_file, broken_file, seat_on}
+use Rattle.pf_script.specs.DeskSteps.{MaySeal, SomeSeatTurn, SeatGoes}
+use Rattle.pf_script.specs.Rules.{NoneRefuses, rules}
+use Rattle.pf_script.specs.Script.{Seat, Own}
 use Rattle.pf_script.specs.SeatReplies.{flush_reply}
 use Rattle.pf_script.specs.SeatSteps.{Seals, resealed, broken_seat}
-use Rattle.pf_script.specs.Turns.{Blame, ByHost, ByDamage, SeatTurn, accepted, host_failed, was_damaged, words_failed, flushed, not_sealed, of_flush, no_flush, on_carried, BlamesFlush}
+use Rattle.pf_script.specs.Turns.{Blame, ByHost, ByDamage, SeatTurn, accepted, host_failed, was_damaged, words_failed, flushed, not_sealed, of_flush, no_flush, on_carried, IsShort, BlamesFlush, FlushDamage, Caused}
 use Rattle.pf_script.specs.declared.line.ScriptLine.TheVariants as lines
 use Rattle.pf_script.specs.declared.reply.Reply.{Reply}
 use Rattle.pf_script.specs.declared.reply.Reply.TheVariants as replies
 use Rattle.pf_script.proofs.CallKeeping.{flush_keeps}
 use Rattle.pf_script.proofs.Flushed.{SealsOwn, TooFewToFlush, FlushCase, lacked, failed, done, flush_case, host_blamed, fault_of}
+use Rattle.pf_script.proofs.Liking.{like_some}
 use Rattle.pf_script.proofs.OfScript.{of_flushed}
 use Rattle.pf_script.proofs.Refusing.{at_last, none_then}
 use Rattle.pf_script.proofs.SeatCalls.{seen_by, own_same, SheetTurns, whole_turns, shows_same, goes_on, host_reply, words_reply, false_true}
@@ -52,6 +57,12 @@ shows_next sealed base old new words next whole seals on same dirty =
 abbrev pub flush_act : SessionState → Sheet → Bool → Act
 flush_act old sheet is_done = record { deed = Flush (seat_of old.key old.name sheet); done = is_done }
 
+-- a node of which a flush was given too few bytes
+pub like_short : (seat : Seat) (old : SessionState) (these : List Answer) (damage : Damage) → IsLike seat (Some old) → IsShort old.name these damage → FlushDamage seat these damage
+like_short seat old these damage like short =
+    let on = like_some seat old like in
+    subst (λ (s : Seat). FlushDamage s these damage) (sym on.seat_is) (subst (λ (n : Name). IsShort n these damage) (sym on.like.name_is) short)
+
 module _ (key : List ℕ) (k : ℕ) (old : SessionState) (seated : IsSeated key old) (whole : old.broken ≡ false) (new : SessionState) (before after : HostState) (random random' : WordsState)
     (aside : Aside old.name before after) (books : OnDisk before after (KeepsUnder (Covers old) (Covers new) (λ name. name ≡ old.name))) (goes : IsOfScript new) where
   -- no word came
@@ -71,11 +82,31 @@ module _ (key : List ℕ) (k : ℕ) (old : SessionState) (seated : IsSeated key 
   failed_turn sealed base next these words (ByDamage damage) seals blames =
       was_damaged damage (none_then [] (Own (seat_on base old)) (seat_on base old) refl whole tt) (record { host = refl; random = refl }) (not_sealed (seat_on base old) (lines.Flush k) next (ByDamage damage) (Own (broken_seat (seat_on base old))) seals blames (of_flush k)) refl
 
+  -- it may have sealed the sheet
+  may_seal : (sealed : List Sheet) (base next : Sheet) (these : List Answer) (words : List (List ℕ)) (of_host is_done : Bool) → Seals (seat_on base old) words next
+      → MaySeal (SomeSeatTurn key sealed false (Own (seat_on base old)) (lines.Flush k)) (seen_by these words of_host false) (flush_act old next is_done ∷ [])
+  may_seal sealed base next these words of_host is_done seals = record {
+    front = words;
+    back = [];
+    failed = flush_act old next false ∷ [];
+    in_order = sym (append-nil words);
+    goes = (Own (broken_seat (seat_on base old)), failed_turn sealed base next these words ByHost seals tt);
+    sheets = refl;
+  }
+
+  -- no rule refuses on a seat that is like the session
+  passes_like : (seat : Seat) → IsLike seat (Some old) → NoneRefuses (rules key false seat (lines.Flush k) [])
+  passes_like seat like = let on = like_some seat old like in none_then [] seat on.own on.seat_is (on.like.broken_is ∙ whole) tt
+
+  failed_caused : (these : List Answer) (blame : Blame) → BlamesFlush old.name these blame → (seat : Seat) → IsLike seat (Some old) → Caused key false seat (lines.Flush k) these (flush_reply (fault_of blame))
+  failed_caused these ByHost blames seat like = passes_like seat like
+  failed_caused these (ByDamage damage) blames seat like = (passes_like seat like, like_short seat old these damage like blames)
+
   failed_turns : (these : List Answer) (words : List (List ℕ)) (blame : Blame) → SealsOwn old words (λ next. Unit {0}) → BlamesFlush old.name these blame → new.key ≡ old.key → new.name ≡ old.name → new.broken ≡ true
       → SheetTurns key false (lines.Flush k) (seen_by these words (host_blamed blame) false) (flush_reply (fault_of blame)) old (Some new) these
   failed_turns these words blame seals blames key_is name_is broken sealed base among linked kept =
       let next = seals base linked kept.backed in
-      at_last (flush_act old next.0 false ∷ []) (λ unforged. (
+      at_last (flush_act old next.0 false ∷ []) (inr (may_seal sealed base next.0 these words (host_blamed blame) false next.1)) (λ unforged. (
         Own (broken_seat (seat_on base old)),
         failed_turn sealed base next.0 these words blame next.1 blames,
         broken_file (broken_seat (seat_on base old)) new broken refl (sym key_is) (sym name_is) refl refl,
@@ -87,7 +118,7 @@ module _ (key : List ℕ) (k : ℕ) (old : SessionState) (seated : IsSeated key 
   done_turns these words seals same dirty sealed base among linked kept =
       let next = seals base linked kept.backed in
       let own = seat_on base old in
-      at_last (flush_act old next.0 true ∷ []) (λ unforged. (
+      at_last (flush_act old next.0 true ∷ []) (inr (may_seal sealed base next.0 these words false true next.1)) (λ unforged. (
         Own (resealed own next.0),
         accepted (none_then [] (Own own) own refl whole tt) (record { host = refl; random = refl }) (flushed k own next.0 next.1),
         shows_next sealed base old new words next.0 whole next.1 next.2 same dirty,
@@ -97,17 +128,17 @@ module _ (key : List ℕ) (k : ℕ) (old : SessionState) (seated : IsSeated key 
   by_case result (lacked words fewer seen same stays said) =
       subst (λ (r : Result (Unit {0}) FlushFault). SeatGoes key false (lines.Flush k) (Ok (flush_result r)) (Some old) (Some new) before after random random') (sym said)
       (goes_on key false (lines.Flush k) replies.WordsFault old before after random random' aside [] words false true seen refl refl new
-      (whole_turns key false (lines.Flush k) (seen_by [] words false true) replies.WordsFault old (Some new) [] whole (lacked_turns words fewer same)) books
+      (whole_turns key false (lines.Flush k) (seen_by [] words false true) replies.WordsFault old (Some new) [] whole (lacked_turns words fewer same)) passes_like books
       (subst (λ (s : SessionState). IsSeated key s) (sym same) seated) (ap (λ (s : SessionState). s.name) same))
   by_case result (failed blame these words seen blames seals key_is name_is broken said) =
       subst (λ (r : Result (Unit {0}) FlushFault). SeatGoes key false (lines.Flush k) (Ok (flush_result r)) (Some old) (Some new) before after random random') (sym said)
       (goes_on key false (lines.Flush k) (flush_reply (fault_of blame)) old before after random random' aside these words (host_blamed blame) false seen (host_reply blame) (words_reply blame) new
-      (whole_turns key false (lines.Flush k) (seen_by these words (host_blamed blame) false) (flush_reply (fault_of blame)) old (Some new) these whole (failed_turns these words blame seals blames key_is name_is broken)) books
+      (whole_turns key false (lines.Flush k) (seen_by these words (host_blamed blame) false) (flush_reply (fault_of blame)) old (Some new) these whole (failed_turns these words blame seals blames key_is name_is broken)) (failed_caused these blame blames) books
       (record { of_script = goes; key_is = key_is ∙ seated.key_is; clean = λ also. absurd (false_true new.broken broken also) }) name_is)
   by_case result (done these words seen seals same dirty said) =
       subst (λ (r : Result (Unit {0}) FlushFault). SeatGoes key false (lines.Flush k) (Ok (flush_result r)) (Some old) (Some new) before after random random') (sym said)
       (goes_on key false (lines.Flush k) replies.Flushed old before after random random' aside these words false false seen refl refl new
-      (whole_turns key false (lines.Flush k) (seen_by these words false false) replies.Flushed old (Some new) these whole (done_turns these words seals same dirty)) books
+      (whole_turns key false (lines.Flush k) (seen_by these words false false) replies.Flushed old (Some new) these whole (done_turns these words seals same dirty)) passes_like books
       (record { of_script = goes; key_is = ap (λ (s : SessionState). s.key) same ∙ seated.key_is; clean = λ also unchanged. dirty }) (ap (λ (s : SessionState). s.name) same))
 
 pub flush_goes : (key : List ℕ) (k : ℕ) (old new : SessionState) (result : Result (Unit {0}) FlushFault) (before after : HostState) (random random' : WordsState) → IsSeated key old → old.broken ≡ false

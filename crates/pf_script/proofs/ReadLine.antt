@@ -1,5 +1,5 @@
 -- The line `read`, from the contract of a read.
-use Rattle.std.proofs.Common.{◌≡◌, inl, inr, true, false, List, [], ◌∷◌, ◌++◌, ℕ, ◌-◌, ◌<◌, ◌≤◌, min, refl, sym, ◌∙◌, ap, subst, Some, Result, Ok, Err, length, take, drop, cond, arith}
+use Rattle.std.proofs.Common.{◌≡◌, ◌⊎◌, inl, inr, true, false, List, [], ◌∷◌, ◌++◌, ℕ, ◌-◌, ◌<◌, ◌≤◌, min, refl, sym, ◌∙◌, ap, subst, Some, Result, Ok, Err, length, take, drop, cond, arith}
 use Rattle.std.proofs.lemmas.List.{append-nil, take_min, take_all, drop_all, length-drop}
 use Rattle.node_layout.specs.declared.damage.Damage.{Damage}
 use Rattle.node_tree.specs.Backing.{now}
@@ -26,17 +26,19 @@ use Rattle.pf_session.specs.Reading.{KeepsFields, StaysRead, BackedRead, ReadsSt
 use Rattle.pf_session.specs.State.{SessionState, file_of}
 use Rattle.pf_session.proofs.Created.{aside_kept}
 use Rattle.pf_script.specs.BookSeats.{Covers, KeepsUnder}
-use Rattle.pf_script.specs.Desk.{IsSeated, Shows, whole_file, seat_on}
-use Rattle.pf_script.specs.DeskSteps.{SeatAsks, SeatGoes}
+use Rattle.pf_script.specs.Desk.{IsSeated, IsLike, Shows, whole_file, seat_on}
+use Rattle.pf_script.specs.DeskSteps.{SeatAsks, SeatCaused, SeatGoes}
 use Rattle.pf_script.specs.Rules.{NoneRefuses, rules, refuses}
-use Rattle.pf_script.specs.Script.{OwnSeat, Own}
+use Rattle.pf_script.specs.Script.{OwnSeat, Seat, Own}
 use Rattle.pf_script.specs.SeatReplies.{read_reply}
 use Rattle.pf_script.specs.SeatSteps.{PIECE}
-use Rattle.pf_script.specs.Turns.{SeatTurn, accepted, host_failed, was_damaged, read, not_read, ByHost, ByDamage, BlamesFetch, on_carried}
+use Rattle.pf_script.specs.Turns.{SeatTurn, accepted, host_failed, was_damaged, read, not_read, ByHost, ByDamage, IsShort, IsClosed, BlamesFetch, FetchDamage, Caused, on_carried}
 use Rattle.pf_script.specs.declared.line.ScriptLine.TheVariants as lines
+use Rattle.pf_script.specs.declared.reply.Reply.{Reply}
 use Rattle.pf_script.specs.declared.reply.Reply.TheVariants as replies
 use Rattle.pf_script.specs.declared.reply.Why.TheVariants as whys
 use Rattle.pf_script.proofs.Flushed.{length_now}
+use Rattle.pf_script.proofs.Liking.{like_some}
 use Rattle.pf_script.proofs.OfScript.{of_read}
 use Rattle.pf_script.proofs.ReadKeeping.{read_keeps}
 use Rattle.pf_script.proofs.Refusing.{at_last, none_then, none_taken}
@@ -81,6 +83,17 @@ module _ (key : List ℕ) (k at count : ℕ) (old : SessionState) (seated : IsSe
       by_fails (is_short block free gave short kind) = inl (record { block = block; gave = subst (λ (n : Name). Given n these damage.node block) file_is gave; short = short; kind_is = kind })
       by_fails (root_fails block free first gave fails kind) = inr (record { foreign = subst (λ (n : Name). IsForeign base (Given n these) damage.node) file_is foreign; kind_is = kind })
       by_fails (child_fails parent block free low opened gave fails kind) = inr (record { foreign = subst (λ (n : Name). IsForeign base (Given n these) damage.node) file_is foreign; kind_is = kind })
+
+  -- a damage is of a block that came, also where something is forged
+  comes : (damage : Damage) (n : ℕ) → IsBroken (Held old.tree) (Given (file_of old) reads.these) (root_in old.tree) at n damage → (seat : Seat) → IsLike seat (Some old) → FetchDamage seat reads.these damage
+  comes damage n breaks seat like =
+      let on = like_some seat old like in
+      subst (λ (s : Seat). FetchDamage s reads.these damage) (sym on.seat_is) (by_fails on.own.name (file_is ∙ sym on.like.name_is) breaks.fails)
+    where
+      by_fails : (name : Name) → file_of old ≡ name → Fails (Held old.tree) (Given (file_of old) reads.these) (root_in old.tree) damage.node damage.kind → IsShort name reads.these damage ⊎ IsClosed name reads.these damage
+      by_fails name is (is_short block free gave short kind) = inl (record { block = block; gave = subst (λ (n : Name). Given n reads.these damage.node block) is gave; short = short; kind_is = kind })
+      by_fails name is (root_fails block free first gave fails kind) = inr (record { block = block; gave = subst (λ (n : Name). Given n reads.these damage.node block) is gave; whole = fails.whole; kind_is = kind })
+      by_fails name is (child_fails parent block free low opened gave fails kind) = inr (record { block = block; gave = subst (λ (n : Name). Given n reads.these damage.node block) is gave; whole = fails.whole; kind_is = kind })
 
   abbrev Backed : Result ℕ TreeFault → List Answer → Type 0
   Backed r these = (base : Sheet) → GivenOf base (Given (file_of old) these) → IsBacked base old → StaysRead r base (Given (file_of old) these) at buffer old new
@@ -176,39 +189,48 @@ module _ (key : List ℕ) (k at count : ℕ) (old : SessionState) (seated : IsSe
         ))
 
   module _ (words : WordsState) (few : count ≤ 32768) (books : OnDisk before after (KeepsUnder (Covers old) (Covers new) (λ name. name ≡ old.name))) (disk : KeepsDisk before after) where
-    by_result : (r : Result ℕ TreeFault) → IfOk r (λ n. n ≡ readable old.tree at (length buffer)) → HasCause before.faults after.faults (host_part r) → WhereTold before after (ReadFacts r at buffer old new)
+    -- no rule refuses on a seat that is like the session
+    passes_like : (seat : Seat) → IsLike seat (Some old) → NoneRefuses (rules key false seat (lines.Read k at count) [])
+    passes_like seat like =
+        let on = like_some seat old like in
+        subst (λ (s : Seat). NoneRefuses (rules key false s (lines.Read k at count) [])) (sym on.seat_is) (read_passes key k at count on.own (on.like.broken_is ∙ whole) few)
+
+    caused_by : (reply : Reply) → ((seat : Seat) → IsLike seat (Some old) → Caused key false seat (lines.Read k at count) reads.these reply) → SeatCaused key false (lines.Read k at count) reply (Some old) before after
+    caused_by reply caused = record { given = reads.these; told = reads.answered.told; caused = caused }
+
+    by_result : (r : Result ℕ TreeFault) → ReadEnds r (Given (file_of old) reads.these) at buffer old.tree new.tree → HasCause before.faults after.faults (host_part r) → WhereTold before after (ReadFacts r at buffer old new)
         → SeatGoes key false (lines.Read k at count) (read_reply buffer r) (Some old) (Some new) before after words words
-    by_result (Ok n) counted cause told =
+    by_result (Ok n) ends cause told =
         goes_told key false (lines.Read k at count) old before after words words (aside_kept old.name before after disk) (replies.Given buffer) (cause.still, refl) new
         (told_weaker (ReadFacts (Ok n) at buffer old new) (λ given. SeatAsks key false (lines.Read k at count) (replies.Given buffer) (Some old) (Some new) given before after words words) before after told
         (λ given facts. record {
           seen = seen_by given [] false false;
           was_seen = record { answers = refl; words = none_taken words; of_host = cause.still; of_words = refl };
-          turns = whole_turns key false (lines.Read k at count) (seen_by given [] false false) (replies.Given buffer) old (Some new) given whole (given_turns few given n counted facts);
-        })) books seated_new (ap (λ (s : SessionState). s.name) fields)
-    by_result (Err (trees.Damaged d)) counted cause told =
+          turns = whole_turns key false (lines.Read k at count) (seen_by given [] false false) (replies.Given buffer) old (Some new) given whole (given_turns few given n ends.0 facts);
+        })) (caused_by (replies.Given buffer) passes_like) books seated_new (ap (λ (s : SessionState). s.name) fields)
+    by_result (Err (trees.Damaged d)) ends cause told =
         goes_told key false (lines.Read k at count) old before after words words (aside_kept old.name before after disk) (replies.DamagedNode d) (cause.still, refl) new
         (told_weaker (ReadFacts (Err (trees.Damaged d)) at buffer old new) (λ given. SeatAsks key false (lines.Read k at count) (replies.DamagedNode d) (Some old) (Some new) given before after words words) before after told
         (λ given facts. record {
           seen = seen_by given [] false false;
           was_seen = record { answers = refl; words = none_taken words; of_host = cause.still; of_words = refl };
           turns = whole_turns key false (lines.Read k at count) (seen_by given [] false false) (replies.DamagedNode d) old (Some new) given whole (damage_turns few given d facts);
-        })) books seated_new (ap (λ (s : SessionState). s.name) fields)
-    by_result (Err trees.Host) counted cause told =
+        })) (caused_by (replies.DamagedNode d) (λ seat like. (passes_like seat like, comes d (readable old.tree at (length buffer)) ends seat like))) books seated_new (ap (λ (s : SessionState). s.name) fields)
+    by_result (Err trees.Host) ends cause told =
         goes_told key false (lines.Read k at count) old before after words words (aside_kept old.name before after disk) replies.HostFault (cause.once, refl) new
         (told_weaker (ReadFacts (Err trees.Host) at buffer old new) (λ given. SeatAsks key false (lines.Read k at count) replies.HostFault (Some old) (Some new) given before after words words) before after told
         (λ given facts. record {
           seen = seen_by given [] true false;
           was_seen = record { answers = refl; words = none_taken words; of_host = cause.once; of_words = refl };
           turns = whole_turns key false (lines.Read k at count) (seen_by given [] true false) replies.HostFault old (Some new) given whole (host_turns few given facts);
-        })) books seated_new (ap (λ (s : SessionState). s.name) fields)
-    by_result (Err trees.Memory) counted cause told =
+        })) (caused_by replies.HostFault passes_like) books seated_new (ap (λ (s : SessionState). s.name) fields)
+    by_result (Err trees.Memory) ends cause told =
         goes_wanting key false (lines.Read k at count) old before after words words (aside_kept old.name before after disk) (record {}) new
         (record {
           takes = λ none. none;
           told = told_weaker (ReadFacts (Err trees.Memory) at buffer old new) (λ given. Unit {0}) before after told (λ given facts. tt);
-          ends = inl (record { seat = fields; disk = disk; words = refl });
-          flushes = λ session is. kept_flushes session before after disk;
+          ends = inl (record { seat = record { fields = fields; tree = reads.rest; held = reads.fetched.kept }; disk = disk; words = refl });
+          flushes = λ session is. kept_flushes (lines.Read k at count) session before after disk;
         }) books seated_new
         (ap (λ (s : SessionState). s.name) fields) cause.still refl
 
@@ -222,7 +244,7 @@ pub read_goes : (key : List ℕ) (k at count : ℕ) (old new : SessionState) (re
     → SeatGoes key false (lines.Read k at count) (read_reply buffer result) (Some old) (Some new) before after words words
 read_goes key k at count old new result buffer before after words seated whole few room fields reads cause backed damage standing disk =
     by_result key k at count old seated whole new fields result buffer room before after reads words few (read_keeps old seated.of_script new result at buffer before after fields (ap (λ (t : TreeState). t.dirty) reads.rest) standing disk) disk result
-    (ends_count result (Given (file_of old) reads.these) at buffer old.tree new.tree reads.ends) cause (facts_told key k at count old seated whole new fields result buffer room before after reads result backed damage)
+    reads.ends cause (facts_told key k at count old seated whole new fields result buffer room before after reads result backed damage)
 
 -- a read keeps the length of its buffer
 pub same_length : (result : Result ℕ TreeFault) (old new : List ℕ) → IfOk result (λ n. KeepsRest n old new) → OnErr result (new ≡ old) → length new ≡ length old

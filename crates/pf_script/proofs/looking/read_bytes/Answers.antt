@@ -1,20 +1,20 @@
 use Rattle.std.proofs.Common.{◌∷◌, ◌<◌, [], false, inl, refl, sym, ◌∙◌, subst, Option, Some, Ok}
 use Rattle.pf_session.specs.State.{SessionState}
-use Rattle.pf_script.specs.Desk.{IsSeatOf, Shows}
+use Rattle.pf_script.specs.Desk.{IsSeatOf, IsLike}
 use Rattle.pf_script.specs.Rules.{refuses}
 use Rattle.pf_script.specs.SeatSteps.{PIECE}
 use Rattle.pf_script.specs.declared.line.ScriptLine.TheVariants as lines
 use Rattle.pf_script.specs.declared.reply.Reply.TheVariants as replies
 use Rattle.pf_script.specs.declared.reply.Why.TheVariants as whys
+use Rattle.pf_script.proofs.Liking.{like_none, like_some}
 use Rattle.pf_script.proofs.Refusing.{refused_goes, first_empty, first_broken, first_then, at_some}
-use Rattle.pf_script.proofs.Showing.{shows_none, shows_some}
 use Rattle.pf_script.proofs.Under.{LooksLike, refused_agrees, some_booked}
 use Rattle.pf_script.proofs.looking.read_bytes.Goals as goal
 
 pub returns-in_default-clause-goes : goal.returns-in_default-clause-goes
 returns-in_default-clause-goes g c key k words seated =
     refused_goes key false (lines.Read k c.args.at c.args.count) whys.SeatEmpty c.args.seat.now (g.H.Host.state c.args.host.now) words
-    (λ sealed seat shows. first_empty (refuses whys.TooLong (PIECE < c.args.count) ∷ []) seat (shows_none sealed seat (subst (λ (o : Option SessionState). Shows sealed seat o) c.in_default.is shows))) seated
+    (λ seat like. first_empty (refuses whys.TooLong (PIECE < c.args.count) ∷ []) seat (like_none seat (subst (λ (o : Option SessionState). IsLike seat o) c.in_default.is like))) seated
 
 pub returns-then-broken-clause-goes : goal.returns-then-broken-clause-goes
 returns-then-broken-clause-goes g c key k words =
@@ -22,9 +22,9 @@ returns-then-broken-clause-goes g c key k words =
     let before = g.H.Host.state c.args.host.now in
     at_some key false (lines.Read k c.args.at c.args.count) (Ok (replies.Refused whys.Broken)) c.args.seat.now s (Some s) before before words words c.in-Some.is
     (λ seated. refused_goes key false (lines.Read k c.args.at c.args.count) whys.Broken (Some s) before words
-    (λ sealed seat shows.
-    let shown = shows_some sealed seat s shows in
-    first_broken (refuses whys.TooLong (PIECE < c.args.count) ∷ []) seat shown.shown shown.seat_is (shown.broken_is ∙ sym c.broken.ensures ∙ c.if-broken.true)) seated)
+    (λ seat like.
+    let on = like_some seat s like in
+    first_broken (refuses whys.TooLong (PIECE < c.args.count) ∷ []) seat on.own on.seat_is (on.like.broken_is ∙ sym c.broken.ensures ∙ c.if-broken.true)) seated)
 
 pub returns-then-count-gt-LONGEST-clause-goes : goal.returns-then-count-gt-LONGEST-clause-goes
 returns-then-count-gt-LONGEST-clause-goes g c key k words =
@@ -32,9 +32,9 @@ returns-then-count-gt-LONGEST-clause-goes g c key k words =
     let before = g.H.Host.state c.args.host.now in
     at_some key false (lines.Read k c.args.at c.args.count) (Ok (replies.Refused whys.TooLong)) c.args.seat.now s (Some s) before before words words c.in-Some.is
     (λ seated. refused_goes key false (lines.Read k c.args.at c.args.count) whys.TooLong (Some s) before words
-    (λ sealed seat shows.
-    let shown = shows_some sealed seat s shows in
-    first_then (refuses whys.TooLong (PIECE < c.args.count) ∷ []) whys.TooLong seat shown.shown shown.seat_is (shown.broken_is ∙ sym c.broken.ensures ∙ c.if-broken.false) (inl (refl, c.if-count-gt-LONGEST.true))) seated)
+    (λ seat like.
+    let on = like_some seat s like in
+    first_then (refuses whys.TooLong (PIECE < c.args.count) ∷ []) whys.TooLong seat on.own on.seat_is (on.like.broken_is ∙ sym c.broken.ensures ∙ c.if-broken.false) (inl (refl, c.if-count-gt-LONGEST.true))) seated)
 
 pub returns-clause-goes : goal.returns-clause-goes
 returns-clause-goes g c key k words =

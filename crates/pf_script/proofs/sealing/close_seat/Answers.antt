@@ -1,13 +1,13 @@
 use Rattle.std.proofs.Common.{◌≡◌, false, inl, refl, sym, ◌∙◌, subst, Bool, Option, Some, None, Ok, Err}
 use Rattle.pf_session.specs.State.{SessionState}
-use Rattle.pf_script.specs.Desk.{IsSeatOf, Shows}
+use Rattle.pf_script.specs.Desk.{IsSeatOf, IsLike}
 use Rattle.pf_script.specs.DeskSteps.{SeatGoes}
 use Rattle.pf_script.specs.declared.line.ScriptLine.TheVariants as lines
 use Rattle.pf_script.specs.declared.reply.Reply.{Reply}
 use Rattle.pf_script.specs.declared.reply.Reply.TheVariants as replies
 use Rattle.pf_script.specs.declared.reply.Why.TheVariants as whys
+use Rattle.pf_script.proofs.Liking.{like_none}
 use Rattle.pf_script.proofs.Refusing.{refused_goes, at_some}
-use Rattle.pf_script.proofs.Showing.{shows_none}
 use Rattle.pf_script.specs.BookTurns.{SeatBooked}
 use Rattle.pf_script.proofs.CloseLine.{close_goes}
 use Rattle.pf_script.proofs.CloseUnder.{close_under}
@@ -21,7 +21,7 @@ returns-in_default-clause-goes g c key k seated =
     let is : c.args.seat.now ≡ None = sym c.take.ensures.value ∙ c.in_default.is in
     subst (λ (o : Option SessionState). SeatGoes key false (lines.Close k) (Ok (replies.Refused whys.SeatEmpty)) c.args.seat.now o before before random random) (is ∙ sym c.take.ensures.after)
     (refused_goes key false (lines.Close k) whys.SeatEmpty c.args.seat.now before random
-    (λ sealed seat shows. inl (refl, shows_none sealed seat (subst (λ (o : Option SessionState). Shows sealed seat o) is shows))) seated)
+    (λ seat like. inl (refl, like_none seat (subst (λ (o : Option SessionState). IsLike seat o) is like))) seated)
 
 pub returns-in-Ok-clause-goes : goal.returns-in-Ok-clause-goes
 returns-in-Ok-clause-goes g c key k =

@@ -1,11 +1,11 @@
 use Rattle.std.proofs.Common.{[], false, sym, ◌∙◌, subst, Option, Some, Ok, Err}
 use Rattle.pf_session.specs.State.{SessionState}
-use Rattle.pf_script.specs.Desk.{IsSeatOf, Shows}
+use Rattle.pf_script.specs.Desk.{IsSeatOf, IsLike}
 use Rattle.pf_script.specs.declared.line.ScriptLine.TheVariants as lines
 use Rattle.pf_script.specs.declared.reply.Reply.TheVariants as replies
 use Rattle.pf_script.specs.declared.reply.Why.TheVariants as whys
+use Rattle.pf_script.proofs.Liking.{like_none, like_some}
 use Rattle.pf_script.proofs.Refusing.{refused_goes, first_empty, first_broken, at_some}
-use Rattle.pf_script.proofs.Showing.{shows_none, shows_some}
 use Rattle.pf_script.proofs.DrawLine.{draw_goes}
 use Rattle.pf_script.proofs.DrawUnder.{draw_under}
 use Rattle.pf_script.proofs.Under.{LooksLike, refused_agrees, some_booked}
@@ -14,7 +14,7 @@ use Rattle.pf_script.proofs.sealing.draw_nonce.Goals as goal
 pub returns-in_default-clause-goes : goal.returns-in_default-clause-goes
 returns-in_default-clause-goes g c key k host seated =
     refused_goes key false (lines.Draw k) whys.SeatEmpty c.args.seat.now host (g.R.Words.state c.args.random.now)
-    (λ sealed seat shows. first_empty [] seat (shows_none sealed seat (subst (λ (o : Option SessionState). Shows sealed seat o) c.in_default.is shows))) seated
+    (λ seat like. first_empty [] seat (like_none seat (subst (λ (o : Option SessionState). IsLike seat o) c.in_default.is like))) seated
 
 pub returns-then-broken-clause-goes : goal.returns-then-broken-clause-goes
 returns-then-broken-clause-goes g c key k host =
@@ -22,7 +22,7 @@ returns-then-broken-clause-goes g c key k host =
     let random = g.R.Words.state c.args.random.now in
     at_some key false (lines.Draw k) (Ok (replies.Refused whys.Broken)) c.args.seat.now s (Some s) host host random random c.in-Some.is
     (λ seated. refused_goes key false (lines.Draw k) whys.Broken (Some s) host random
-    (λ sealed seat shows. let shown = shows_some sealed seat s shows in first_broken [] seat shown.shown shown.seat_is (shown.broken_is ∙ sym c.broken.ensures ∙ c.if-broken.true)) seated)
+    (λ seat like. let on = like_some seat s like in first_broken [] seat on.own on.seat_is (on.like.broken_is ∙ sym c.broken.ensures ∙ c.if-broken.true)) seated)
 
 pub returns-in-Ok-clause-goes : goal.returns-in-Ok-clause-goes
 returns-in-Ok-clause-goes g c key k host =
