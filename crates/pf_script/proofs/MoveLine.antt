@@ -261,7 +261,7 @@ module _ (key : List ℕ) (k : ℕ) (to : Name) (old : SessionState) (seated : I
         subst (λ (s : Seat). FlushDamage s (looked None ∷ rest) damage) (sym at.seat_is) (subst (λ (n : Name). IsShort n (looked None ∷ rest) damage) (sym at.like.name_is) short),
       )
 
-  -- sheets in which the host may have failed
+  -- acts whose sheets the line may have sealed: it fails at the host in acts with the same sheets
   may_fail : (sealed : List Sheet) (seat left : Seat) (these : List Answer) (words : List (List ℕ)) (of_host of_words : Bool) (acts failed : List Act) → NoneRefuses (rules key false seat line these) → Fails key (seen_by these words true false) ByHost seat line failed left
       → sheets_of acts ≡ sheets_of failed → MaySeal (SomeSeatTurn key sealed false seat line) (seen_by these words of_host of_words) acts
   may_fail sealed seat left these words of_host of_words acts failed none fails same = record {
@@ -420,8 +420,8 @@ module _ (key : List ℕ) (k : ℕ) (to : Name) (old : SessionState) (seated : I
           let none = move_passes free.is_target base (f.these ++ more) in
           at_last acts
           (inr (may_fail sealed (Own (seat_on base old)) (Own (broken_seat (seat_on base' mid))) (all_given more) all_words false false acts (before_it ++ stopped ∷ []) none
-              (not_carried k to (seat_on base old) (seat_on base' mid) f.words (f.first ∷ f.second ∷ []) each.0 on.next ByHost each.2 (sealed_by true base' each.3 on) refl tt)
-              (sheets_then before_it (act ∷ []) ∙ sym (sheets_then before_it (stopped ∷ [])))))
+          (not_carried k to (seat_on base old) (seat_on base' mid) f.words (f.first ∷ f.second ∷ []) each.0 on.next ByHost each.2 (sealed_by true base' each.3 on) refl tt)
+          (sheets_then before_it (act ∷ []) ∙ sym (sheets_then before_it (stopped ∷ [])))))
           (λ unforged. (
             Own (renamed (seat_on base' mid) to on.next),
             accepted none (record { host = refl; random = refl }) (moved_on k to (seat_on base old) (seat_on base' mid) f.words (f.first ∷ f.second ∷ []) each.0 on.next each.2 (sealed_by true base' each.3 on) refl),
