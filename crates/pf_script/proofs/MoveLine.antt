@@ -1,7 +1,7 @@
 -- The line `move`, from the contract of a move.
 use Rattle.std.proofs.Common.{◌≡◌, ◌⊎◌, inl, inr, Bool, true, false, cond, List, [], ◌∷◌, ◌++◌, length, ℕ, ◌+◌, ◌*◌, ◌<◌, refl, sym, ◌∙◌, ap, subst, Option, Some, None, Result, Ok, Err}
 use Rattle.std.specs.Prelude.{Contains}
-use Rattle.std.proofs.lemmas.List.{append_assoc}
+use Rattle.std.proofs.lemmas.List.{append-nil, append_assoc}
 use Rattle.std.proofs.lemmas.List.Elements.{Contains-push, Contains-append_right}
 use Rattle.node_layout.specs.Places.{node_count}
 use Rattle.node_layout.specs.declared.damage.Damage.{Damage}
@@ -26,9 +26,9 @@ use Rattle.pf_session.specs.declared.fault.FlushFault.TheVariants as faults
 use Rattle.pf_script.specs.BookActs.{Move, Flush, Act}
 use Rattle.pf_script.specs.BookDebts.{seat_of}
 use Rattle.pf_script.specs.BookSeats.{IsOfScript, Covers, KeepsUnder}
-use Rattle.pf_script.specs.Desk.{IsSeated, Shows, whole_file, broken_file, seat_on}
-use Rattle.pf_script.specs.DeskSteps.{CountsFault, SeatAsks, SeatGoes, Concerns, Spares, is_host_fault, is_words_fault}
-use Rattle.pf_script.specs.Rules.{Rule, NoneRefuses, rules, refuses}
+use Rattle.pf_script.specs.Desk.{IsSeated, IsLike, Shows, whole_file, broken_file, seat_on}
+use Rattle.pf_script.specs.DeskSteps.{MaySeal, SomeSeatTurn, CountsFault, SeatAsks, SeatGoes, Concerns, Spares, is_host_fault, is_words_fault}
+use Rattle.pf_script.specs.Rules.{Rule, IsFirst, NoneRefuses, rules, refuses}
 use Rattle.pf_script.specs.SeatReplies.{flush_reply, move_reply}
 use Rattle.pf_script.specs.declared.line.ScriptLine.{ScriptLine}
 use Rattle.pf_script.specs.declared.line.ScriptLine.TheVariants as lines
@@ -41,18 +41,18 @@ use Rattle.pf_session.specs.Flushing.{node_short, call_failed, flushed as sealed
 use Rattle.pf_session.specs.declared.fault.MoveFault.{MoveFault}
 use Rattle.pf_session.specs.declared.fault.MoveFault.TheVariants as moves
 use Rattle.pf_io.specs.Names.{IsTarget}
+use Rattle.pf_script.proofs.Liking.{like_some}
 use Rattle.pf_script.proofs.MoveCallKeeping.{move_keeps}
 use Rattle.pf_script.proofs.MoveUnder.{seals_moved}
 use Rattle.pf_script.proofs.OfScript.{of_moved}
 use Rattle.pf_script.proofs.StepKeeping.{keeps_more}
 use Rattle.pf_script.proofs.Refusing.{none_taken, at_last, refused_goes, nothing_wanting, first_then, none_then}
 use Rattle.pf_script.proofs.SeatCalls.{seen_by, own_with, SheetTurns, whole_turns, host_reply, words_reply, shows_same, false_true}
-use Rattle.pf_script.proofs.Showing.{shows_some}
 use Rattle.pf_script.proofs.Sparing.{spares_both}
 use Rattle.pf_script.proofs.WriteLine.{nothing_goes}
 use Rattle.pf_script.specs.Script.{OwnSeat, Own, Seat, sheet_of, sheets_of}
 use Rattle.pf_script.specs.SeatSteps.{SealsMoved, renamed, broken_seat, words_of_flush, words_of_move}
-use Rattle.pf_script.specs.Turns.{FlushedToMove, as_it_was, was_changed, IsShort, Blame, ByHost, ByDamage, BlamesFlush, SeatTurn, Fails, refused, accepted, host_failed, was_damaged, words_failed, moved as moved_on, not_looked_up, not_flushed_to_move, not_moved as not_carried, no_move, flushes, on_carried}
+use Rattle.pf_script.specs.Turns.{FlushedToMove, as_it_was, was_changed, IsShort, Blame, ByHost, ByDamage, BlamesFlush, FlushDamage, Caused, SeatTurn, Fails, refused, accepted, host_failed, was_damaged, words_failed, moved as moved_on, not_looked_up, not_flushed_to_move, not_moved as not_carried, no_move, flushes, on_carried}
 use Rattle.pf_script.proofs.FlushLine.{resealed_own}
 use Rattle.pf_script.proofs.Flushed.{SeenOf, counted_kind, host_blamed, fault_of, seal_ends, FlushEnds, not_begun, not_ended, was_ended}
 
@@ -222,35 +222,69 @@ module _ (key : List ℕ) (k : ℕ) (to : Name) (old : SessionState) (seated : I
   abbrev pub move_rules : List Answer → List Rule
   move_rules given = refuses whys.NameBusy (false ≡ true) ∷ refuses whys.BadName (¬ (IsTarget to)) ∷ refuses whys.TargetExists ((size : ℕ) × (others : List Answer) × (given ≡ LengthWas to (Some size) ∷ others)) ∷ []
 
-  -- no rule refuses a new name that was not found
-  passes_where : IsTarget to → (base : Sheet) (given : List Answer) → ((size : ℕ) (others : List Answer) → given ≡ looked (Some size) ∷ others → ⊥) → NoneRefuses (rules key false (Own (seat_on base old)) line given)
-  passes_where good base given not_there =
-      none_then (move_rules given) (Own (seat_on base old)) (seat_on base old) refl whole (not_busy, ((λ other bad. bad.1 good), ((λ other there. not_there there.1.0 there.1.1 there.1.2), tt)))
+  -- no rule refuses a new name that was not found, on a whole seat
+  passes_where : IsTarget to → (seat : Seat) (own : OwnSeat) → seat ≡ Own own → own.broken ≡ false → (given : List Answer) → ((size : ℕ) (others : List Answer) → given ≡ looked (Some size) ∷ others → ⊥) → NoneRefuses (rules key false seat line given)
+  passes_where good seat own is well given not_there =
+      none_then (move_rules given) seat own is well (not_busy, ((λ other bad. bad.1 good), ((λ other there. not_there there.1.0 there.1.1 there.1.2), tt)))
+
+  none_found : (rest : List Answer) (size : ℕ) (others : List Answer) → looked None ∷ rest ≡ looked (Some size) ∷ others → ⊥
+  none_found rest size others is = absurd (cc)
+
+  none_asked : (size : ℕ) (others : List Answer) → [] ≡ looked (Some size) ∷ others → ⊥
+  none_asked size others is = absurd (cc)
 
   pub move_passes : IsTarget to → (base : Sheet) (rest : List Answer) → NoneRefuses (rules key false (Own (seat_on base old)) line (looked None ∷ rest))
-  move_passes good base rest = passes_where good base (looked None ∷ rest) not_there
-    where
-      not_there : (size : ℕ) (others : List Answer) → looked None ∷ rest ≡ looked (Some size) ∷ others → ⊥
-      not_there size others is = absurd (cc)
+  move_passes good base rest = passes_where good (Own (seat_on base old)) (seat_on base old) refl whole (looked None ∷ rest) (none_found rest)
 
   -- before anything was asked
   pub move_unasked : IsTarget to → (base : Sheet) → NoneRefuses (rules key false (Own (seat_on base old)) line [])
-  move_unasked good base = passes_where good base [] not_there
-    where
-      not_there : (size : ℕ) (others : List Answer) → [] ≡ looked (Some size) ∷ others → ⊥
-      not_there size others is = absurd (cc)
+  move_unasked good base = passes_where good (Own (seat_on base old)) (seat_on base old) refl whole [] none_asked
+
+  -- a new name that was found is refused
+  pub move_found : (size : ℕ) → IsTarget to → (seat : Seat) (own : OwnSeat) → seat ≡ Own own → own.broken ≡ false → IsFirst (rules key false seat line (looked (Some size) ∷ [])) whys.TargetExists
+  move_found size good seat own is well =
+      first_then (move_rules (looked (Some size) ∷ [])) whys.TargetExists seat own is well (inr (not_busy, inr ((λ other bad. bad.1 good), inl (refl, (size, [], refl)))))
+
+  -- on seats that are like the session
+  on_like : (P : Seat → Type 0) → ((seat : Seat) (own : OwnSeat) → seat ≡ Own own → own.broken ≡ false → P seat) → (seat : Seat) → IsLike seat (Some old) → P seat
+  on_like P holds seat like = let at = like_some seat old like in holds seat at.own at.seat_is (at.like.broken_is ∙ whole)
+
+  like_passes : IsTarget to → (given : List Answer) → ((size : ℕ) (others : List Answer) → given ≡ looked (Some size) ∷ others → ⊥) → (seat : Seat) → IsLike seat (Some old) → NoneRefuses (rules key false seat line given)
+  like_passes good given not_there = on_like (λ seat. NoneRefuses (rules key false seat line given)) (λ seat own is well. passes_where good seat own is well given not_there)
+
+  -- the cause of a fault
+  fault_cause : IsTarget to → (rest : List Answer) (blame : Blame) → BlamesFlush old.name (looked None ∷ rest) blame → (seat : Seat) → IsLike seat (Some old) → Caused key false seat line (looked None ∷ rest) (flush_reply (fault_of blame))
+  fault_cause good rest ByHost blames seat like = like_passes good (looked None ∷ rest) (none_found rest) seat like
+  fault_cause good rest (ByDamage damage) short seat like =
+      let at = like_some seat old like in (
+        like_passes good (looked None ∷ rest) (none_found rest) seat like,
+        subst (λ (s : Seat). FlushDamage s (looked None ∷ rest) damage) (sym at.seat_is) (subst (λ (n : Name). IsShort n (looked None ∷ rest) damage) (sym at.like.name_is) short),
+      )
+
+  -- acts whose sheets the line may have sealed: it fails at the host in acts with the same sheets
+  may_fail : (sealed : List Sheet) (seat left : Seat) (these : List Answer) (words : List (List ℕ)) (of_host of_words : Bool) (acts failed : List Act) → NoneRefuses (rules key false seat line these) → Fails key (seen_by these words true false) ByHost seat line failed left
+      → sheets_of acts ≡ sheets_of failed → MaySeal (SomeSeatTurn key sealed false seat line) (seen_by these words of_host of_words) acts
+  may_fail sealed seat left these words of_host of_words acts failed none fails same = record {
+    front = words;
+    back = [];
+    failed = failed;
+    in_order = sym (append-nil words);
+    goes = (left, host_failed none (record { host = refl; random = refl }) fails refl);
+    sheets = same;
+  }
 
   module _ (new : SessionState) (before after : HostState) (random random' : WordsState) (books : OnDisk before after (KeepsUnder (Covers old) (Covers new) (Concerns false line (Some old)))) (spares : Spares (Concerns false line (Some old)) before after) (mine : IsOfScript new) where
     move_on : (reply : Reply) (these : List Answer) (words : List (List ℕ)) (of_host of_words : Bool) → SeenOf these words of_host of_words before after random random' → is_host_fault reply ≡ of_host → is_words_fault reply ≡ of_words
-        → SheetTurns key false line (seen_by these words of_host of_words) reply old (Some new) these → new.key ≡ old.key → ((name : Name) → name ≡ new.name → Concerns false line (Some old) name)
+        → SheetTurns key false line (seen_by these words of_host of_words) reply old (Some new) these → ((seat : Seat) → IsLike seat (Some old) → Caused key false seat line these reply) → new.key ≡ old.key → ((name : Name) → name ≡ new.name → Concerns false line (Some old) name)
         → (new.broken ≡ false → new.changed ≡ false → new.tree.dirty ≡ []) → SeatGoes key false line (Ok reply) (Some old) (Some new) before after random random'
-    move_on reply these words of_host of_words seen host_is words_is turns key_is names clean = record {
+    move_on reply these words of_host of_words seen host_is words_is turns caused key_is names clean = record {
       asks = told_by (λ given. SeatAsks key false line reply (Some old) (Some new) given before after random random') these before after seen.told
           (record {
             seen = seen_by these words of_host of_words;
             was_seen = record { answers = refl; words = seen.taken; of_host = seen.on_host; of_words = seen.on_words };
             turns = whole_turns key false line (seen_by these words of_host of_words) reply old (Some new) these whole turns;
           });
+      caused = record { given = these; told = seen.told; caused = caused };
       books = books;
       counts = (subst (λ b. CountsFault b before.faults after.faults) (sym host_is) seen.on_host, subst (λ b. CountsFault b random.faults random'.faults) (sym words_is) seen.on_words);
       wants = tt;
@@ -262,33 +296,37 @@ module _ (key : List ℕ) (k : ℕ) (to : Name) (old : SessionState) (seated : I
     -- the session is as it was
     as_before : (reply : Reply) (these : List Answer) (words : List (List ℕ)) (of_host of_words : Bool) → SeenOf these words of_host of_words before after random random' → is_host_fault reply ≡ of_host → is_words_fault reply ≡ of_words → new ≡ old
         → ((sealed : List Sheet) (base : Sheet) → SeatTurn (on_carried key sealed) key false (Own (seat_on base old)) line (seen_by these words of_host of_words) reply [] (Own (seat_on base old)))
-        → SeatGoes key false line (Ok reply) (Some old) (Some new) before after random random'
-    as_before reply these words of_host of_words seen host_is words_is same turns =
+        → ((seat : Seat) → IsLike seat (Some old) → Caused key false seat line these reply) → SeatGoes key false line (Ok reply) (Some old) (Some new) before after random random'
+    as_before reply these words of_host of_words seen host_is words_is same turns caused =
         move_on reply these words of_host of_words seen host_is words_is
         (λ sealed base among linked kept. at_last [] (inl refl) (λ unforged. (
           Own (seat_on base old),
           turns sealed base,
           shows_same sealed (Own (seat_on base old)) (Some new) (subst (λ (s : SessionState). Shows sealed (Own (seat_on base old)) (Some s)) (sym same) (whole_file base old whole among linked kept refl refl)),
         )))
-        (ap (λ (s : SessionState). s.key) same) (λ name is. inl (is ∙ ap (λ (s : SessionState). s.name) same))
+        caused (ap (λ (s : SessionState). s.key) same) (λ name is. inl (is ∙ ap (λ (s : SessionState). s.name) same))
         (subst (λ (s : SessionState). s.broken ≡ false → s.changed ≡ false → s.tree.dirty ≡ []) (sym same) seated.clean)
 
     -- a call failed: the seat is broken
-    broken_on : (blame : Blame) (these : List Answer) (words : List (List ℕ)) → SeenOf these words (host_blamed blame) false before after random random' → new.key ≡ old.key → new.name ≡ old.name → new.broken ≡ true
-        → IsTarget to → ((base : Sheet) → NoneRefuses (rules key false (Own (seat_on base old)) line these))
-        → ((base : Sheet) → IsLinked base → IsKeptOn base old → (acts : List Act) × (left : OwnSeat) × Fails key (seen_by these words (host_blamed blame) false) blame (Own (seat_on base old)) line acts (Own left) × (left.broken ≡ true) × (left.key ≡ old.key) × (left.name ≡ old.name))
+    broken_on : (blame : Blame) (rest : List Answer) (words : List (List ℕ)) → SeenOf (looked None ∷ rest) words (host_blamed blame) false before after random random' → new.key ≡ old.key → new.name ≡ old.name → new.broken ≡ true
+        → IsTarget to → BlamesFlush old.name (looked None ∷ rest) blame
+        → ((base : Sheet) → IsLinked base → IsKeptOn base old
+        → (acts : List Act) × (left : OwnSeat) × ((other : Blame) → BlamesFlush old.name (looked None ∷ rest) other → Fails key (seen_by (looked None ∷ rest) words (host_blamed other) false) other (Own (seat_on base old)) line acts (Own left)) × (left.broken ≡ true) × (left.key ≡ old.key) × (left.name ≡ old.name))
         → SeatGoes key false line (Ok (flush_reply (fault_of blame))) (Some old) (Some new) before after random random'
-    broken_on blame these words seen key_is name_is broken good passes fails =
+    broken_on blame rest words seen key_is name_is broken good blames fails =
+        let these = looked None ∷ rest in
         move_on (flush_reply (fault_of blame)) these words (host_blamed blame) false seen (host_reply blame) (words_reply blame)
         (λ sealed base among linked kept.
         let on = fails base linked kept in
-        at_last on.0 (λ unforged. (Own on.1, fault_turn sealed (Own (seat_on base old)) blame on.0 (Own on.1) (move_unasked good base) (passes base) on.2, broken_file on.1 new broken on.3 (on.4 ∙ sym key_is) (on.5 ∙ sym name_is) refl refl)))
-        key_is (λ name is. inl (is ∙ name_is)) (λ also. absurd (false_true new.broken broken also))
+        let seat = Own (seat_on base old) in
+        at_last on.0 (inr (may_fail sealed seat (Own on.1) these words (host_blamed blame) false on.0 on.0 (move_passes good base rest) (on.2 ByHost tt) refl))
+        (λ unforged. (Own on.1, fault_turn sealed seat these blame on.0 (Own on.1) (move_passes good base rest) (on.2 blame blames), broken_file on.1 new broken on.3 (on.4 ∙ sym key_is) (on.5 ∙ sym name_is) refl refl)))
+        (fault_cause good rest blame blames) key_is (λ name is. inl (is ∙ name_is)) (λ also. absurd (false_true new.broken broken also))
       where
-        fault_turn : (sealed : List Sheet) (seat : Seat) (blame : Blame) (acts : List Act) (left : Seat) → NoneRefuses (rules key false seat line []) → NoneRefuses (rules key false seat line these) → Fails key (seen_by these words (host_blamed blame) false) blame seat line acts left
+        fault_turn : (sealed : List Sheet) (seat : Seat) (these : List Answer) (blame : Blame) (acts : List Act) (left : Seat) → NoneRefuses (rules key false seat line these) → Fails key (seen_by these words (host_blamed blame) false) blame seat line acts left
             → SeatTurn (on_carried key sealed) key false seat line (seen_by these words (host_blamed blame) false) (flush_reply (fault_of blame)) acts left
-        fault_turn sealed seat ByHost acts left unasked none fails = host_failed unasked (record { host = refl; random = refl }) fails refl
-        fault_turn sealed seat (ByDamage damage) acts left unasked none fails = was_damaged damage none (record { host = refl; random = refl }) fails refl
+        fault_turn sealed seat these ByHost acts left none fails = host_failed none (record { host = refl; random = refl }) fails refl
+        fault_turn sealed seat these (ByDamage damage) acts left none fails = was_damaged damage none (record { host = refl; random = refl }) fails refl
 
     -- it was not flushed
     unflushed : (start : HostState) (fault : FlushFault) → IsFree to before start → (fails : FlushFails fault old new start after random random') → FlushEnds (Err fault) old new start after random fails.between
@@ -299,22 +337,21 @@ module _ (key : List ℕ) (k : ℕ) (to : Name) (old : SessionState) (seated : I
         let first = fails.drawn.first in
         let second = fails.drawn.second in
         let all = words ++ first ∷ second ∷ [] in
-        let given = (looked None ∷ []) ++ these in
         let fault_is : fault ≡ fault_of blame = cc in
         subst (λ (f : FlushFault). SeatGoes key false line (move_reply (Err (move_of_flush f))) (Some old) (Some new) before after random random') (sym fault_is)
         (subst (λ (r : Result Reply Memory). SeatGoes key false line r (Some old) (Some new) before after random random') (blamed_reply blame)
-        (broken_on blame given all
+        (broken_on blame these all
         (record {
           told = told_on (looked None ∷ []) these before start after free.looks.asked.asked.told seen.told;
           taken = taken_then words (first ∷ second ∷ []) random fails.between random' seen.taken fails.drawn.took.told;
           on_host = subst (λ n. CountsFault (host_blamed blame) n after.faults) free.looks.asked.asked.faults seen.on_host;
           on_words = fails.drawn.took.calm ∙ seen.on_words;
-        }) key_is name_is broken free.is_target (λ base. move_passes free.is_target base these)
+        }) key_is name_is broken free.is_target (short_more (looked None ∷ []) these old.name blame blames)
         (λ base linked kept.
         let on = seals base linked kept.backed in (
           record { deed = Flush (seat_of old.key old.name on.0); done = false } ∷ [],
           broken_seat (seat_on base old),
-          not_flushed_to_move k to (seat_on base old) words on.0 first second blame fails.is_changed on.1 refl (short_more (looked None ∷ []) these old.name blame blames),
+          λ other. not_flushed_to_move k to (seat_on base old) words on.0 first second other fails.is_changed on.1 refl,
           refl,
           refl,
           refl,
@@ -344,17 +381,17 @@ module _ (key : List ℕ) (k : ℕ) (to : Name) (old : SessionState) (seated : I
       uncarried fault by carries same =
           subst (λ (x : FlushFault). SeatGoes key false line (move_reply (Err (move_of_flush x))) (Some old) (Some new) before after random random') (sym by.fault_is)
           (subst (λ (r : Result Reply Memory). SeatGoes key false line r (Some old) (Some new) before after random random') (blamed_reply by.blame)
-          (broken_on by.blame (all_given by.these) all_words
+          (broken_on by.blame (f.these ++ by.these) all_words
           (record { told = all_told by.these by.told; taken = f.taken; on_host = subst (λ n. CountsFault (host_blamed by.blame) n after.faults) up_to by.on_host; on_words = f.on_words })
-          (ap (λ (s : SessionState). s.key) same ∙ f.key_is) (ap (λ (s : SessionState). s.name) same ∙ f.name_is) (ap (λ (s : SessionState). s.broken) same) free.is_target (λ base. move_passes free.is_target base (f.these ++ by.these))
+          (ap (λ (s : SessionState). s.key) same ∙ f.key_is) (ap (λ (s : SessionState). s.name) same ∙ f.name_is) (ap (λ (s : SessionState). s.broken) same) free.is_target
+          (short_more (looked None ∷ []) (f.these ++ by.these) old.name by.blame (short_more f.these by.these old.name by.blame (subst (λ (n : Name). BlamesFlush n by.these by.blame) f.name_is by.blames)))
           (λ base linked kept.
           let each = f.each base linked kept in
           let base' = each.1 in
           let on = carries.carries.each base' each.4 each.3 in (
             flushes (seat_on base old) each.0 ++ record { deed = Move old.name (seat_of old.key to on.next); done = false } ∷ [],
             broken_seat (seat_on base' mid),
-            not_carried k to (seat_on base old) (seat_on base' mid) f.words (f.first ∷ f.second ∷ []) each.0 on.next by.blame each.2 (sealed_by false base' each.3 on) refl
-                (short_more (looked None ∷ []) (f.these ++ by.these) old.name by.blame (short_more f.these by.these old.name by.blame (subst (λ (n : Name). BlamesFlush n by.these by.blame) f.name_is by.blames))),
+            λ other. not_carried k to (seat_on base old) (seat_on base' mid) f.words (f.first ∷ f.second ∷ []) each.0 on.next other each.2 (sealed_by false base' each.3 on) refl,
             refl,
             f.key_is,
             f.name_is,
@@ -377,15 +414,21 @@ module _ (key : List ℕ) (k : ℕ) (to : Name) (old : SessionState) (seated : I
           let base' = each.1 in
           let on = carries.carries.each base' each.4 each.3 in
           let act : Act = record { deed = Move old.name (seat_of old.key to on.next); done = true } in
+          let stopped : Act = record { deed = Move old.name (seat_of old.key to on.next); done = false } in
           let before_it = flushes (seat_on base old) each.0 in
           let acts = before_it ++ act ∷ [] in
-          at_last acts (λ unforged. (
+          let none = move_passes free.is_target base (f.these ++ more) in
+          at_last acts
+          (inr (may_fail sealed (Own (seat_on base old)) (Own (broken_seat (seat_on base' mid))) (all_given more) all_words false false acts (before_it ++ stopped ∷ []) none
+          (not_carried k to (seat_on base old) (seat_on base' mid) f.words (f.first ∷ f.second ∷ []) each.0 on.next ByHost each.2 (sealed_by true base' each.3 on) refl tt)
+          (sheets_then before_it (act ∷ []) ∙ sym (sheets_then before_it (stopped ∷ [])))))
+          (λ unforged. (
             Own (renamed (seat_on base' mid) to on.next),
-            accepted (move_passes free.is_target base (f.these ++ more)) (record { host = refl; random = refl }) (moved_on k to (seat_on base old) (seat_on base' mid) f.words (f.first ∷ f.second ∷ []) each.0 on.next each.2 (sealed_by true base' each.3 on) refl),
+            accepted none (record { host = refl; random = refl }) (moved_on k to (seat_on base old) (seat_on base' mid) f.words (f.first ∷ f.second ∷ []) each.0 on.next each.2 (sealed_by true base' each.3 on) refl),
             shows_moved sealed base' acts each.3 on
                 (Contains-append_right sealed (sheets_of acts) on.next (subst (λ (l : List Sheet). Contains l on.next) (sym (sheets_then before_it (act ∷ []))) (Contains-push (sheets_of before_it) on.next))) same,
           )))
-          (ap (λ (s : SessionState). s.key) same ∙ f.key_is) (λ name is. inr (ap Some (sym (is ∙ ap (λ (s : SessionState). s.name) same)), refl))
+          (like_passes free.is_target (all_given more) (none_found (f.these ++ more))) (ap (λ (s : SessionState). s.key) same ∙ f.key_is) (λ name is. inr (ap Some (sym (is ∙ ap (λ (s : SessionState). s.name) same)), refl))
           (λ also unchanged. ap (λ (s : SessionState). s.tree.dirty) same ∙ f.dirty)
 
     move_cases : (result : Result (Unit {0}) MoveFault) → MoveGoes result to old new before after random random' → SeatGoes key false line (move_reply result) (Some old) (Some new) before after random random'
@@ -393,9 +436,7 @@ module _ (key : List ℕ) (k : ℕ) (to : Name) (old : SessionState) (seated : I
         by_result (Err moves.BadName) said
         (nothing_goes key line (Ok (replies.Refused whys.BadName)) old new before after random random' same stays words
         (refused_goes key false line whys.BadName (Some old) before random
-        (λ sealed seat shows.
-        let shown = shows_some sealed seat old shows in
-        first_then (move_rules []) whys.BadName seat shown.shown shown.seat_is (shown.broken_is ∙ whole) (inr (not_busy, inl (refl, bad)))) seated))
+        (on_like (λ seat. IsFirst (rules key false seat line []) whys.BadName) (λ seat own is well. first_then (move_rules []) whys.BadName seat own is well (inr (not_busy, inl (refl, bad))))) seated))
       where
         by_result : (r : Result (Unit {0}) MoveFault) → result ≡ r → SeatGoes key false line (move_reply r) (Some old) (Some new) before after random random' → SeatGoes key false line (move_reply result) (Some old) (Some new) before after random random'
         by_result r said = subst (λ (x : Result (Unit {0}) MoveFault). SeatGoes key false line (move_reply x) (Some old) (Some new) before after random random') (sym said)
@@ -406,21 +447,20 @@ module _ (key : List ℕ) (k : ℕ) (to : Name) (old : SessionState) (seated : I
         subst (λ (x : Result (Unit {0}) MoveFault). SeatGoes key false line (move_reply x) (Some old) (Some new) before after random random') (sym said)
         (as_before replies.HostFault [] [] true false
         (record { told = fails.asked.asked.told; taken = subst (λ (w : WordsState). Both random.left w.left (AreTaken [])) (sym words) (none_taken random); on_host = fails.asked.asked.faults; on_words = ap (λ (w : WordsState). w.faults) words })
-        refl refl same (λ sealed base. host_failed (move_unasked good base) (record { host = refl; random = refl }) (not_looked_up k to (seat_on base old) refl) refl))
+        refl refl same (λ sealed base. host_failed (move_unasked good base) (record { host = refl; random = refl }) (not_looked_up k to (seat_on base old) refl) refl) (like_passes good [] none_asked))
     move_cases result (was_there size good looks same words said) =
         subst (λ (x : Result (Unit {0}) MoveFault). SeatGoes key false line (move_reply x) (Some old) (Some new) before after random random') (sym said)
         (as_before (replies.Refused whys.TargetExists) (looked (Some size) ∷ []) [] false false
         (record { told = looks.asked.asked.told; taken = subst (λ (w : WordsState). Both random.left w.left (AreTaken [])) (sym words) (none_taken random); on_host = looks.asked.asked.faults; on_words = ap (λ (w : WordsState). w.faults) words })
         refl refl same
-        (λ sealed base. refused whys.TargetExists
-        (first_then (move_rules (looked (Some size) ∷ [])) whys.TargetExists (Own (seat_on base old)) (seat_on base old) refl whole
-        (inr (not_busy, inr ((λ other bad. bad.1 good), inl (refl, (size, [], refl))))))
-        (record { host = refl; random = refl }) refl refl refl refl))
+        (λ sealed base. refused whys.TargetExists (move_found size good (Own (seat_on base old)) (seat_on base old) refl whole) (record { host = refl; random = refl }) refl refl refl refl)
+        (on_like (λ seat. IsFirst (rules key false seat line (looked (Some size) ∷ [])) whys.TargetExists) (move_found size good)))
     move_cases result (no_words free fewer same said) =
         subst (λ (x : Result (Unit {0}) MoveFault). SeatGoes key false line (move_reply x) (Some old) (Some new) before after random random') (sym said)
         (as_before replies.WordsFault (looked None ∷ []) fewer.words false true
         (record { told = free.looks.asked.asked.told; taken = fewer.told; on_host = free.looks.asked.asked.faults; on_words = fewer.once })
-        refl refl same (λ sealed base. words_failed (move_passes free.is_target base []) (record { host = refl; random = refl }) (no_move k to (seat_on base old) (too_few_to_move base old fewer.words fewer.fewer)) refl))
+        refl refl same (λ sealed base. words_failed (move_passes free.is_target base []) (record { host = refl; random = refl }) (no_move k to (seat_on base old) (too_few_to_move base old fewer.words fewer.fewer)) refl)
+        (like_passes free.is_target (looked None ∷ []) (none_found [])))
     move_cases result (not_flushed start fault free fails said) =
         subst (λ (x : Result (Unit {0}) MoveFault). SeatGoes key false line (move_reply x) (Some old) (Some new) before after random random') (sym said)
         (unflushed start fault free fails (seal_ends old seated.of_script new start after random fails.between (Err fault) fails.sealed fails.keys fails.came fails.goes))

@@ -43,7 +43,7 @@ use Rattle.pf_script.proofs.Dealing.{DealsFreely, aside_deals, move_deals}
 use Rattle.pf_script.proofs.Flushed.{FlushEnds, not_begun, not_ended, was_ended, seal_ends, host_blamed, fault_of}
 use Rattle.pf_script.proofs.FlushLine.{flush_act}
 use Rattle.pf_script.proofs.MadeActs.{EachIs, MayFlush, one_is, is_on, are_flushes}
-use Rattle.pf_script.proofs.MoveLine.{move_rules, not_busy, move_passes, move_unasked, never_lacks, too_few_to_move, blamed_reply, short_more, taken_then, CarryBlamed, carry_blamed}
+use Rattle.pf_script.proofs.MoveLine.{move_rules, not_busy, move_passes, move_unasked, move_found, never_lacks, too_few_to_move, blamed_reply, short_more, taken_then, CarryBlamed, carry_blamed}
 use Rattle.pf_script.proofs.MoveOver.{looked_answers, not_calm, first_over, moved_files, moved_shows}
 use Rattle.pf_script.proofs.OverFiles.{reopens_stands, files_from, KnownOver, own_over, still_over}
 use Rattle.pf_script.proofs.OverGiven.{same_over, same_files}
@@ -120,16 +120,13 @@ module _ (key : List ℕ) (k : ℕ) (to : Name) (old : SessionState) (seated : I
       there : (standing : Standing) (base : Sheet) → SeatTurn standing key false (Own (seat_on base old)) line (seen_by (LengthWas to (Some size) ∷ []) [] false false) (replies.Refused whys.TargetExists) [] (Own (seat_on base old))
       there standing base =
           let own = seat_on base old in
-          refused whys.TargetExists
-          (first_then (move_rules key k to old seated whole (LengthWas to (Some size) ∷ [])) whys.TargetExists (Own own) own refl whole
-          (inr (not_busy key k to old seated whole, inr ((λ other bad. bad.1 good), inl (refl, (size, [], refl))))))
-          (record { host = refl; random = refl }) refl refl refl refl
+          refused whys.TargetExists (move_found key k to old seated whole size good (Own own) own refl whole) (record { host = refl; random = refl }) refl refl refl refl
 
   -- the turn of a line that failed
-  fault_turn : (standing : Standing) (own : OwnSeat) (these : List Answer) (words : List (List ℕ)) (blame : Blame) (acts : List Act) (left : Seat) → NoneRefuses (rules key false (Own own) line []) → NoneRefuses (rules key false (Own own) line these) → Fails key (seen_by these words (host_blamed blame) false) blame (Own own) line acts left
+  fault_turn : (standing : Standing) (own : OwnSeat) (these : List Answer) (words : List (List ℕ)) (blame : Blame) (acts : List Act) (left : Seat) → NoneRefuses (rules key false (Own own) line these) → Fails key (seen_by these words (host_blamed blame) false) blame (Own own) line acts left
       → SeatTurn standing key false (Own own) line (seen_by these words (host_blamed blame) false) (flush_reply (fault_of blame)) acts left
-  fault_turn standing own these words ByHost acts left unasked none fails = host_failed unasked (record { host = refl; random = refl }) fails refl
-  fault_turn standing own these words (ByDamage damage) acts left unasked none fails = was_damaged damage none (record { host = refl; random = refl }) fails refl
+  fault_turn standing own these words ByHost acts left none fails = host_failed none (record { host = refl; random = refl }) fails refl
+  fault_turn standing own these words (ByDamage damage) acts left none fails = was_damaged damage none (record { host = refl; random = refl }) fails refl
 
   module _ (aside : AsideBoth old.name to before after) (reads : ReadsAsImage after) where
     abbrev OnBoth : Honest → Honest → Type 0
@@ -212,7 +209,7 @@ module _ (key : List ℕ) (k : ℕ) (to : Name) (old : SessionState) (seated : I
                 concerned = one_concerned false line old false next.0;
                 made = one_is (MadeBy line (Own own)) (flush_act old next.0 false) refl;
                 idle = idle_answered (flush_reply (fault_of blame)) (blame_answered blame) acts;
-                turn = λ _. fault_turn _ own given all blame acts (Own (broken_seat own)) (move_unasked key k to old seated whole free.is_target base) (move_passes key k to old seated whole free.is_target base these)
+                turn = λ _. fault_turn _ own given all blame acts (Own (broken_seat own)) (move_passes key k to old seated whole free.is_target base these)
                     (not_flushed_to_move k to own words next.0 first second blame fails.is_changed next.1 refl (short_more (LengthWas to None ∷ []) these old.name blame blames));
               });
           over = over_blamed blame given all (flush_reply (fault_of blame)) (subst (λ (f : FlushFault). UndamagedMove (Err (move_of_flush f)) old before) fault_is undamaged);
@@ -308,7 +305,7 @@ module _ (key : List ℕ) (k : ℕ) (to : Name) (old : SessionState) (seated : I
                       both_concerned n (only_move key old seated whole book seats m.0 agrees_m image_m base on.entry on.was on.seated on.kept stood_m to free.is_target false mid new f.words t.0 b t.2 nonce between after t.1 is_b absent moves.carries well n among);
                   made = move_made own t.2.sheets (record { deed = Move old.name (seat_of old.key to next.next); done = false }) (refl, refl);
                   idle = idle_answered (flush_reply (fault_of by.blame)) (blame_answered by.blame) acts;
-                  turn = λ _. fault_turn _ own (all_given by.these) all_words by.blame acts (Own (broken_seat (seat_on t.2.base_now mid))) (move_unasked key k to old seated whole free.is_target base) (move_passes key k to old seated whole free.is_target base (f.these ++ by.these))
+                  turn = λ _. fault_turn _ own (all_given by.these) all_words by.blame acts (Own (broken_seat (seat_on t.2.base_now mid))) (move_passes key k to old seated whole free.is_target base (f.these ++ by.these))
                       (not_moved_line k to own (seat_on t.2.base_now mid) f.words (f.drawn.first ∷ f.drawn.second ∷ []) t.2.sheets next.next by.blame t.2.first
                       (seals_moved false to nonce t.2.base_now mid between after t.2.rests next
                       f.drawn.first f.drawn.second f.drawn.is) refl

@@ -8,12 +8,12 @@ use Rattle.pf_script.specs.Rules.{Rule, refuses}
 use Rattle.pf_script.specs.SeatReplies.{move_reply}
 use Rattle.pf_script.specs.declared.reply.Reply.{Reply}
 use Rattle.pf_session.specs.State.{SessionState}
-use Rattle.pf_script.specs.Desk.{IsSeatOf, Shows}
+use Rattle.pf_script.specs.Desk.{IsSeatOf, IsLike}
 use Rattle.pf_script.specs.declared.line.ScriptLine.TheVariants as lines
 use Rattle.pf_script.specs.declared.reply.Reply.TheVariants as replies
 use Rattle.pf_script.specs.declared.reply.Why.TheVariants as whys
 use Rattle.pf_script.proofs.Refusing.{refused_goes, first_empty, first_broken, first_then, at_some}
-use Rattle.pf_script.proofs.Showing.{shows_none, shows_some}
+use Rattle.pf_script.proofs.Liking.{like_none, like_some}
 use Rattle.pf_script.proofs.MoveLine.{move_goes}
 use Rattle.pf_script.specs.BookTurns.{SeatBooked}
 use Rattle.pf_script.proofs.MoveTurns.{move_under}
@@ -31,7 +31,7 @@ move_rest taken to =
 pub returns-in_default-clause-goes : goal.returns-in_default-clause-goes
 returns-in_default-clause-goes g c key k seated =
     refused_goes key c.args.taken (lines.Move k c.args.name.now) whys.SeatEmpty c.args.seat.now (g.H.Host.state c.args.host.now) (g.R.Words.state c.args.random.now)
-    (λ sealed seat shows. first_empty (move_rest c.args.taken c.args.name.now) seat (shows_none sealed seat (subst (λ (o : Option SessionState). Shows sealed seat o) c.in_default.is shows))) seated
+    (λ seat like. first_empty (move_rest c.args.taken c.args.name.now) seat (like_none seat (subst (λ (o : Option SessionState). IsLike seat o) c.in_default.is like))) seated
 
 pub returns-then-broken-clause-goes : goal.returns-then-broken-clause-goes
 returns-then-broken-clause-goes g c key k =
@@ -40,9 +40,9 @@ returns-then-broken-clause-goes g c key k =
     let random = g.R.Words.state c.args.random.now in
     at_some key c.args.taken (lines.Move k c.args.name.now) (Ok (replies.Refused whys.Broken)) c.args.seat.now s (Some s) before before random random c.in-Some.is
     (λ seated. refused_goes key c.args.taken (lines.Move k c.args.name.now) whys.Broken (Some s) before random
-    (λ sealed seat shows.
-    let shown = shows_some sealed seat s shows in
-    first_broken (move_rest c.args.taken c.args.name.now) seat shown.shown shown.seat_is (shown.broken_is ∙ sym c.broken.ensures ∙ c.if-broken.true)) seated)
+    (λ seat like.
+    let at = like_some seat s like in
+    first_broken (move_rest c.args.taken c.args.name.now) seat at.own at.seat_is (at.like.broken_is ∙ sym c.broken.ensures ∙ c.if-broken.true)) seated)
 
 pub returns-then-taken-clause-goes : goal.returns-then-taken-clause-goes
 returns-then-taken-clause-goes g c key k =
@@ -51,9 +51,9 @@ returns-then-taken-clause-goes g c key k =
     let random = g.R.Words.state c.args.random.now in
     at_some key c.args.taken (lines.Move k c.args.name.now) (Ok (replies.Refused whys.NameBusy)) c.args.seat.now s (Some s) before before random random c.in-Some.is
     (λ seated. refused_goes key c.args.taken (lines.Move k c.args.name.now) whys.NameBusy (Some s) before random
-    (λ sealed seat shows.
-    let shown = shows_some sealed seat s shows in
-    first_then (move_rest c.args.taken c.args.name.now) whys.NameBusy seat shown.shown shown.seat_is (shown.broken_is ∙ sym c.broken.ensures ∙ c.if-broken.false) (inl (refl, c.if-taken.true))) seated)
+    (λ seat like.
+    let at = like_some seat s like in
+    first_then (move_rest c.args.taken c.args.name.now) whys.NameBusy seat at.own at.seat_is (at.like.broken_is ∙ sym c.broken.ensures ∙ c.if-broken.false) (inl (refl, c.if-taken.true))) seated)
 
 pub returns-clause-goes : goal.returns-clause-goes
 returns-clause-goes g c key k =
