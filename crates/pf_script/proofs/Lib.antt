@@ -33,6 +33,7 @@ pub mod StepKeeping
 pub mod SizeKeeping
 pub mod RunKeeping
 pub mod Showing
+pub mod Liking
 pub mod Refusing
 pub mod Flushed
 pub mod SeatCalls

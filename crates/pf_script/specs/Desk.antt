@@ -1,5 +1,5 @@
 -- What contracts see of a desk, and the state of a script that it shows.
-use Rattle.std.specs.Prelude.{◌≡◌, ℕ, true, false, List, length, get_or, Contains, Option, Some, None}
+use Rattle.std.specs.Prelude.{◌≡◌, ℕ, true, false, List, length, get_or, Contains, Option, Some, None, IsSomeAnd}
 use Rattle.node_tree.specs.Backing.{now}
 use Rattle.node_tree.specs.Sheet.{Sheet, IsLinked}
 use Rattle.pf_session.specs.Moving.{IsKeptOn}
@@ -45,6 +45,23 @@ seat_on sheet session = record {
   drawn = session.drawn;
   broken = session.broken;
 }
+
+-- a seat has the key and the name of a session, is broken where it is, and as large where it is whole
+pub record IsLikeOwn (own : OwnSeat) (session : SessionState) : Type 0 where
+  pub key_is : own.key ≡ session.key
+  pub name_is : own.name ≡ session.name
+  pub broken_is : own.broken ≡ session.broken
+  pub as_large : session.broken ≡ false → length own.content ≡ session.tree.size
+
+-- so a seat of a script
+abbrev pub IsLike : Seat → Option SessionState → Type 0
+IsLike Empty session = session ≡ None
+IsLike (Own own) session = IsSomeAnd session (IsLikeOwn own)
+
+-- and all seats of a desk
+pub record IsLikeDesk (state : ScriptState) (desk : DeskState) : Type 0 where
+  pub key_is : state.key ≡ desk.key
+  pub like : (k : ℕ) → IsLike (seat_at state k) (session_at desk k)
 
 -- A seat shows a session: one that is whole stands on a sheet of those that were sealed, and one that is not changed has its content. Of a broken one nothing but its closing is left.
 pub data Shows (sealed : List Sheet) (seat : Seat) (session : Option SessionState) : Type 0 where

@@ -1,7 +1,9 @@
 -- What a step of a desk comes to.
-use Rattle.std.specs.Prelude.{⊤, ◌≡◌, ◌≢◌, ◌⊎◌, ℕ, Bool, true, false, List, [], ◌++◌, Contains, replicate, Option, Some, None, IsSomeAnd, Result, Ok, Err}
+use Rattle.std.specs.Prelude.{⊤, ◌≡◌, ◌≢◌, ◌⊎◌, ℕ, ◌+◌, ◌<◌, Bool, true, false, List, [], ◌++◌, length, Contains, replicate, Option, Some, None, IsSomeAnd, Result, Ok, Err}
 use Rattle.node_tree.specs.Backing.{now}
+use Rattle.node_tree.specs.Reading.{KeepsFields as KeepsTree}
 use Rattle.node_tree.specs.Sheet.{Sheet}
+use Rattle.node_tree.specs.State.{Held}
 use Rattle.node_tree.specs.Unforged.{Unforged}
 use Rattle.pf_io.specs.Counts.{counted}
 use Rattle.pf_io.specs.Disk.{Name, IsImage, reading}
@@ -17,8 +19,9 @@ use Rattle.pf_session.specs.State.{SessionState}
 use Rattle.pf_script.specs.Book.{Book, Entry, Seal, Agrees}
 use Rattle.pf_script.specs.BookActs.{Flush, Act}
 use Rattle.pf_script.specs.BookDebts.{LeavesOthers, KeepsOthers, DidAll}
-use Rattle.pf_script.specs.BookSeats.{Covering, Covers, CoversOn, CoversNone, KeepsUnder}
-use Rattle.pf_script.specs.Desk.{DeskState, session_at, IsSeatOf, Shows, IsStateOf}
+use Rattle.pf_script.specs.BookSeats.{Covering, Covers, CoversOn, CoversNone, KeepsUnder, SparesSeats}
+use Rattle.pf_script.specs.Desk.{DeskState, session_at, IsSeatOf, IsLike, Shows, IsStateOf}
+use Rattle.pf_script.specs.Rules.{NoneRefuses, rules}
 use Rattle.pf_script.specs.Script.{Seat, ScriptState, sheets_of, seat_of_line, name_of_line}
 use Rattle.pf_script.specs.Turns.{Seen, SeatTurn, Turn, on_carried}
 use Rattle.pf_script.specs.declared.line.ScriptLine.{ScriptLine}
@@ -139,10 +142,15 @@ IsChange (lines.Fill seat at count byte) = ⊤
 IsChange (lines.Size seat size) = ⊤
 IsChange other = ⊥
 
--- A session is as before, but for the nodes that it holds.
+-- A session is as before, but for further nodes that it holds.
+pub record HoldsMore (old new : SessionState) : Type 0 where
+  pub fields : KeepsFields old new
+  pub tree : KeepsTree old.tree new.tree
+  pub held : (k : ℕ) (plain : List ℕ) → Held old.tree k plain → Held new.tree k plain
+
 abbrev pub KeepsSession : Option SessionState → Option SessionState → Type 0
 KeepsSession None new = new ≡ None
-KeepsSession (Some old) new = IsSomeAnd new (KeepsFields old)
+KeepsSession (Some old) new = IsSomeAnd new (HoldsMore old)
 
 pub record SeatIdle (old new : Option SessionState) (before after : HostState) (random random' : WordsState) : Type 0 where
   pub seat : KeepsSession old new
@@ -156,22 +164,33 @@ IsBrokenSession new = IsSomeAnd new (λ session. session.broken ≡ true)
 abbrev pub AreFlushes : Name → List Act → Type 0
 AreFlushes name acts = (act : Act) → Contains acts act → (seal : Seal) × (act ≡ record { deed = Flush seal; done = true }) × (seal.name ≡ name)
 
--- each act is a flush that sealed this content, or it with zeros behind it
-abbrev pub SealsOnly : List ℕ → List Act → Type 0
-SealsOnly content acts = (act : Act) → Contains acts act → (seal : Seal) × (n : ℕ) × (act.deed ≡ Flush seal) × (seal.sheet.content ≡ content ++ replicate n 0)
+-- how many zeros a line may have put behind a content of this length before a flush: none, and those of the steps of `size` before its last one
+abbrev pub MayGrow : ScriptLine → ℕ → ℕ → Type 0
+MayGrow (lines.Size seat size) held n = (n ≡ 0) ⊎ (held + n < size)
+MayGrow other held n = n ≡ 0
 
--- Under each book that agrees with the disk, with a seat under this sheet where it speaks of the session's name, nothing but such flushes was done to names. They sealed the content of the session.
-abbrev pub FlushesUnder : SessionState → Honest → Honest → Type 0
-FlushesUnder session a b =
+-- each act is a flush that sealed this content, with zeros behind it where the line may have put some
+abbrev pub SealsOnly : ScriptLine → List ℕ → List Act → Type 0
+SealsOnly line content acts = (act : Act) → Contains acts act → (seal : Seal) × (n : ℕ) × (act.deed ≡ Flush seal) × (seal.sheet.content ≡ content ++ replicate n 0) × MayGrow line (length content) n
+
+-- Under each book that agrees with the disk, with a seat under this sheet where it speaks of the session's name, nothing but such flushes was done to names. They sealed the content of the session,
+-- and the seats on other names stay.
+abbrev pub FlushesUnder : ScriptLine → SessionState → Honest → Honest → Type 0
+FlushesUnder line session a b =
     (book : Book) (seats : List Seal) → Agrees book seats a.now → IsImage a.now (reading a.now) → (sheet : Sheet) → CoversOn sheet session book seats
-    → (acts : List Act) × (left : List Seal) × DidAll book seats acts left a b × AreFlushes session.name acts
-    × ((entry : Entry) → session.broken ≡ false → book session.name ≡ Some entry → SealsOnly (now sheet session.tree) acts)
+    → (acts : List Act) × (left : List Seal) × DidAll book seats acts left a b × AreFlushes session.name acts × SparesSeats acts seats left
+    × ((entry : Entry) → session.broken ≡ false → book session.name ≡ Some entry → SealsOnly line (now sheet session.tree) acts)
+
+-- No rule refuses the line on a seat that is like the session, which is whole.
+pub record Admits (line : ScriptLine) (session : SessionState) : Type 0 where
+  pub whole : session.broken ≡ false
+  pub none : (key : List ℕ) (taken : Bool) (seat : Seat) → IsLike seat (Some session) → NoneRefuses (rules key taken seat line [])
 
 pub record SeatWants (line : ScriptLine) (old new : Option SessionState) (before after : HostState) (random random' : WordsState) : Type 0 where
   pub takes : ¬ (TakesNone line)
   pub told : WhereTold before after (λ given. ⊤)
-  pub ends : SeatIdle old new before after random random' ⊎ (IsChange line × IsBrokenSession new)
-  pub flushes : (session : SessionState) → old ≡ Some session → OnDisk before after (FlushesUnder session)
+  pub ends : SeatIdle old new before after random random' ⊎ (IsChange line × IsBrokenSession new × IsSomeAnd old (Admits line))
+  pub flushes : (session : SessionState) → old ≡ Some session → OnDisk before after (FlushesUnder line session)
 
 pub record NothingDone (old new : DeskState) (before after : HostState) (random random' : WordsState) : Type 0 where
   pub key_is : new.key ≡ old.key
@@ -179,16 +198,20 @@ pub record NothingDone (old new : DeskState) (before after : HostState) (random 
   pub disk : KeepsDisk before after
   pub words : random' ≡ random
 
--- a change for which there was no memory leaves its seat broken
-abbrev pub BreaksSeat : ScriptLine → DeskState → Type 0
-BreaksSeat line new = (k : ℕ) × (session : SessionState) × (seat_of_line line ≡ Some k) × (session_at new k ≡ Some session) × (session.broken ≡ true)
+-- a change that no rule refuses, and for which there was no memory, leaves its seat broken
+pub record BreaksSeat (line : ScriptLine) (old new : DeskState) : Type 0 where
+  pub change : IsChange line
+  pub seat : ℕ
+  pub is_seat : seat_of_line line ≡ Some seat
+  pub broken : IsBrokenSession (session_at new seat)
+  pub admitted : IsSomeAnd (session_at old seat) (Admits line)
 
 -- want of memory; what the host tells goes on, and each other seat is as before
 pub record Wants (line : ScriptLine) (old new : DeskState) (before after : HostState) (random random' : WordsState) : Type 0 where
   pub takes : ¬ (TakesNone line)
   pub told : WhereTold before after (λ given. ⊤)
-  pub ends : NothingDone old new before after random random' ⊎ (IsChange line × BreaksSeat line new)
-  pub flushes : (k : ℕ) (session : SessionState) → seat_of_line line ≡ Some k → session_at old k ≡ Some session → OnDisk before after (FlushesUnder session)
+  pub ends : NothingDone old new before after random random' ⊎ BreaksSeat line old new
+  pub flushes : (k : ℕ) (session : SessionState) → seat_of_line line ≡ Some k → session_at old k ≡ Some session → OnDisk before after (FlushesUnder line session)
   pub others : (j : ℕ) → seat_of_line line ≢ Some j → KeepsSession (session_at old j) (session_at new j)
 
 abbrev pub WhereWanting : Result Reply Memory → Type 0 → Type 0

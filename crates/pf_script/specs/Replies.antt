@@ -1,9 +1,11 @@
 -- The texts of replies.
-use Rattle.std.specs.Prelude.{ℕ, true, false, List, [], ◌∷◌, ◌++◌, length, codes}
+use Rattle.std.specs.Prelude.{◌≢◌, ℕ, true, false, List, [], ◌∷◌, ◌++◌, length, codes, Result, Ok, Err}
 use Rattle.std.specs.Fmt.{decimal}
 use Rattle.hex.specs.Hex.{encode_lower}
 use Rattle.node_layout.specs.declared.damage.Kind.{Kind}
 use Rattle.node_layout.specs.declared.damage.Kind.TheVariants as kinds
+use Rattle.pf_io.specs.Streams.{SinkState}
+use Rattle.pf_io.specs.Writing.{WroteAll, SinkFailed}
 use Rattle.pf_script.specs.declared.reply.Reply.{Reply}
 use Rattle.pf_script.specs.declared.reply.Reply.TheVariants as replies
 use Rattle.pf_script.specs.declared.reply.Why.{Why}
@@ -70,3 +72,8 @@ reply_text (replies.DamagedNode damage) = ended (codes "damaged node " ++ decima
 reply_text (replies.DamagedChunk chunk) = ended (codes "damaged chunk " ++ decimal chunk)
 reply_text replies.HostFault = ended (codes "host fault")
 reply_text replies.WordsFault = ended (codes "random fault")
+
+-- A text was said: it was written, or the sink failed in it, which it cannot in an empty one.
+abbrev pub Said : {T E : Type 0} → Result T E → List ℕ → SinkState → SinkState → Type 0
+Said (Ok value) text old new = WroteAll text old new
+Said (Err fault) text old new = (text ≢ []) × SinkFailed text old new

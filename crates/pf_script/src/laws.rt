@@ -1,23 +1,30 @@
 //! A line has one reading; what the calls of a step keep of a book; what a script comes to over files; the definitions on examples.
 ghost use Rattle.std.specs.Prelude.{◌≡◌, ◌∷◌, [], ℕ, true, false, List, Some, None, codes, replicate};
 ghost use Rattle.pf_script.specs.declared.line.ScriptLine.{ScriptLine};
-ghost use Rattle.pf_script.specs.declared.line.ScriptLine.TheVariants.{Read};
+ghost use Rattle.pf_script.specs.declared.line.ScriptLine.TheVariants.{Open, Read, Move as MoveTo, Close};
 ghost use Rattle.pf_script.specs.declared.reply.Reply.TheVariants.{Written};
 ghost use Rattle.pf_script.specs.Lines.{lines_of};
 ghost use Rattle.pf_script.specs.ScriptLines.{IsScriptLine};
 ghost use Rattle.pf_script.specs.Replies.{reply_text};
 ghost use Rattle.pf_io.specs.Disk.{Disk};
+ghost use Rattle.pf_io.specs.Host.{LengthWas, Gave};
 ghost use Rattle.pf_script.specs.Book.{Book, Agrees, Alone, Partner};
-ghost use Rattle.pf_script.specs.BookExamples.{book_of_flushes, book_of_a_move, book_after_it};
+ghost use Rattle.pf_script.specs.BookActs.{Flush, Move};
+ghost use Rattle.pf_script.specs.BookExamples.{seal_at, book_of_flushes, book_of_a_move, book_after_it, seat_with, two_seats};
 ghost use Rattle.pf_script.specs.BookLaws.{KeepsBook, StartsWith};
+ghost use Rattle.pf_script.specs.BookTurns.{MadeBy};
 ghost use Rattle.pf_script.specs.FileRuns.{OneRun};
+ghost use Rattle.pf_script.specs.FileTurns.{answers_of};
+ghost use Rattle.pf_script.specs.Script.{Own};
+ghost use Rattle.pf_script.specs.ScriptRuns.{closings};
 
 /// Bytes are one line at most.
 pub fn text_has_one_reading()
     ensures { (text : List ℕ) (line other : ScriptLine) → IsScriptLine text line → IsScriptLine text other → line ≡ other }
 {}
 
-/// The definitions on an input of three lines, one line, one reply, and three books.
+/// The definitions on an input of three lines, one line, one reply, three books, the answers of an absent file and of one
+/// of two bytes, the deeds of a move, and the closings of two seats.
 pub fn definitions_on_examples()
     ensures lines { lines_of (codes "a\n\nb") ≡ codes "a" ∷ [] ∷ codes "b" ∷ [] }
     ensures line { IsScriptLine (codes "read 0 6 1") (Read 0 6 1) }
@@ -26,6 +33,12 @@ pub fn definitions_on_examples()
     ensures old_name { book_of_a_move (codes "a") ≡ Some (Partner (replicate 16 7) (1 ∷ []) (codes "b")) }
     ensures new_name { book_of_a_move (codes "b") ≡ Some (Partner (replicate 16 7) (1 ∷ []) (codes "a")) }
     ensures freed { book_after_it (codes "a") ≡ Some (Alone (replicate 16 7) (Some (1 ∷ [])) None false) }
+    ensures absent { answers_of (λ name. None) (Open 0 (codes "a")) ≡ LengthWas (codes "a") None ∷ [] }
+    ensures present { answers_of (λ name. Some (5 ∷ 6 ∷ [])) (Open 0 (codes "a")) ≡ LengthWas (codes "a") (Some 2) ∷ Gave (codes "a") 0 4096 (5 ∷ 6 ∷ []) ∷ [] }
+    ensures moves { MadeBy (MoveTo 0 (codes "b")) (Own (seat_with (codes "a") [])) (Move (codes "a") (seal_at (codes "b") [])) }
+    ensures flushes_itself { MadeBy (MoveTo 0 (codes "b")) (Own (seat_with (codes "a") [])) (Flush (seal_at (codes "a") [])) }
+    ensures no_other { ¬ (MadeBy (MoveTo 0 (codes "b")) (Own (seat_with (codes "a") [])) (Move (codes "b") (seal_at (codes "b") []))) }
+    ensures closes { closings 8 0 two_seats ≡ Close 0 ∷ Close 7 ∷ [] }
 {}
 
 /// What the calls of a step do to an honest disk keeps every book that agrees with it, at every moment of the step and

@@ -4,7 +4,7 @@ ghost use Rattle.std.specs.Fmt.{decimal};
 ghost use Rattle.hex.specs.Hex.{encode_lower};
 ghost use Rattle.pf_io.specs.Writing.{Written};
 ghost use Rattle.pf_script.specs.declared.reply.Reply.TheVariants.{Written as WroteSome};
-ghost use Rattle.pf_script.specs.Replies.{ended, kind_word, given_words, why_words, reply_text};
+ghost use Rattle.pf_script.specs.Replies.{ended, kind_word, given_words, why_words, reply_text, Said};
 
 use crate::{Reply, Why};
 use itoa::Buffer;
@@ -155,9 +155,9 @@ fn write_written<K: Sink>(out: &mut K, count: u64, flushed: bool) -> Result<(), 
     write_number(out, "ok write ", count)
 }
 
-/// Prints a reply: one line, or nothing for `Reply::None`.
+/// Prints a reply: one line. Nothing is asked of the sink for `Reply::None`.
 pub fn write_reply<K: Sink>(out: &mut K, reply: &Reply) -> Result<(), StreamFault>
-    ensures { Written result (reply_text reply.now) (K.state out.old) (K.state out.new) }
+    ensures { Said result (reply_text reply.now) (K.state out.old) (K.state out.new) }
 {
     match reply {
         Reply::None => Ok(()),

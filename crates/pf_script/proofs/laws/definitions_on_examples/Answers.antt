@@ -35,3 +35,21 @@ returns-clause-new_name c = refl
 
 pub returns-clause-freed : goal.returns-clause-freed
 returns-clause-freed c = refl
+
+pub returns-clause-absent : goal.returns-clause-absent
+returns-clause-absent c = refl
+
+pub returns-clause-present : goal.returns-clause-present
+returns-clause-present c = refl
+
+pub returns-clause-closes : goal.returns-clause-closes
+returns-clause-closes c = refl
+
+pub returns-clause-moves : goal.returns-clause-moves
+returns-clause-moves c = (refl, refl)
+
+pub returns-clause-flushes_itself : goal.returns-clause-flushes_itself
+returns-clause-flushes_itself c = refl
+
+pub returns-clause-no_other : goal.returns-clause-no_other
+returns-clause-no_other c both = omega (arith, both.0)
