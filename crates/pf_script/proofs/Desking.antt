@@ -1,6 +1,6 @@
 -- A line on one seat of a desk, as one on the desk.
 use Rattle.std.proofs.Common.{◌≡◌, ◌≢◌, ◌⊎◌, inl, inr, ⊎_elim, Bool, true, false, List, [], ◌++◌, ℕ, ◌<◌, refl, sym, ◌∙◌, ap, subst, Option, Some, None, Result, Ok, Err, set, length}
-use Rattle.std.specs.Prelude.{IsTrue, ◌↔◌, IfSome}
+use Rattle.std.specs.Prelude.{IsTrue, ◌↔◌, IfSome, IsSomeAnd}
 use Rattle.std.proofs.lemmas.Bool.Decides.{eqb_tells}
 use Rattle.std.proofs.lemmas.List.{get_or-set_same, get_or-set_other, length-set}
 use Rattle.std.proofs.lemmas.Option.{IfSome_then}
@@ -16,7 +16,7 @@ use Rattle.pf_script.specs.Book.{Book, Seal}
 use Rattle.pf_script.specs.BookActs.{Act}
 use Rattle.pf_script.specs.BookSeats.{Covers, CoversEach, CoversBoth, KeepsUnder}
 use Rattle.pf_script.specs.Desk.{DeskState, session_at, IsSeated, IsSeatOf, IsDesk, Shows, IsStateOf}
-use Rattle.pf_script.specs.DeskSteps.{Unfolds, in_the_end, then_more, SeatAsks, Asks, HasItsName, OtherHas, Concerns, ConcernsDesk, CoversSome, CoversDesk, KeepsNames, KeepsSession, NothingDone, IsBrokenSession, BreaksSeat, SeatIdle, FlushesUnder, SeatWants, Wants, WhereWanting, WhereReplied, SeatGoes, DeskGoes}
+use Rattle.pf_script.specs.DeskSteps.{Unfolds, in_the_end, then_more, SeatAsks, Asks, HasItsName, OtherHas, Concerns, ConcernsDesk, CoversSome, CoversDesk, KeepsNames, KeepsSession, NothingDone, IsChange, IsBrokenSession, Admits, BreaksSeat, SeatIdle, FlushesUnder, SeatWants, Wants, WhereWanting, WhereReplied, SeatGoes, DeskGoes}
 use Rattle.pf_script.specs.Script.{Seat, Empty, ScriptState, seat_at, HasThisName, IsTaken, state_with, seat_of_line, name_of_line}
 use Rattle.pf_script.specs.Turns.{SeatTurn, on_seat, on_carried, SaysTaken}
 use Rattle.pf_script.specs.Words.{SEATS}
@@ -60,10 +60,6 @@ seated_of key o s is seated = subst (λ (x : Option SessionState). IsSeatOf key 
 
 pub has_name_of : (o : Option SessionState) (s : SessionState) → o ≡ Some s → HasItsName o s.name
 has_name_of o s is = subst (λ (x : Option SessionState). HasItsName x s.name) (sym is) refl
-
-broken_at : (o : Option SessionState) → IsBrokenSession o → (s : SessionState) × (o ≡ Some s) × (s.broken ≡ true)
-broken_at None none = absurd none
-broken_at (Some s) broken = (s, refl, broken)
 
 -- the name that a line gives is taken where another seat has it
 abbrev pub SaysOther : DeskState → ℕ → Option Name → Bool → Type 0
@@ -190,7 +186,7 @@ module _ (old : DeskState) (desk : IsDesk old) (k : ℕ) (below : k < SEATS) (ta
     wants_on wants = record {
       takes = wants.takes;
       told = wants.told;
-      ends = ⊎_elim (λ idle. inl (nothing idle)) (λ breaks. inr (breaks.0, broken breaks.1)) wants.ends;
+      ends = ⊎_elim (λ idle. inl (nothing idle)) (λ breaks. inr (broken breaks.0 breaks.1 breaks.2)) wants.ends;
       flushes = λ j session is_seat is. flushed j session (same_seat j (sym is_seat ∙ names)) is;
       others = λ j other. off j (λ e. other (names ∙ ap (λ (i : ℕ). Some i) (sym e)));
     }
@@ -211,12 +207,12 @@ module _ (old : DeskState) (desk : IsDesk old) (k : ℕ) (below : k < SEATS) (ta
         same_seat : (j : ℕ) → ◌≡◌ {A = Option ℕ} (Some j) (Some k) → j ≡ k
         same_seat j is = cc
 
-        flushed : (j : ℕ) (session : SessionState) → j ≡ k → session_at old j ≡ Some session → OnDisk before after (FlushesUnder session)
+        flushed : (j : ℕ) (session : SessionState) → j ≡ k → session_at old j ≡ Some session → OnDisk before after (FlushesUnder line session)
         flushed j session same is =
             wants.flushes session (subst (λ i. session_at old i ≡ Some session) same is)
 
-        broken : IsBrokenSession left → BreaksSeat line new
-        broken is = let at = broken_at left is in (k, at.0, names, here ∙ at.1, at.2)
+        broken : IsChange line → IsBrokenSession left → IsSomeAnd (session_at old k) (Admits line) → BreaksSeat line old new
+        broken change is admitted = record { change = change; seat = k; is_seat = names; broken = subst (λ (o : Option SessionState). IsBrokenSession o) (sym here) is; admitted = admitted }
 
     all_wants : (r : Result Reply Memory) → WhereWanting r (SeatWants line (session_at old k) left before after random random') → WhereWanting r (Wants line old new before after random random')
     all_wants (Ok reply) wants = tt
