@@ -239,7 +239,7 @@ module _ (old : DeskState) (desk : IsDesk old) (k : ℕ) (below : k < SEATS) (ta
             wants.flushes session (subst (λ i. session_at old i ≡ Some session) same is)
 
         broken : IsChange line → IsBrokenSession left → IsSomeAnd (session_at old k) (Admits line) → BreaksSeat line old new
-        broken change is admits = record { change = change; seat = k; is_seat = names; broken = subst IsBrokenSession (sym here) is; admitted = admits }
+        broken change is admitted = record { change = change; seat = k; is_seat = names; broken = subst (λ (o : Option SessionState). IsBrokenSession o) (sym here) is; admitted = admitted }
 
     all_wants : (r : Result Reply Memory) → WhereWanting r (SeatWants line (session_at old k) left before after random random') → WhereWanting r (Wants line old new before after random random')
     all_wants (Ok reply) wants = tt
