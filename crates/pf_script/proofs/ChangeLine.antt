@@ -19,7 +19,7 @@ use Rattle.pf_session.specs.declared.fault.FlushFault.{FlushFault}
 use Rattle.pf_session.specs.declared.fault.Written.{Written}
 use Rattle.pf_script.specs.BookSeats.{Covers, KeepsUnder}
 use Rattle.pf_script.specs.Desk.{IsSeated, seat_on, IsLikeOwn}
-use Rattle.pf_script.specs.DeskSteps.{in_the_end, CountsFault, SeatAsks, SeatCaused, IsChange, TakesNone, FlushesUnder, SeatGoes, is_host_fault, is_words_fault}
+use Rattle.pf_script.specs.DeskSteps.{in_the_end, CountsFault, SeatAsks, SeatCaused, IsChange, TakesNone, FlushesUnder, Admits, SeatGoes, is_host_fault, is_words_fault}
 use Rattle.pf_script.specs.Rules.{NoneRefuses, rules}
 use Rattle.pf_script.specs.Script.{OwnSeat, Seat, Own}
 use Rattle.pf_script.specs.SeatReplies.{flush_reply}
@@ -215,9 +215,9 @@ module _ (key : List ℕ) (line : ScriptLine) (old new : SessionState) (whole : 
         }) told
 
   module _ (before after : HostState) (random random' : WordsState) (aside : Aside old.name before after) (books : OnDisk before after (KeepsUnder (Covers old) (Covers new) (λ name. name ≡ old.name))) (seated : IsSeated key new) (name_is : new.name ≡ old.name)
-      (takes : ¬ (TakesNone line)) (changes : IsChange line) (calm : (flushed : Bool) → (is_host_fault (replied flushed) ≡ false) × (is_words_fault (replied flushed) ≡ false))
+      (takes : ¬ (TakesNone line)) (changes : IsChange line) (admits : Admits line old) (calm : (flushed : Bool) → (is_host_fault (replied flushed) ≡ false) × (is_words_fault (replied flushed) ≡ false))
       (so : (flushed : Bool) (seat : Seat) (given : List Answer) → NoneRefuses (rules key false seat line given) → Caused key false seat line given (replied flushed)) where
-    pub line_goes : (outcome : Outcome) → ChangeSeen step old new outcome before after random random' → (outcome ≡ Wanted → (new.broken ≡ true) × OnDisk before after (FlushesUnder old)) → SeatGoes key false line (outcome_reply replied outcome) (Some old) (Some new) before after random random'
+    pub line_goes : (outcome : Outcome) → ChangeSeen step old new outcome before after random random' → (outcome ≡ Wanted → (new.broken ≡ true) × OnDisk before after (FlushesUnder line old)) → SeatGoes key false line (outcome_reply replied outcome) (Some old) (Some new) before after random random'
     line_goes (Went flushed) seen breaks =
         goes_told key false line old before after random random' aside (replied flushed)
         (subst (λ b. CountsFault b before.faults after.faults) (sym (calm flushed).0) seen.on_host, subst (λ b. CountsFault b random.faults random'.faults) (sym (calm flushed).1) seen.on_words) new
@@ -249,6 +249,6 @@ module _ (key : List ℕ) (line : ScriptLine) (old new : SessionState) (whole : 
         (record {
           takes = takes;
           told = told_weaker (λ given. ChangeTold step old new given seen.words Wanted) (λ given. Unit {0}) before after seen.told (λ given facts. tt);
-          ends = inr (changes, (breaks refl).0);
-          flushes = λ session is. flushes_of old session before after is (breaks refl).1;
+          ends = inr (changes, (breaks refl).0, admits);
+          flushes = λ session is. flushes_of line old session before after is (breaks refl).1;
         }) books seated name_is seen.on_host seen.on_words

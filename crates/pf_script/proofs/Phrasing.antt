@@ -1,5 +1,5 @@
 -- Texts that are written part by part.
-use Rattle.std.proofs.Common.{◌≡◌, ◌≢◌, ◌∙◌, ℕ, ◌/◌, ◌%◌, List, [], ◌∷◌, ◌++◌, length, refl, sym, ap, subst, Result, Err, append_assoc, codes, decimal, slice_index}
+use Rattle.std.proofs.Common.{◌≡◌, ◌≢◌, ◌∙◌, ℕ, ◌/◌, ◌%◌, Bool, true, false, List, [], ◌∷◌, ◌++◌, length, refl, sym, ap, subst, Result, Ok, Err, append_assoc, codes, decimal, slice_index}
 use Rattle.std.proofs.lemmas.List.{append-nil}
 use Rattle.hex.specs.Hex.{encode_with, encode_lower, lower_digits}
 use Rattle.pf_io.specs.Streams.{SinkState}
@@ -8,7 +8,8 @@ use Rattle.pf_io.specs.declared.faults.StreamFault.{StreamFault}
 use Rattle.pf_io.proofs.Writing.{wrote_both, failed_first, failed_second, written_second}
 use Rattle.pf_io.specs.Host.{Both, IsMore}
 use Rattle.std.proofs.Common.{Option, Some, None}
-use Rattle.pf_script.specs.Replies.{given_words}
+use Rattle.pf_script.specs.Replies.{ended, given_words, reply_text, Said}
+use Rattle.pf_script.specs.declared.reply.Reply.TheVariants as replies
 
 -- the first part failed
 pub part_fails : (fault : StreamFault) (first rest whole : List ℕ) (old new : SinkState) → whole ≡ first ++ rest → SinkFailed first old new → Written {T = Unit {0}} (Err fault) whole old new
@@ -67,3 +68,17 @@ four_parts a b c d end = simp append_assoc
 pub given_some : (bytes : List ℕ) → length bytes ≢ 0 → given_words bytes ≡ codes "ok read " ++ decimal (length bytes) ++ codes " " ++ encode_lower bytes
 given_some [] some = absurd (some refl)
 given_some (byte ∷ bytes) some = refl
+
+-- a line is no empty text
+ended_some : (text : List ℕ) → ended text ≢ []
+ended_some [] none = absurd (cc)
+ended_some (byte ∷ text) none = absurd (cc)
+
+-- so it is said where it is written
+pub said_line : (r : Result (Unit {0}) StreamFault) (text : List ℕ) (old new : SinkState) → Written r (ended text) old new → Said r (ended text) old new
+said_line (Ok done) text old new wrote = wrote
+said_line (Err fault) text old new failed = (ended_some text, failed)
+
+pub said_written : (r : Result (Unit {0}) StreamFault) (count : ℕ) (flushed : Bool) (old new : SinkState) → Written r (reply_text (replies.Written count flushed)) old new → Said r (reply_text (replies.Written count flushed)) old new
+said_written r count false old new written = said_line r (codes "ok write " ++ decimal count) old new written
+said_written r count true old new written = said_line r (codes "ok write " ++ decimal count ++ codes " flushed") old new written

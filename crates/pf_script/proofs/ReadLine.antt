@@ -207,8 +207,8 @@ module _ (key : List ℕ) (k at count : ℕ) (old : SessionState) (seated : IsSe
         (record {
           takes = λ none. none;
           told = told_weaker (ReadFacts (Err trees.Memory) at buffer old new) (λ given. Unit {0}) before after told (λ given facts. tt);
-          ends = inl (record { seat = fields; disk = disk; words = refl });
-          flushes = λ session is. kept_flushes session before after disk;
+          ends = inl (record { seat = record { fields = fields; tree = reads.rest; held = reads.fetched.kept }; disk = disk; words = refl });
+          flushes = λ session is. kept_flushes (lines.Read k at count) session before after disk;
         }) books seated_new
         (ap (λ (s : SessionState). s.name) fields) cause.still refl
 

@@ -78,7 +78,7 @@ module _ (key : List ℕ) (taken : Bool) (line : ScriptLine) (why : Why) (old : 
 -- a session is kept
 pub keeps_same : (old : Option SessionState) → KeepsSession old old
 keeps_same None = refl
-keeps_same (Some own) = refl
+keeps_same (Some own) = record { fields = refl; tree = refl; held = λ k plain held. held }
 
 -- memory was wanting before anything was done
 pub nothing_wanting : (key : List ℕ) (taken : Bool) (line : ScriptLine) (fault : Memory) (old : Option SessionState) (host : HostState) (words : WordsState) → ¬ (TakesNone line) → IsSeatOf key old
@@ -92,7 +92,7 @@ nothing_wanting key taken line fault old host words takes seated = record {
     takes = takes;
     told = told_by (λ given. Unit {0}) [] host host (told_none host host refl) tt;
     ends = inl (record { seat = keeps_same old; disk = still; words = refl });
-    flushes = λ session is. kept_flushes session host host still;
+    flushes = λ session is. kept_flushes line session host host still;
   };
   seated = seated;
   named = λ name has. inl has;

@@ -18,9 +18,9 @@ use Rattle.pf_session.specs.declared.fault.SizeFault.{SizeFault}
 use Rattle.pf_session.specs.declared.fault.SizeFault.TheVariants as sizes
 use Rattle.pf_session.specs.declared.fault.Written.{Written}
 use Rattle.pf_script.specs.Desk.{IsSeated, seat_on, IsLikeOwn}
-use Rattle.pf_script.specs.DeskSteps.{CountsFault, SeatAsks, FlushesUnder, SeatGoes}
+use Rattle.pf_script.specs.DeskSteps.{CountsFault, SeatAsks, FlushesUnder, Admits, SeatGoes}
 use Rattle.pf_script.specs.Rules.{NoneRefuses, rules, refuses}
-use Rattle.pf_script.specs.Script.{OwnSeat, Own}
+use Rattle.pf_script.specs.Script.{OwnSeat, Seat, Own}
 use Rattle.pf_script.specs.SeatReplies.{flush_reply, size_reply, IsNoLimit, IsNextSize, SizesGo, set_last, set_failed, set_piece}
 use Rattle.pf_script.specs.SeatSteps.{LARGEST, IsResize}
 use Rattle.pf_script.specs.Turns.{Blame}
@@ -31,7 +31,7 @@ use Rattle.pf_script.specs.declared.reply.Why.TheVariants as whys
 use Rattle.pf_script.proofs.ChangeLine.{outcome_reply, none_made, passed_cause, broken_cause}
 use Rattle.pf_script.proofs.ChangeTold.{Outcome, Went, Broke, Lacked, Wanted, host_in, words_in, OutcomeCame}
 use Rattle.pf_script.proofs.Flushed.{host_blamed, fault_of, length_now}
-use Rattle.pf_script.proofs.Liking.{like_on}
+use Rattle.pf_script.proofs.Liking.{like_some}
 use Rattle.pf_script.proofs.Refusing.{none_then}
 use Rattle.pf_script.proofs.SeatCalls.{seen_by, SheetTurns, whole_turns, host_reply, words_reply, goes_told, goes_wanting}
 use Rattle.pf_script.proofs.SizeSeen.{sized, size_result, never_refused, SizeSeen, size_seen}
@@ -66,11 +66,22 @@ no_limit size fault result _ _ _ _ _ _ small is (set_failed other n old new befo
 no_limit size fault result _ _ _ _ _ _ small is (set_piece written old mid new before between after random random' random'' far sets rest) = no_limit size fault result mid new between after random' random'' small is rest
 
 module _ (key : List ℕ) (k size : ℕ) (small : size ≤ 2 ^ 32) (old new : SessionState) (whole : old.broken ≡ false) where
+  passes_own : (any_key : List ℕ) (taken : Bool) (own : OwnSeat) → own.broken ≡ false → (given : List Answer) → NoneRefuses (rules any_key taken (Own own) (lines.Size k size) given)
+  passes_own any_key taken own own_whole given = none_then (refuses whys.TooLarge (LARGEST < size) ∷ []) (Own own) own refl own_whole ((λ why too_large. omega (arith, too_large.1, small)), tt)
+
   like_passes : (own : OwnSeat) → IsLikeOwn own old → (given : List Answer) → NoneRefuses (rules key false (Own own) (lines.Size k size) given)
-  like_passes own like given = none_then (refuses whys.TooLarge (LARGEST < size) ∷ []) (Own own) own refl (like.broken_is ∙ whole) ((λ other too_large. omega (arith, too_large.1, small)), tt)
+  like_passes own like = passes_own key false own (like.broken_is ∙ whole)
 
   pub line_passes : (base : Sheet) (given : List Answer) → NoneRefuses (rules key false (Own (seat_on base old)) (lines.Size k size) given)
-  line_passes base = like_passes (seat_on base old) (like_on base old)
+  line_passes base = passes_own key false (seat_on base old) whole
+
+  admits : Admits (lines.Size k size) old
+  admits = record {
+    whole = whole;
+    none = λ any_key taken seat like.
+        let at = like_some seat old like in
+        subst (λ (s : Seat). NoneRefuses (rules any_key taken s (lines.Size k size) [])) (sym at.seat_is) (passes_own any_key taken at.own (at.like.broken_is ∙ whole) []);
+  }
 
   pub goes_on_now : (base : Sheet) (steps : List Step) → IsResize size old.tree.size steps → IsResize size (length (now base old.tree)) steps
   goes_on_now base steps is = subst (λ n. IsResize size n steps) (sym (length_now base old.tree)) is
@@ -107,7 +118,7 @@ module _ (key : List ℕ) (k size : ℕ) (small : size ≤ 2 ^ 32) (old new : Se
         [] [] [] base (none_made sealed base old among linked kept whole) (goes_on_now base) [] refl refl
 
   module _ (result : Result (Unit {0}) SizeFault) (before after : HostState) (random random' : WordsState) (seen : SizeSeen key size small result old new before after random random')
-      (flushes : seen.outcome ≡ Wanted → OnDisk before after (FlushesUnder old)) where
+      (flushes : seen.outcome ≡ Wanted → OnDisk before after (FlushesUnder (lines.Size k size) old)) where
     came_as : (outcome : Outcome) → seen.outcome ≡ outcome → OutcomeCame old.name outcome before after
     came_as outcome is = subst (λ (o : Outcome). OutcomeCame old.name o before after) is seen.came
 
@@ -164,8 +175,8 @@ module _ (key : List ℕ) (k size : ℕ) (small : size ≤ 2 ^ 32) (old new : Se
         (record {
           takes = λ none. none;
           told = told_weaker (λ given. SizeTold size old new given seen.words seen.outcome) (λ given. Unit {0}) before after seen.told (λ given facts. tt);
-          ends = inr (tt, seen.breaks is);
-          flushes = λ session same. flushes_of old session before after same (flushes is);
+          ends = inr (tt, seen.breaks is, admits);
+          flushes = λ session same. flushes_of (lines.Size k size) old session before after same (flushes is);
         }) seen.books seen.seated_new seen.name_is
         (subst (λ (o : Outcome). CountsFault (host_in o) before.faults after.faults) is seen.on_host) (subst (λ (o : Outcome). CountsFault (words_in o) random.faults random'.faults) is seen.on_words)
 
@@ -181,5 +192,5 @@ size_goes key k size old new result before after random random' small seated who
     subst (λ (r : Result Reply Memory). SeatGoes key false (lines.Size k size) r (Some old) (Some new) before after random random') seen.reply_is
     (by_outcome key k size small old new whole result before after random random' seen
     (λ wants.
-    flushed_under Any old new before after
-    (size_flushes result size (λ fault is. no_flush_wants fault (sym (ap (outcome_reply (sized size)) wants) ∙ seen.reply_is ∙ ap (size_result size) is)) seated.of_script goes)) seen.outcome refl)
+    flushed_under (lines.Size k size) Any old new before after
+    (size_flushes k size result (λ fault is. no_flush_wants fault (sym (ap (outcome_reply (sized size)) wants) ∙ seen.reply_is ∙ ap (size_result size) is)) seated.of_script goes)) seen.outcome refl)

@@ -22,7 +22,7 @@ use Rattle.pf_session.specs.declared.fault.WriteFault.TheVariants as writes
 use Rattle.pf_session.specs.declared.fault.Written.{Written}
 use Rattle.pf_script.specs.BookSeats.{Covers, KeepsUnder}
 use Rattle.pf_script.specs.Desk.{IsSeated, seat_on, IsLikeOwn}
-use Rattle.pf_script.specs.DeskSteps.{IsChange, TakesNone, FlushesUnder, SeatGoes}
+use Rattle.pf_script.specs.DeskSteps.{IsChange, TakesNone, FlushesUnder, Admits, SeatGoes}
 use Rattle.pf_script.specs.Rules.{IsFirst, NoneRefuses, rules, seated_rules, writing_rules}
 use Rattle.pf_script.specs.Script.{OwnSeat, Seat, Own}
 use Rattle.pf_script.specs.SeatReplies.{write_reply}
@@ -37,8 +37,8 @@ use Rattle.pf_script.specs.declared.reply.Why.TheVariants as whys
 use Rattle.pf_script.proofs.ChangeKeeping.{change_keeps}
 use Rattle.pf_script.proofs.ChangeLine.{outcome_reply, change_seated, none_made, line_goes}
 use Rattle.pf_script.proofs.ChangeTold.{Grew, Outcome, Wanted, outcome_of, flush_outcome, ChangeSeen, seen_once, seen_unflushed, seen_after}
-use Rattle.pf_script.proofs.Flushed.{flush_case}
-use Rattle.pf_script.proofs.Liking.{like_on, like_some}
+use Rattle.pf_script.proofs.Flushed.{flush_case, length_now}
+use Rattle.pf_script.proofs.Liking.{like_some}
 use Rattle.pf_script.proofs.OfScript.{of_flushed}
 use Rattle.pf_script.proofs.Refusing.{refused_goes, first_then, none_then, at_last, none_taken, same_keeps}
 use Rattle.pf_script.proofs.SeatCalls.{seen_by, whole_turns, goes_on}
@@ -67,9 +67,9 @@ module _ (at : ℕ) (bytes : List ℕ) where
   write_first _ _ (plain k) key seat given why first = first
   write_first _ _ (copies k count byte same) key seat given why first = first
 
-  pub write_passes : (line : ScriptLine) (count : ℕ) → IsWriteLine at bytes line count → (key : List ℕ) (seat : Seat) (given : List Answer) → NoneRefuses (seated_rules seat ++ writing_rules seat at count) → NoneRefuses (rules key false seat line given)
-  write_passes _ _ (plain k) key seat given passes = passes
-  write_passes _ _ (copies k count byte same) key seat given passes = passes
+  pub write_passes : (line : ScriptLine) (count : ℕ) → IsWriteLine at bytes line count → (key : List ℕ) (taken : Bool) (seat : Seat) (given : List Answer) → NoneRefuses (seated_rules seat ++ writing_rules seat at count) → NoneRefuses (rules key taken seat line given)
+  write_passes _ _ (plain k) key taken seat given passes = passes
+  write_passes _ _ (copies k count byte same) key taken seat given passes = passes
 
   pub write_takes : (line : ScriptLine) (count : ℕ) → IsWriteLine at bytes line count → ¬ (TakesNone line)
   write_takes _ _ (plain k) none = none
@@ -167,11 +167,10 @@ module _ (key : List ℕ) (at : ℕ) (bytes : List ℕ) (line : ScriptLine) (cou
 
   -- no rule refuses
   module _ (free : (fault : WriteFault) → ¬ (WriteRefused at (length bytes) old.tree.size fault)) where
-    pub like_passes : (own : OwnSeat) → IsLikeOwn own old → (given : List Answer) → NoneRefuses (rules key false (Own own) line given)
-    like_passes own like given =
-        write_passes at bytes line count is_line key (Own own) given
-        (none_then (writing_rules (Own own) at count) (Own own) own refl (like.broken_is ∙ whole)
-        ((λ other refuses. not_long refuses.1), ((λ other refuses. not_large refuses.1), ((λ other refuses. not_past other refuses), tt))))
+    passes_own : (any_key : List ℕ) (taken : Bool) (own : OwnSeat) → own.broken ≡ false → length own.content ≡ old.tree.size → (given : List Answer) → NoneRefuses (rules any_key taken (Own own) line given)
+    passes_own any_key taken own own_whole as_large given =
+        write_passes at bytes line count is_line any_key taken (Own own) given
+        (none_then (writing_rules (Own own) at count) (Own own) own refl own_whole ((λ why refuses. not_long refuses.1), ((λ why refuses. not_large refuses.1), ((λ why refuses. not_past why refuses), tt))))
       where
         not_long : ¬ (32768 < count)
         not_long long = free writes.TooLong (subst (λ n. 32768 < n) count_is long)
@@ -185,11 +184,22 @@ module _ (key : List ℕ) (at : ℕ) (bytes : List ℕ) (line : ScriptLine) (cou
         small : at + length bytes ≤ 2 ^ 32
         small = omega (arith, not_large, count_is)
 
-        not_past : (other : Why) → ¬ ((size : ℕ) × (size ≡ length own.content) × (size < at) × (other ≡ whys.PastEnd size))
-        not_past other past = free (writes.PastEnd old.tree.size) (few, small, subst (λ n. n < at) (past.1 ∙ like.as_large whole) past.2, refl)
+        not_past : (why : Why) → ¬ ((size : ℕ) × (size ≡ length own.content) × (size < at) × (why ≡ whys.PastEnd size))
+        not_past why past = free (writes.PastEnd old.tree.size) (few, small, subst (λ n. n < at) (past.1 ∙ as_large) past.2, refl)
+
+    like_passes : (own : OwnSeat) → IsLikeOwn own old → (given : List Answer) → NoneRefuses (rules key false (Own own) line given)
+    like_passes own like = passes_own key false own (like.broken_is ∙ whole) (like.as_large whole)
 
     pub passes : (base : Sheet) (given : List Answer) → NoneRefuses (rules key false (Own (seat_on base old)) line given)
-    passes base = like_passes (seat_on base old) (like_on base old)
+    passes base = passes_own key false (seat_on base old) whole (length_now base old.tree)
+
+    admits : Admits line old
+    admits = record {
+      whole = whole;
+      none = λ any_key taken seat like.
+          let at = like_some seat old like in
+          subst (λ (s : Seat). NoneRefuses (rules any_key taken s line [])) (sym at.seat_is) (passes_own any_key taken at.own (at.like.broken_is ∙ whole) (at.like.as_large whole) []);
+    }
 
     -- an empty write
     empty_goes : bytes ≡ [] → (host : HostState) (words : WordsState) → SeatGoes key false line (Ok (replies.Written count false)) (Some old) (Some old) host host words words
@@ -205,10 +215,10 @@ module _ (key : List ℕ) (at : ℕ) (bytes : List ℕ) (line : ScriptLine) (cou
 
     -- a write of some bytes
     some_goes : bytes ≢ [] → (new : SessionState) (before after : HostState) (random random' : WordsState) → Aside old.name before after → OnDisk before after (KeepsUnder (Covers old) (Covers new) (λ name. name ≡ old.name)) → IsSeated key new → new.name ≡ old.name
-        → (outcome : Outcome) → ChangeSeen (Write at bytes) old new outcome before after random random' → (outcome ≡ Wanted → (new.broken ≡ true) × OnDisk before after (FlushesUnder old)) → SeatGoes key false line (outcome_reply (written count) outcome) (Some old) (Some new) before after random random'
+        → (outcome : Outcome) → ChangeSeen (Write at bytes) old new outcome before after random random' → (outcome ≡ Wanted → (new.broken ≡ true) × OnDisk before after (FlushesUnder line old)) → SeatGoes key false line (outcome_reply (written count) outcome) (Some old) (Some new) before after random random'
     some_goes some new before after random random' aside books seated_new name_is =
         line_goes key line old new whole (Write at bytes) (written count) (λ size. write_asks at bytes line count is_line size (Write at bytes ∷ []) (at_place some refl)) replied like_passes before after random random' aside books seated_new name_is
-        (write_takes at bytes line count is_line) (write_changes at bytes line count is_line) (λ flushed. (refl, refl)) (λ flushed seat given free_of. free_of)
+        (write_takes at bytes line count is_line) (write_changes at bytes line count is_line) admits (λ flushed. (refl, refl)) (λ flushed seat given free_of. free_of)
       where
         replied : (flushed : Bool) (sheets : List Sheet) → Grew flushed [] sheets → IsChangeReply sheets line (replies.Written count flushed)
         replied false sheets grew = subst (λ (s : List Sheet). IsChangeReply s line (replies.Written count false)) (sym grew) (write_replies at bytes line count is_line [])
@@ -222,10 +232,10 @@ write_goes key at bytes line count is_line old new result before after random ra
     books = change_keeps old seated.of_script WriteFault (WriteRefused at (length bytes) old.tree.size) (bytes ≡ []) write_of_flush write_of_tree (Write at bytes) result new before after random random' whole goes aside reads
 
     -- where memory was wanting
-    flushes : (outcome : Outcome) → outcome_reply (written count) outcome ≡ write_reply count result → outcome ≡ Wanted → OnDisk before after (FlushesUnder old)
+    flushes : (outcome : Outcome) → outcome_reply (written count) outcome ≡ write_reply count result → outcome ≡ Wanted → OnDisk before after (FlushesUnder line old)
     flushes outcome replied wants =
-        flushed_under Any old new before after
-        (change_flushes Any old seated.of_script WriteFault (WriteRefused at (length bytes) old.tree.size) (bytes ≡ []) write_of_flush write_of_tree (Write at bytes) result new before after random random' (λ content. tt) (λ content long. tt) whole
+        flushed_under line Any old new before after
+        (change_flushes line Any old seated.of_script WriteFault (WriteRefused at (length bytes) old.tree.size) (bytes ≡ []) write_of_flush write_of_tree (Write at bytes) result new before after random random' (λ content. tt) (λ content long. tt) whole
         (λ fault is. no_flush_wants count fault (sym (ap (outcome_reply (written count)) wants) ∙ replied ∙ ap (write_reply count) is)) goes aside reads)
 
     seated_new : IsSeated key new × (new.name ≡ old.name)
