@@ -210,7 +210,7 @@ module _ (key : List ℕ) (at : ℕ) (bytes : List ℕ) (line : ScriptLine) (cou
         (λ sealed base among linked kept.
         at_last [] (inl refl) (λ unforged. all_made key sealed (seat_on base old) line [] old [] [] [] base (none_made sealed base old among linked kept whole)
         (write_asks at bytes line count is_line (length (now base old.tree)) [] (nothing none refl)) (replies.Written count false) (write_replies at bytes line count is_line []) (passes base))))
-        (λ seat like. let like_old = like_some seat old like in subst (λ (x : Seat). NoneRefuses (rules key false x line [])) (sym like_old.seat_is) (like_passes like_old.own like_old.like []))
+        (admits.none key false)
         (both_same (KeepsUnder (Covers old) (Covers old) (λ name. name ≡ old.name)) host.honest host.honest refl (same_keeps (Covers old) (λ name. name ≡ old.name))) seated refl
 
     -- a write of some bytes
@@ -218,7 +218,7 @@ module _ (key : List ℕ) (at : ℕ) (bytes : List ℕ) (line : ScriptLine) (cou
         → (outcome : Outcome) → ChangeSeen (Write at bytes) old new outcome before after random random' → (outcome ≡ Wanted → (new.broken ≡ true) × OnDisk before after (FlushesUnder line old)) → SeatGoes key false line (outcome_reply (written count) outcome) (Some old) (Some new) before after random random'
     some_goes some new before after random random' aside books seated_new name_is =
         line_goes key line old new whole (Write at bytes) (written count) (λ size. write_asks at bytes line count is_line size (Write at bytes ∷ []) (at_place some refl)) replied like_passes before after random random' aside books seated_new name_is
-        (write_takes at bytes line count is_line) (write_changes at bytes line count is_line) admits (λ flushed. (refl, refl)) (λ flushed seat given free_of. free_of)
+        (write_takes at bytes line count is_line) (write_changes at bytes line count is_line) admits (λ flushed. (refl, refl)) (λ flushed seat given passed. passed)
       where
         replied : (flushed : Bool) (sheets : List Sheet) → Grew flushed [] sheets → IsChangeReply sheets line (replies.Written count flushed)
         replied false sheets grew = subst (λ (s : List Sheet). IsChangeReply s line (replies.Written count false)) (sym grew) (write_replies at bytes line count is_line [])
