@@ -135,7 +135,7 @@ came_after name other these outcome before between after is told came = record {
 -- of a step
 step_came : (old : SessionState) → IsOfScript old → (new : SessionState) (one : Result (Unit {0}) TreeFault) (step : Step) (before after : HostState) → StepGoes one step old new before after → (flushed : Bool) (r : Result (Unit {0}) TreeFault) → one ≡ r
     → OutcomeCame old.name (outcome_of flushed r) before after
-step_came old mine new one step before after goes flushed (Ok done) is = record { these = goes.steps.these; told = goes.steps.answered.told; comes = tt }
+step_came old mine new one step before after goes flushed (Ok ok) is = record { these = goes.steps.these; told = goes.steps.answered.told; comes = tt }
 step_came old mine new one step before after goes flushed (Err (trees.Damaged damage)) is =
     let came = damage_came old mine new one step before after goes damage is in
     record { these = came.these; told = came.answered.told; comes = came.holds }
