@@ -1,10 +1,12 @@
 -- A line on a seat that is one change of its session.
-use Rattle.std.proofs.Common.{◌≡◌, inr, Bool, true, false, List, [], ◌∷◌, ◌++◌, ℕ, refl, sym, ◌∙◌, ap, subst, Some, Result, Ok, Err, length}
+use Rattle.std.proofs.Common.{◌≡◌, ◌⊎◌, inr, Bool, true, false, List, [], ◌∷◌, ◌++◌, ℕ, refl, sym, ◌∙◌, ap, subst, Some, Result, Ok, Err, length}
 use Rattle.std.specs.Prelude.{Contains}
 use Rattle.std.proofs.lemmas.List.{append-nil}
+use Rattle.node_layout.specs.declared.damage.Damage.{Damage}
 use Rattle.node_tree.specs.Applying.{Step}
 use Rattle.node_tree.specs.Sheet.{Sheet, IsLinked}
 use Rattle.node_tree.specs.declared.fault.TreeFault.{TreeFault}
+use Rattle.pf_io.specs.Disk.{Name}
 use Rattle.pf_io.specs.Host.{Answer, HostState, OnDisk}
 use Rattle.pf_io.specs.Words.{WordsState}
 use Rattle.pf_io.specs.declared.faults.Memory.{Memory}
@@ -16,19 +18,21 @@ use Rattle.pf_session.specs.State.{SessionState}
 use Rattle.pf_session.specs.declared.fault.FlushFault.{FlushFault}
 use Rattle.pf_session.specs.declared.fault.Written.{Written}
 use Rattle.pf_script.specs.BookSeats.{Covers, KeepsUnder}
-use Rattle.pf_script.specs.Desk.{IsSeated, seat_on}
-use Rattle.pf_script.specs.DeskSteps.{in_the_end, CountsFault, SeatAsks, IsChange, TakesNone, FlushesUnder, Admits, SeatGoes, is_host_fault, is_words_fault}
+use Rattle.pf_script.specs.Desk.{IsSeated, seat_on, IsLikeOwn}
+use Rattle.pf_script.specs.DeskSteps.{in_the_end, CountsFault, SeatAsks, SeatCaused, IsChange, TakesNone, FlushesUnder, Admits, SeatGoes, is_host_fault, is_words_fault}
 use Rattle.pf_script.specs.Rules.{NoneRefuses, rules}
-use Rattle.pf_script.specs.Script.{Own}
+use Rattle.pf_script.specs.Script.{OwnSeat, Seat, Own}
 use Rattle.pf_script.specs.SeatReplies.{flush_reply}
 use Rattle.pf_script.specs.SeatSteps.{AsksFor, none_left}
-use Rattle.pf_script.specs.Turns.{Blame, IsChangeReply, flushes}
+use Rattle.pf_script.specs.Turns.{Blame, ByHost, ByDamage, IsChangeReply, flushes, IsShort, IsClosed, FetchDamage, DamageComes, Caused}
 use Rattle.pf_script.specs.declared.line.ScriptLine.{ScriptLine}
+use Rattle.pf_script.specs.declared.line.ScriptLine.TheVariants as lines
 use Rattle.pf_script.specs.declared.reply.Reply.{Reply}
 use Rattle.pf_script.specs.declared.reply.Reply.TheVariants as replies
 use Rattle.pf_script.proofs.ChangeEnds.{change_ends}
-use Rattle.pf_script.proofs.ChangeTold.{Grew, Outcome, Went, Broke, Lacked, Wanted, ChangeTold, ChangeSeen}
+use Rattle.pf_script.proofs.ChangeTold.{Grew, Outcome, Went, Broke, Lacked, Wanted, ChangeTold, OutcomeCame, ChangeSeen}
 use Rattle.pf_script.proofs.Flushed.{FlushCase, lacked, failed, done, flush_case, host_blamed, fault_of}
+use Rattle.pf_script.proofs.Liking.{like_on, like_some}
 use Rattle.pf_script.proofs.OfScript.{of_changed}
 use Rattle.pf_script.proofs.SeatCalls.{seen_by, SheetTurns, whole_turns, host_reply, words_reply, false_true, goes_told, goes_wanting}
 use Rattle.pf_script.proofs.StepTurns.{Made, LineEnds, all_made}
@@ -109,27 +113,72 @@ none_made sealed base old among linked kept whole = record {
   name_is = refl;
 }
 
+-- the damages that a change may meet
+change_damage : (key : List ℕ) (seat : Seat) (line : ScriptLine) (given : List Answer) (damage : Damage) → IsChange line → FetchDamage seat given damage → DamageComes key seat line given damage
+change_damage key seat lines.Blank given damage changes comes = absurd changes
+change_damage key seat (lines.Create k name) given damage changes comes = absurd changes
+change_damage key seat (lines.Open k name) given damage changes comes = absurd changes
+change_damage key seat (lines.View k path) given damage changes comes = absurd changes
+change_damage key seat (lines.Read k at count) given damage changes comes = absurd changes
+change_damage key seat (lines.Write k at bytes) given damage changes comes = comes
+change_damage key seat (lines.Fill k at count byte) given damage changes comes = comes
+change_damage key seat (lines.Size k size) given damage changes comes = comes
+change_damage key seat (lines.Flush k) given damage changes comes = absurd changes
+change_damage key seat (lines.Move k name) given damage changes comes = absurd changes
+change_damage key seat (lines.Draw k) given damage changes comes = absurd changes
+change_damage key seat (lines.Close k) given damage changes comes = absurd changes
+
+-- The cause of a reply to a line of changes, where no rule refuses on a seat that is like the session.
+module _ (key : List ℕ) (line : ScriptLine) (old : SessionState) (passes : (own : OwnSeat) → IsLikeOwn own old → (given : List Answer) → NoneRefuses (rules key false (Own own) line given)) (before after : HostState) where
+  -- a reply that needs nothing more
+  pub passed_cause : (reply : Reply) → ((seat : Seat) (given : List Answer) → NoneRefuses (rules key false seat line given) → Caused key false seat line given reply) → (outcome : Outcome) → OutcomeCame old.name outcome before after
+      → SeatCaused key false line reply (Some old) before after
+  passed_cause reply so outcome came = record {
+    given = came.these;
+    told = came.told;
+    caused = λ seat like.
+        let at = like_some seat old like in
+        subst (λ (s : Seat). Caused key false s line came.these reply) (sym at.seat_is) (so (Own at.own) came.these (passes at.own at.like came.these));
+  }
+
+  -- a fault of the host, or a damage
+  pub broken_cause : IsChange line → (blame : Blame) → OutcomeCame old.name (Broke blame) before after → SeatCaused key false line (flush_reply (fault_of blame)) (Some old) before after
+  broken_cause changes ByHost came = passed_cause replies.HostFault (λ seat given free. free) (Broke ByHost) came
+  broken_cause changes (ByDamage damage) came = record {
+    given = came.these;
+    told = came.told;
+    caused = λ seat like.
+        let at = like_some seat old like in
+        subst (λ (s : Seat). Caused key false s line came.these (replies.DamagedNode damage)) (sym at.seat_is) (
+          passes at.own at.like came.these,
+          change_damage key (Own at.own) line came.these damage changes (subst (λ (n : Name). IsShort n came.these damage ⊎ IsClosed n came.these damage) (sym at.like.name_is) came.comes),
+        );
+  }
+
 -- A line that is one change. `replied` is the reply to it, by whether it was flushed before.
 module _ (key : List ℕ) (line : ScriptLine) (old new : SessionState) (whole : old.broken ≡ false) (step : Step) (replied : Bool → Reply) (asks : (size : ℕ) → AsksFor line size (step ∷ []))
-    (replies_to : (flushed : Bool) (sheets : List Sheet) → Grew flushed [] sheets → IsChangeReply sheets line (replied flushed)) (passes : (base : Sheet) (given : List Answer) → NoneRefuses (rules key false (Own (seat_on base old)) line given)) where
+    (replies_to : (flushed : Bool) (sheets : List Sheet) → Grew flushed [] sheets → IsChangeReply sheets line (replied flushed)) (passes : (own : OwnSeat) → IsLikeOwn own old → (given : List Answer) → NoneRefuses (rules key false (Own own) line given)) where
   module _ (given : List Answer) (words : List (List ℕ)) where
     split : given ≡ [] ++ given ++ []
     split = sym (append-nil given)
 
+    in_order : words ≡ [] ++ words ++ []
+    in_order = sym (append-nil words)
+
     went_turns : (flushed : Bool) → ChangeTold step old new given words (Went flushed) → SheetTurns key false line (seen_by given words false false) (replied flushed) old (Some new) given
     went_turns flushed told sealed base among linked kept =
         let own = seat_on base old in
-        change_ends key sealed own line given [] given [] split (LineEnds key sealed own line given words false false (replied flushed) new) old [] [] [] base (none_made sealed base old among linked kept whole) step [] (asks (length own.content)) new words
+        change_ends key sealed own line given words false false [] given [] split (LineEnds key sealed own line given words false false (replied flushed) new) old [] [] [] base (none_made sealed base old among linked kept whole) step [] (asks (length own.content)) new words [] in_order
         (Went flushed)
         (record {
           went = λ f is sheets' base' grew made.
               in_the_end (flushes own sheets')
               (λ unforged. all_made key sealed own line given new (step ∷ []) words sheets' base' made (asks (length own.content)) (replied flushed)
-              (replies_to flushed sheets' (subst (λ (b : Bool). Grew b [] sheets') (sym (same_flag flushed f is)) grew)) (passes base));
+              (replies_to flushed sheets' (subst (λ (b : Bool). Grew b [] sheets') (sym (same_flag flushed f is)) grew)) (passes own (like_on base old)));
           broke = λ blame is acts ends. absurd (cc);
           lack = λ is acts ends. absurd (cc);
           memory = λ is. absurd (cc);
-          passes = passes base;
+          passes = passes own (like_on base old);
         }) told
       where
         same_flag : (f g : Bool) → Went f ≡ Went g → f ≡ g
@@ -138,15 +187,15 @@ module _ (key : List ℕ) (line : ScriptLine) (old new : SessionState) (whole : 
     broke_turns : (blame : Blame) → ChangeTold step old new given words (Broke blame) → SheetTurns key false line (seen_by given words (host_blamed blame) false) (flush_reply (fault_of blame)) old (Some new) given
     broke_turns blame told sealed base among linked kept =
         let own = seat_on base old in
-        change_ends key sealed own line given [] given [] split (LineEnds key sealed own line given words (host_blamed blame) false (flush_reply (fault_of blame)) new) old [] [] [] base
-        (none_made sealed base old among linked kept whole) step [] (asks (length own.content)) new words (Broke blame)
+        change_ends key sealed own line given words (host_blamed blame) false [] given [] split (LineEnds key sealed own line given words (host_blamed blame) false (flush_reply (fault_of blame)) new) old [] [] [] base
+        (none_made sealed base old among linked kept whole) step [] (asks (length own.content)) new words [] in_order (Broke blame)
         (record {
           went = λ f is sheets' base' grew made. absurd (cc);
           broke = λ other is acts ends.
               subst (λ (b : Blame). LineEnds key sealed own line given words (host_blamed b) false (flush_reply (fault_of b)) new acts) (sym (same_blame blame other is)) ends;
           lack = λ is acts ends. absurd (cc);
           memory = λ is. absurd (cc);
-          passes = passes base;
+          passes = passes own (like_on base old);
         }) told
       where
         same_blame : (b other : Blame) → Broke b ≡ Broke other → b ≡ other
@@ -155,18 +204,19 @@ module _ (key : List ℕ) (line : ScriptLine) (old new : SessionState) (whole : 
     lacked_turns : ChangeTold step old new given words Lacked → SheetTurns key false line (seen_by given words false true) replies.WordsFault old (Some new) given
     lacked_turns told sealed base among linked kept =
         let own = seat_on base old in
-        change_ends key sealed own line given [] given [] split (LineEnds key sealed own line given words false true replies.WordsFault new) old [] [] [] base (none_made sealed base old among linked kept whole) step [] (asks (length own.content)) new words
+        change_ends key sealed own line given words false true [] given [] split (LineEnds key sealed own line given words false true replies.WordsFault new) old [] [] [] base (none_made sealed base old among linked kept whole) step [] (asks (length own.content)) new words [] in_order
         Lacked
         (record {
           went = λ f is sheets' base' grew made. absurd (cc);
           broke = λ blame is acts ends. absurd (cc);
           lack = λ is acts ends. ends;
           memory = λ is. absurd (cc);
-          passes = passes base;
+          passes = passes own (like_on base old);
         }) told
 
   module _ (before after : HostState) (random random' : WordsState) (aside : Aside old.name before after) (books : OnDisk before after (KeepsUnder (Covers old) (Covers new) (λ name. name ≡ old.name))) (seated : IsSeated key new) (name_is : new.name ≡ old.name)
-      (takes : ¬ (TakesNone line)) (changes : IsChange line) (admits : Admits line old) (calm : (flushed : Bool) → (is_host_fault (replied flushed) ≡ false) × (is_words_fault (replied flushed) ≡ false)) where
+      (takes : ¬ (TakesNone line)) (changes : IsChange line) (admits : Admits line old) (calm : (flushed : Bool) → (is_host_fault (replied flushed) ≡ false) × (is_words_fault (replied flushed) ≡ false))
+      (so : (flushed : Bool) (seat : Seat) (given : List Answer) → NoneRefuses (rules key false seat line given) → Caused key false seat line given (replied flushed)) where
     pub line_goes : (outcome : Outcome) → ChangeSeen step old new outcome before after random random' → (outcome ≡ Wanted → (new.broken ≡ true) × OnDisk before after (FlushesUnder line old)) → SeatGoes key false line (outcome_reply replied outcome) (Some old) (Some new) before after random random'
     line_goes (Went flushed) seen breaks =
         goes_told key false line old before after random random' aside (replied flushed)
@@ -176,7 +226,7 @@ module _ (key : List ℕ) (line : ScriptLine) (old new : SessionState) (whole : 
           seen = seen_by given seen.words false false;
           was_seen = record { answers = refl; words = seen.taken; of_host = seen.on_host; of_words = seen.on_words };
           turns = whole_turns key false line (seen_by given seen.words false false) (replied flushed) old (Some new) given whole (went_turns given seen.words flushed told);
-        })) books seated name_is
+        })) (passed_cause key line old passes before after (replied flushed) (so flushed) (Went flushed) seen.came) books seated name_is
     line_goes (Broke blame) seen breaks =
         goes_told key false line old before after random random' aside (flush_reply (fault_of blame))
         (subst (λ b. CountsFault b before.faults after.faults) (sym (host_reply blame)) seen.on_host, subst (λ b. CountsFault b random.faults random'.faults) (sym (words_reply blame)) seen.on_words) new
@@ -185,7 +235,7 @@ module _ (key : List ℕ) (line : ScriptLine) (old new : SessionState) (whole : 
           seen = seen_by given seen.words (host_blamed blame) false;
           was_seen = record { answers = refl; words = seen.taken; of_host = seen.on_host; of_words = seen.on_words };
           turns = whole_turns key false line (seen_by given seen.words (host_blamed blame) false) (flush_reply (fault_of blame)) old (Some new) given whole (broke_turns given seen.words blame told);
-        })) books seated name_is
+        })) (broken_cause key line old passes before after changes blame seen.came) books seated name_is
     line_goes Lacked seen breaks =
         goes_told key false line old before after random random' aside replies.WordsFault (seen.on_host, seen.on_words) new
         (told_weaker (λ given. ChangeTold step old new given seen.words Lacked) (λ given. SeatAsks key false line replies.WordsFault (Some old) (Some new) given before after random random') before after seen.told
@@ -193,7 +243,7 @@ module _ (key : List ℕ) (line : ScriptLine) (old new : SessionState) (whole : 
           seen = seen_by given seen.words false true;
           was_seen = record { answers = refl; words = seen.taken; of_host = seen.on_host; of_words = seen.on_words };
           turns = whole_turns key false line (seen_by given seen.words false true) replies.WordsFault old (Some new) given whole (lacked_turns given seen.words told);
-        })) books seated name_is
+        })) (passed_cause key line old passes before after replies.WordsFault (λ seat given free. free) Lacked seen.came) books seated name_is
     line_goes Wanted seen breaks =
         goes_wanting key false line old before after random random' aside (record {}) new
         (record {

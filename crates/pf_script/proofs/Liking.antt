@@ -9,12 +9,16 @@ use Rattle.pf_script.specs.DeskSteps.{HasItsName}
 use Rattle.pf_script.specs.Script.{OwnSeat, Seat, Empty, Own, ScriptState, HasThisName}
 use Rattle.pf_script.proofs.Flushed.{length_now}
 
+-- the seat of a session on a sheet is like it
+pub like_on : (sheet : Sheet) (own : SessionState) → IsLikeOwn (seat_on sheet own) own
+like_on sheet own = record { key_is = refl; name_is = refl; broken_is = refl; as_large = λ whole. length_now sheet own.tree }
+
 -- a seat that shows a session is like it
 pub like_shown : (sealed : List Sheet) (seat : Seat) (session : Option SessionState) → Shows sealed seat session → IsLike seat session
 like_shown sealed seat session (no_file is none) = subst (λ (s : Seat). IsLike s session) (sym is) none
 like_shown sealed seat session (whole_file sheet own whole among linked kept is some) =
     subst (λ (s : Seat). IsLike s session) (sym is)
-    (subst (λ (o : Option SessionState). IsLike (Own (seat_on sheet own)) o) (sym some) (record { key_is = refl; name_is = refl; broken_is = refl; as_large = λ _. length_now sheet own.tree }))
+    (subst (λ (o : Option SessionState). IsLike (Own (seat_on sheet own)) o) (sym some) (like_on sheet own))
 like_shown sealed seat session (broken_file shown own broken as_broken key name is some) =
     subst (λ (s : Seat). IsLike s session) (sym is)
     (subst (λ (o : Option SessionState). IsLike (Own shown) o) (sym some)

@@ -17,7 +17,7 @@ use Rattle.pf_session.specs.declared.fault.FlushFault.TheVariants as faults
 use Rattle.pf_session.specs.declared.fault.SizeFault.{SizeFault}
 use Rattle.pf_session.specs.declared.fault.SizeFault.TheVariants as sizes
 use Rattle.pf_session.specs.declared.fault.Written.{Written}
-use Rattle.pf_script.specs.Desk.{IsSeated, seat_on}
+use Rattle.pf_script.specs.Desk.{IsSeated, seat_on, IsLikeOwn}
 use Rattle.pf_script.specs.DeskSteps.{CountsFault, SeatAsks, FlushesUnder, Admits, SeatGoes}
 use Rattle.pf_script.specs.Rules.{NoneRefuses, rules, refuses}
 use Rattle.pf_script.specs.Script.{OwnSeat, Seat, Own}
@@ -28,8 +28,8 @@ use Rattle.pf_script.specs.declared.line.ScriptLine.TheVariants as lines
 use Rattle.pf_script.specs.declared.reply.Reply.{Reply}
 use Rattle.pf_script.specs.declared.reply.Reply.TheVariants as replies
 use Rattle.pf_script.specs.declared.reply.Why.TheVariants as whys
-use Rattle.pf_script.proofs.ChangeLine.{outcome_reply, none_made}
-use Rattle.pf_script.proofs.ChangeTold.{Outcome, Went, Broke, Lacked, Wanted, host_in, words_in}
+use Rattle.pf_script.proofs.ChangeLine.{outcome_reply, none_made, passed_cause, broken_cause}
+use Rattle.pf_script.proofs.ChangeTold.{Outcome, Went, Broke, Lacked, Wanted, host_in, words_in, OutcomeCame}
 use Rattle.pf_script.proofs.Flushed.{host_blamed, fault_of, length_now}
 use Rattle.pf_script.proofs.Liking.{like_some}
 use Rattle.pf_script.proofs.Refusing.{none_then}
@@ -69,6 +69,9 @@ module _ (key : List ℕ) (k size : ℕ) (small : size ≤ 2 ^ 32) (old new : Se
   passes_own : (any_key : List ℕ) (taken : Bool) (own : OwnSeat) → own.broken ≡ false → (given : List Answer) → NoneRefuses (rules any_key taken (Own own) (lines.Size k size) given)
   passes_own any_key taken own own_whole given = none_then (refuses whys.TooLarge (LARGEST < size) ∷ []) (Own own) own refl own_whole ((λ why too_large. omega (arith, too_large.1, small)), tt)
 
+  like_passes : (own : OwnSeat) → IsLikeOwn own old → (given : List Answer) → NoneRefuses (rules key false (Own own) (lines.Size k size) given)
+  like_passes own like = passes_own key false own (like.broken_is ∙ whole)
+
   pub line_passes : (base : Sheet) (given : List Answer) → NoneRefuses (rules key false (Own (seat_on base old)) (lines.Size k size) given)
   line_passes base = passes_own key false (seat_on base old) whole
 
@@ -87,14 +90,14 @@ module _ (key : List ℕ) (k size : ℕ) (small : size ≤ 2 ^ 32) (old new : Se
     went_turns : (flushed : Bool) → SizeTold size old new given words (Went flushed) → SheetTurns key false (lines.Size k size) (seen_by given words false false) (replies.Sized size) old (Some new) given
     went_turns flushed told sealed base among linked kept =
         let own = seat_on base old in
-        size_ends key sealed own k size given words (LineEnds key sealed own (lines.Size k size) given words false false (replies.Sized size) new) (line_passes base) new old given words (Went flushed) told
+        size_ends key sealed own k size given words false false (LineEnds key sealed own (lines.Size k size) given words false false (replies.Sized size) new) (line_passes base) new old given words (Went flushed) told
         (record { went = λ f is acts ends. ends; broke = λ blame is acts ends. absurd (cc); lack = λ is acts ends. absurd (cc); memory = λ is. absurd (cc) })
         [] [] [] base (none_made sealed base old among linked kept whole) (goes_on_now base) [] refl refl
 
     broke_turns : (blame : Blame) → SizeTold size old new given words (Broke blame) → SheetTurns key false (lines.Size k size) (seen_by given words (host_blamed blame) false) (flush_reply (fault_of blame)) old (Some new) given
     broke_turns blame told sealed base among linked kept =
         let own = seat_on base old in
-        size_ends key sealed own k size given words (LineEnds key sealed own (lines.Size k size) given words (host_blamed blame) false (flush_reply (fault_of blame)) new) (line_passes base) new old given words (Broke blame) told
+        size_ends key sealed own k size given words (host_blamed blame) false (LineEnds key sealed own (lines.Size k size) given words (host_blamed blame) false (flush_reply (fault_of blame)) new) (line_passes base) new old given words (Broke blame) told
         (record {
           went = λ f is acts ends. absurd (cc);
           broke = λ other is acts ends.
@@ -110,12 +113,15 @@ module _ (key : List ℕ) (k size : ℕ) (small : size ≤ 2 ^ 32) (old new : Se
     lacked_turns : SizeTold size old new given words Lacked → SheetTurns key false (lines.Size k size) (seen_by given words false true) replies.WordsFault old (Some new) given
     lacked_turns told sealed base among linked kept =
         let own = seat_on base old in
-        size_ends key sealed own k size given words (LineEnds key sealed own (lines.Size k size) given words false true replies.WordsFault new) (line_passes base) new old given words Lacked told
+        size_ends key sealed own k size given words false true (LineEnds key sealed own (lines.Size k size) given words false true replies.WordsFault new) (line_passes base) new old given words Lacked told
         (record { went = λ f is acts ends. absurd (cc); broke = λ blame is acts ends. absurd (cc); lack = λ is acts ends. ends; memory = λ is. absurd (cc) })
         [] [] [] base (none_made sealed base old among linked kept whole) (goes_on_now base) [] refl refl
 
   module _ (result : Result (Unit {0}) SizeFault) (before after : HostState) (random random' : WordsState) (seen : SizeSeen key size small result old new before after random random')
       (flushes : seen.outcome ≡ Wanted → OnDisk before after (FlushesUnder (lines.Size k size) old)) where
+    came_as : (outcome : Outcome) → seen.outcome ≡ outcome → OutcomeCame old.name outcome before after
+    came_as outcome is = subst (λ (o : Outcome). OutcomeCame old.name o before after) is seen.came
+
     by_outcome : (outcome : Outcome) → seen.outcome ≡ outcome → SeatGoes key false (lines.Size k size) (outcome_reply (sized size) outcome) (Some old) (Some new) before after random random'
     by_outcome (Went flushed) is =
         goes_told key false (lines.Size k size) old before after random random' seen.aside (replies.Sized size)
@@ -131,7 +137,7 @@ module _ (key : List ℕ) (k size : ℕ) (small : size ≤ 2 ^ 32) (old new : Se
           };
           turns = whole_turns key false (lines.Size k size) (seen_by given seen.words false false) (replies.Sized size) old (Some new) given whole
               (went_turns given seen.words flushed (subst (λ (o : Outcome). SizeTold size old new given seen.words o) is told));
-        })) seen.books seen.seated_new seen.name_is
+        })) (passed_cause key (lines.Size k size) old like_passes before after (replies.Sized size) (λ seat given free. free) (Went flushed) (came_as (Went flushed) is)) seen.books seen.seated_new seen.name_is
     by_outcome (Broke blame) is =
         goes_told key false (lines.Size k size) old before after random random' seen.aside (flush_reply (fault_of blame)) (
           subst (λ b. CountsFault b before.faults after.faults) (sym (host_reply blame)) (subst (λ (o : Outcome). CountsFault (host_in o) before.faults after.faults) is seen.on_host),
@@ -148,7 +154,7 @@ module _ (key : List ℕ) (k size : ℕ) (small : size ≤ 2 ^ 32) (old new : Se
           };
           turns = whole_turns key false (lines.Size k size) (seen_by given seen.words (host_blamed blame) false) (flush_reply (fault_of blame)) old (Some new) given whole
               (broke_turns given seen.words blame (subst (λ (o : Outcome). SizeTold size old new given seen.words o) is told));
-        })) seen.books seen.seated_new seen.name_is
+        })) (broken_cause key (lines.Size k size) old like_passes before after tt blame (came_as (Broke blame) is)) seen.books seen.seated_new seen.name_is
     by_outcome Lacked is =
         goes_told key false (lines.Size k size) old before after random random' seen.aside replies.WordsFault
         (subst (λ (o : Outcome). CountsFault (host_in o) before.faults after.faults) is seen.on_host, subst (λ (o : Outcome). CountsFault (words_in o) random.faults random'.faults) is seen.on_words) new
@@ -163,7 +169,7 @@ module _ (key : List ℕ) (k size : ℕ) (small : size ≤ 2 ^ 32) (old new : Se
           };
           turns = whole_turns key false (lines.Size k size) (seen_by given seen.words false true) replies.WordsFault old (Some new) given whole
               (lacked_turns given seen.words (subst (λ (o : Outcome). SizeTold size old new given seen.words o) is told));
-        })) seen.books seen.seated_new seen.name_is
+        })) (passed_cause key (lines.Size k size) old like_passes before after replies.WordsFault (λ seat given free. free) Lacked (came_as Lacked is)) seen.books seen.seated_new seen.name_is
     by_outcome Wanted is =
         goes_wanting key false (lines.Size k size) old before after random random' seen.aside (record {}) new
         (record {

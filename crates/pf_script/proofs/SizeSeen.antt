@@ -29,7 +29,7 @@ use Rattle.pf_script.specs.declared.reply.Reply.{Reply}
 use Rattle.pf_script.specs.declared.reply.Reply.TheVariants as replies
 use Rattle.pf_script.proofs.ChangeKeeping.{change_keeps}
 use Rattle.pf_script.proofs.ChangeLine.{outcome_reply, change_seated}
-use Rattle.pf_script.proofs.ChangeTold.{Outcome, Went, Wanted, outcome_of, flush_outcome, host_in, words_in, ChangeTold, ChangeSeen, seen_once, seen_unflushed, seen_after}
+use Rattle.pf_script.proofs.ChangeTold.{Outcome, Went, Wanted, outcome_of, flush_outcome, host_in, words_in, ChangeTold, OutcomeCame, came_after, ChangeSeen, seen_once, seen_unflushed, seen_after}
 use Rattle.pf_script.proofs.Flushed.{flush_case}
 use Rattle.pf_script.proofs.OfScript.{of_flushed}
 use Rattle.pf_script.proofs.Refusing.{none_taken}
@@ -120,6 +120,7 @@ module _ (key : List ℕ) (size : ℕ) (small : size ≤ 2 ^ 32) where
     pub on_host : CountsFault (host_in outcome) before.faults after.faults
     pub on_words : CountsFault (words_in outcome) random.faults random'.faults
     pub told : WhereTold before after (λ given. SizeTold size old new given words outcome)
+    pub came : OutcomeCame old.name outcome before after
     pub breaks : outcome ≡ Wanted → new.broken ≡ true
     pub seated_new : IsSeated key new
     pub name_is : new.name ≡ old.name
@@ -144,6 +145,7 @@ module _ (key : List ℕ) (size : ℕ) (small : size ≤ 2 ^ 32) where
     on_host = ap (λ (h : HostState). h.faults) stays;
     on_words = ap (λ (w : WordsState). w.faults) words;
     told = told_by (λ given. SizeTold size old new given [] (Went false)) [] before after (told_none before after (ap (λ (h : HostState). h.given) stays)) (told_same old new none same);
+    came = record { these = []; told = told_none before after (ap (λ (h : HostState). h.given) stays); comes = tt };
     breaks = λ is. absurd (cc);
     seated_new = (set_seated size (Ok written) old new before after random random' seated sets).0;
     name_is = (set_seated size (Ok written) old new before after random random' seated sets).1;
@@ -159,6 +161,7 @@ module _ (key : List ℕ) (size : ℕ) (small : size ≤ 2 ^ 32) where
     on_words = seen.on_words;
     told = told_weaker (λ given. ChangeTold (Size size) old new given seen.words (Went flushed)) (λ given. SizeTold size old new given seen.words (Went flushed)) before after seen.told
         (λ given told. told_change old new size given seen.words (Went flushed) (last_size few refl) some (λ f is. refl) told);
+    came = seen.came;
     breaks = λ is. absurd (cc);
     seated_new = (set_seated size (Ok written) old new before after random random' seated sets).0;
     name_is = (set_seated size (Ok written) old new before after random random' seated sets).1;
@@ -184,6 +187,7 @@ module _ (key : List ℕ) (size : ℕ) (small : size ≤ 2 ^ 32) where
     on_words = seen.on_words;
     told = told_weaker (λ given. ChangeTold (Size n) old new given seen.words outcome) (λ given. SizeTold size old new given seen.words outcome) before after seen.told
         (λ given told. told_change old new n given seen.words outcome next some (λ f is. absurd (stays f is)) told);
+    came = seen.came;
     breaks = breaks;
     seated_new = (set_seated n (Err fault) old new before after random random' seated sets).0;
     name_is = (set_seated n (Err fault) old new before after random random' seated sets).1;
@@ -234,6 +238,7 @@ module _ (key : List ℕ) (size : ℕ) (small : size ≤ 2 ^ 32) where
           on_words = subst (λ n. CountsFault (words_in rest.outcome) n random''.faults) seen.on_words rest.on_words;
           told = told_then (λ given. ChangeTold (Size (old.tree.size + 32768)) old mid given seen.words (Went flushed)) (λ given. SizeTold size mid new given rest.words rest.outcome) (λ given. SizeTold size old new given (seen.words ++ rest.words) rest.outcome)
               before between after seen.told rest.told (λ these those told more. told_piece old mid new these those seen.words rest.words flushed rest.outcome far is.size_is told more);
+          came = came_after old.name mid.name seen.came.these rest.outcome before between after mid_name seen.came.told rest.came;
           breaks = rest.breaks;
           seated_new = rest.seated_new;
           name_is = rest.name_is ∙ mid_name;

@@ -8,7 +8,7 @@ use Rattle.node_tree.specs.Sheet.{Sheet}
 use Rattle.pf_io.specs.Host.{Answer}
 use Rattle.pf_session.specs.State.{SessionState}
 use Rattle.pf_script.specs.BookActs.{Act}
-use Rattle.pf_script.specs.DeskSteps.{Unfolds, in_the_end}
+use Rattle.pf_script.specs.DeskSteps.{MaySeal, Unfolds, in_the_end, SomeSeatTurn}
 use Rattle.pf_script.specs.Rules.{NoneRefuses, rules}
 use Rattle.pf_script.specs.Script.{OwnSeat, Own}
 use Rattle.pf_script.specs.SeatReplies.{flush_reply, IsNextSize, last_size, piece_size}
@@ -19,6 +19,7 @@ use Rattle.pf_script.specs.declared.reply.Reply.TheVariants as replies
 use Rattle.pf_script.proofs.ChangeEnds.{change_ends}
 use Rattle.pf_script.proofs.ChangeTold.{Outcome, Went, Broke, Lacked, Wanted, ChangeTold}
 use Rattle.pf_script.proofs.Flushed.{host_blamed, fault_of}
+use Rattle.pf_script.proofs.SeatCalls.{seen_by}
 use Rattle.pf_script.proofs.StepTurns.{Made, LineEnds, all_made}
 
 -- a size that is no more than a piece away
@@ -57,7 +58,7 @@ module _ (own : OwnSeat) (size : ℕ) where
   last_step old n (last_size few is) other whole made on = subst (λ m. IsResize size (length own.content) (made ++ Size m ∷ [])) (sym is) (on (Size size ∷ []) (last old.tree.size (λ e. other (is ∙ e)) few))
   last_step old n (piece_size more is) other whole made on = absurd (omega (arith, more, is, whole))
 
-module _ (key : List ℕ) (sealed : List Sheet) (own : OwnSeat) (k size : ℕ) (given : List Answer) (all : List (List ℕ)) (P : List Act → Type 0) (passes : (these : List Answer) → NoneRefuses (rules key false (Own own) (lines.Size k size) these)) (new : SessionState) where
+module _ (key : List ℕ) (sealed : List Sheet) (own : OwnSeat) (k size : ℕ) (given : List Answer) (all : List (List ℕ)) (of_host of_words : Bool) (P : List Act → Type 0) (passes : (these : List Answer) → NoneRefuses (rules key false (Own own) (lines.Size k size) these)) (new : SessionState) where
   -- what is to be shown of each way to end
   pub record Finishes (outcome : Outcome) : Type 0 where
     pub went : (flushed : Bool) → outcome ≡ Went flushed → (acts : List Act) → LineEnds key sealed own (lines.Size k size) given all false false (replies.Sized size) new acts → P acts
@@ -75,14 +76,14 @@ module _ (key : List ℕ) (sealed : List Sheet) (own : OwnSeat) (k size : ℕ) (
 
   pub size_ends : (old : SessionState) (these : List Answer) (more : List (List ℕ)) (outcome : Outcome) → SizeTold size old new these more outcome → Finishes outcome
       → (made : List Step) (words : List (List ℕ)) (sheets : List Sheet) (base : Sheet) → Made sealed own old made words sheets base → GoesOn own size old made → (before_it : List Answer) → given ≡ before_it ++ these → all ≡ words ++ more
-      → Unfolds key sealed P given (flushes own sheets)
+      → Unfolds key sealed (MaySeal (SomeSeatTurn key sealed false (Own own) (lines.Size k size)) (seen_by given all of_host of_words)) P given (flushes own sheets)
   size_ends old _ _ _ (told_same _ _ size_is is) fin made words sheets base was on before_it split words_are =
       in_the_end (flushes own sheets)
       (λ unforged. fin.went false refl (flushes own sheets)
       (ends_here old is made words sheets base was (subst (λ (s : List Step). IsResize size (length own.content) s) (append-nil made) (on [] (same old.tree.size size_is))) (words_are ∙ append-nil words)))
   size_ends old these more outcome (told_change _ _ n _ _ _ next other whole told) fin made words sheets base was on before_it split words_are =
       let steps = next_steps own size old n next other made on in
-      change_ends key sealed own (lines.Size k size) given before_it these [] (split ∙ sym (append-nil (before_it ++ these))) P old made words sheets base was (Size n) steps.0 steps.1 new more outcome
+      change_ends key sealed own (lines.Size k size) given all of_host of_words before_it these [] (split ∙ sym (append-nil (before_it ++ these))) P old made words sheets base was (Size n) steps.0 steps.1 new more [] (words_are ∙ sym (append-nil (words ++ more))) outcome
       (record {
         went = λ flushed is sheets' base' grew made'.
             in_the_end (flushes own sheets')
@@ -95,8 +96,8 @@ module _ (key : List ℕ) (sealed : List Sheet) (own : OwnSeat) (k size : ℕ) (
       }) told
   size_ends old _ _ outcome (told_piece _ mid _ these those first more flushed _ far size_is told rest) fin made words sheets base was on before_it split words_are =
       let steps = resize_steps size size (old.tree.size + 32768) (omega arith) in
-      change_ends key sealed own (lines.Size k size) given before_it these those (split ∙ sym (append_assoc before_it these those)) P old made words sheets base was (Size (old.tree.size + 32768)) steps.0
-      (on (Size (old.tree.size + 32768) ∷ steps.0) (piece old.tree.size steps.0 far steps.1)) mid first (Went flushed)
+      change_ends key sealed own (lines.Size k size) given all of_host of_words before_it these those (split ∙ sym (append_assoc before_it these those)) P old made words sheets base was (Size (old.tree.size + 32768)) steps.0
+      (on (Size (old.tree.size + 32768) ∷ steps.0) (piece old.tree.size steps.0 far steps.1)) mid first more (words_are ∙ sym (append_assoc words first more)) (Went flushed)
       (record {
         went = λ f is sheets' base' grew made'.
             size_ends mid those more outcome rest fin (made ++ Size (old.tree.size + 32768) ∷ []) (words ++ first) sheets' base' made'

@@ -7,7 +7,7 @@ use Rattle.node_layout.specs.declared.damage.Damage.{Damage}
 use Rattle.node_tree.specs.Applying.{Step, applied, size_after, Touches}
 use Rattle.node_tree.specs.Backing.{Backs, now}
 use Rattle.node_tree.specs.Fetching.{host_part}
-use Rattle.node_tree.specs.Opened.{Given, Fails, is_short, root_fails, child_fails}
+use Rattle.node_tree.specs.Opened.{AtNodes, Entry, Given, Fails, is_short, root_fails, child_fails}
 use Rattle.node_tree.specs.Reading.{KeepsFields, IsForeign}
 use Rattle.node_tree.specs.Sheet.{Sheet}
 use Rattle.node_tree.specs.State.{TreeState, Held, root_in}
@@ -27,7 +27,7 @@ use Rattle.pf_script.specs.BookSeats.{IsOfScript}
 use Rattle.pf_script.specs.Desk.{seat_on}
 use Rattle.pf_script.specs.DeskSteps.{CountsFault}
 use Rattle.pf_script.specs.SeatSteps.{FlushesFirst, Fits, IsStepped}
-use Rattle.pf_script.specs.Turns.{ByDamage, BlamesFetch}
+use Rattle.pf_script.specs.Turns.{ByDamage, BlamesFetch, IsShort, IsClosed}
 use Rattle.pf_script.proofs.Flushed.{length_now}
 use Rattle.pf_script.proofs.OfScript.{file_named}
 use Rattle.pf_script.proofs.SeatCalls.{own_with}
@@ -77,6 +77,12 @@ given_part sheet name these those rest given = record {
   seals = λ k block plain node gave whole has opens.
       given.seals k block plain node (Contains-append_left (these ++ those) rest (Gave name (4096 * k) 4096 block) (Contains-append_right these those (Gave name (4096 * k) 4096 block) gave)) whole has opens;
 }
+
+-- of a node that fails a block came that is short, or that does not open
+pub fails_comes : (name : Name) (held : AtNodes) (these : List Answer) (root : Entry) (damage : Damage) → Fails held (Given name these) root damage.node damage.kind → IsShort name these damage ⊎ IsClosed name these damage
+fails_comes name held these root damage (is_short block free gave short kind) = inl (record { block = block; gave = gave; short = short; kind_is = kind })
+fails_comes name held these root damage (root_fails block free first gave fails kind) = inr (record { block = block; gave = gave; whole = fails.whole; kind_is = kind })
+fails_comes name held these root damage (child_fails parent block free low opened gave fails kind) = inr (record { block = block; gave = gave; whole = fails.whole; kind_is = kind })
 
 module _ (old : SessionState) (mine : IsOfScript old) (new : SessionState) (one : Result (Unit {0}) TreeFault) (step : Step) (before after : HostState) (goes : StepGoes one step old new before after) where
   of_file : (base : Sheet) (these : List Answer) → GivenOf base (Given old.name these) → GivenOf base (Given (file_of old) these)
@@ -136,6 +142,17 @@ module _ (old : SessionState) (mine : IsOfScript old) (new : SessionState) (one 
       (told_came (λ these. BreaksAt step old.tree.size (Held old.tree) (Given (file_of old) these) (root_in old.tree) damage) before after
       (subst (λ (r : Result (Unit {0}) TreeFault). StepDamageComes r (file_of old) step old.tree before after) is goes.damage))
       (λ these backed breaks base on given. blames damage base these breaks (backed base (of_file base these given) on.backs).1)
+
+  -- the same, where nothing is known of the sheets
+  pub damage_came : (damage : Damage) → one ≡ Err (trees.Damaged damage) → Came (λ these. IsShort old.name these damage ⊎ IsClosed old.name these damage) before after
+  damage_came damage is = record {
+    these = came.these;
+    answered = came.answered;
+    holds = subst (λ (n : Name). IsShort n came.these damage ⊎ IsClosed n came.these damage) (file_named old mine) (fails_comes (file_of old) (Held old.tree) came.these (root_in old.tree) damage came.holds.fails);
+  }
+    where
+      came : Came (λ these. BreaksAt step old.tree.size (Held old.tree) (Given (file_of old) these) (root_in old.tree) damage) before after
+      came = subst (λ (r : Result (Unit {0}) TreeFault). StepDamageComes r (file_of old) step old.tree before after) is goes.damage
 
   pub step_told : (r : Result (Unit {0}) TreeFault) → one ≡ r → WhereTold before after (StepFacts r step old new)
   step_told (Ok done) is = made is

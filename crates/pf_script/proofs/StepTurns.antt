@@ -18,6 +18,7 @@ use Rattle.pf_session.specs.State.{SessionState}
 use Rattle.pf_script.specs.BookActs.{Flush, Act}
 use Rattle.pf_script.specs.BookDebts.{seat_of}
 use Rattle.pf_script.specs.Desk.{Shows, whole_file, broken_file, seat_on}
+use Rattle.pf_script.specs.DeskSteps.{MaySeal, SomeSeatTurn}
 use Rattle.pf_script.specs.Rules.{NoneRefuses, rules}
 use Rattle.pf_script.specs.Script.{OwnSeat, Seat, Own, sheets_of}
 use Rattle.pf_script.specs.SeatReplies.{flush_reply}
@@ -35,6 +36,11 @@ use Rattle.pf_script.proofs.StepFacts.{given_part}
 pub sheets_flushed : (own : OwnSeat) (sheets : List Sheet) → sheets_of (flushes own sheets) ≡ sheets
 sheets_flushed own [] = refl
 sheets_flushed own (sheet ∷ sheets) = ap (λ (l : List Sheet). sheet ∷ l) (sheets_flushed own sheets)
+
+-- and of acts after them
+pub sheets_after : (own : OwnSeat) (sheets : List Sheet) (acts : List Act) → sheets_of (flushes own sheets ++ acts) ≡ sheets ++ sheets_of acts
+sheets_after own [] acts = refl
+sheets_after own (sheet ∷ sheets) acts = ap (λ (l : List Sheet). sheet ∷ l) (sheets_after own sheets acts)
 
 pub flushes_on : (own : OwnSeat) (sheets more : List Sheet) → flushes own (sheets ++ more) ≡ flushes own sheets ++ flushes own more
 flushes_on own [] more = refl
@@ -78,7 +84,7 @@ module _ (key : List ℕ) (sealed : List Sheet) (own : OwnSeat) (line : ScriptLi
   -- the turn of a line that failed
   pub fails_turn : ((these : List Answer) → NoneRefuses (rules key false (Own own) line these)) → (words : List (List ℕ)) (blame : Blame) (acts : List Act) (left : Seat) → Fails key (seen_by given words (host_blamed blame) false) blame (Own own) line acts left
       → SeatTurn (on_carried key sealed) key false (Own own) line (seen_by given words (host_blamed blame) false) (flush_reply (fault_of blame)) acts left
-  fails_turn passes words ByHost acts left fails = host_failed (passes []) (record { host = refl; random = refl }) fails refl
+  fails_turn passes words ByHost acts left fails = host_failed (passes given) (record { host = refl; random = refl }) fails refl
   fails_turn passes words (ByDamage damage) acts left fails = was_damaged damage (passes given) (record { host = refl; random = refl }) fails refl
 
   module _ (old : SessionState) (made : List Step) (words : List (List ℕ)) (sheets : List Sheet) (base : Sheet) (was : Made sealed own old made words sheets base) where
@@ -90,50 +96,66 @@ module _ (key : List ℕ) (sealed : List Sheet) (own : OwnSeat) (line : ScriptLi
       whole_file base old was.whole (subst (λ (s : List Sheet). Contains (sealed ++ s) base) (sym (sheets_flushed own sheets)) was.among) was.linked was.kept refl refl,
     )
 
-    module _ (step : Step) (rest : List Step) (asks : AsksFor line (length own.content) (made ++ step ∷ rest)) (new : SessionState) (key_is : new.key ≡ old.key) (name_is : new.name ≡ old.name) where
+    module _ (step : Step) (rest : List Step) (asks : AsksFor line (length own.content) (made ++ step ∷ rest)) where
       some : MadeSome line own step words sheets (seat_on base old)
       some = record { made = made; rest = rest; of_line = asks; were_made = was.makes }
 
-      broken_shows : (acts : List Act) (shown : OwnSeat) → shown.key ≡ old.key → shown.name ≡ old.name → new.broken ≡ true → Shows (sealed ++ sheets_of acts) (Own (broken_seat shown)) (Some new)
-      broken_shows acts shown key_of name_of broken = broken_file (broken_seat shown) new broken refl (key_of ∙ sym key_is) (name_of ∙ sym name_is) refl refl
+      -- the sheet of the flush before may be sealed: with the words until then the line goes so far, where the host fails in it
+      pub may_flush : ((these : List Answer) → NoneRefuses (rules key false (Own own) line these)) → (all more back : List (List ℕ)) (of_host of_words : Bool) → all ≡ words ++ more ++ back → (next : Sheet) → FlushesFirst (length (now base old.tree)) old.tree.dirty step → Seals (seat_on base old) more next
+          → (acts : List Act) → sheets_of acts ≡ next ∷ [] → MaySeal (SomeSeatTurn key sealed false (Own own) line) (seen_by given all of_host of_words) (flushes own sheets ++ acts)
+      may_flush passes all more back of_host of_words in_order next first seals acts only =
+          let failing : List Act = record { deed = Flush (seat_of own.key own.name next); done = false } ∷ [] in
+          let left : Seat = Own (broken_seat (seat_on base old)) in
+          record {
+            front = words ++ more;
+            back = back;
+            failed = flushes own sheets ++ failing;
+            in_order = in_order;
+            goes = (left, fails_turn passes (words ++ more) ByHost (flushes own sheets ++ failing) left (not_flushed_before own (seat_on base old) line step words more sheets next ByHost some first seals refl tt));
+            sheets = sheets_after own sheets acts ∙ ap (λ (l : List Sheet). sheets ++ l) only ∙ sym (sheets_after own sheets failing);
+          }
 
-      -- a fetch failed
-      pub fetch_failed : ((these : List Answer) → NoneRefuses (rules key false (Own own) line these)) → (blame : Blame) → Fits (length (now base old.tree)) old.tree.dirty step → BlamesFetch base own.name given blame → new.broken ≡ true
-          → LineEnds words (host_blamed blame) false (flush_reply (fault_of blame)) new (flushes own sheets)
-      fetch_failed passes blame fits blames broken = (
-        Own (broken_seat (seat_on base old)),
-        fails_turn passes words blame (flushes own sheets) (Own (broken_seat (seat_on base old))) (not_fetched own (seat_on base old) line step sheets blame some fits blames),
-        broken_shows (flushes own sheets) (seat_on base old) refl refl broken,
-      )
+      module _ (new : SessionState) (key_is : new.key ≡ old.key) (name_is : new.name ≡ old.name) where
+        broken_shows : (acts : List Act) (shown : OwnSeat) → shown.key ≡ old.key → shown.name ≡ old.name → new.broken ≡ true → Shows (sealed ++ sheets_of acts) (Own (broken_seat shown)) (Some new)
+        broken_shows acts shown key_of name_of broken = broken_file (broken_seat shown) new broken refl (key_of ∙ sym key_is) (name_of ∙ sym name_is) refl refl
 
-      -- no word came for the flush before
-      pub no_word : ((these : List Answer) → NoneRefuses (rules key false (Own own) line these)) → (lost : List (List ℕ)) → FlushesFirst (length (now base old.tree)) old.tree.dirty step → TooFewToFlush old lost → new ≡ old → LineEnds (words ++ lost) false true replies.WordsFault new (flushes own sheets)
-      no_word passes lost first fewer same = (
-        Own (seat_on base old),
-        words_failed (passes given) (record { host = refl; random = refl }) (no_flush_before own (seat_on base old) line step words lost sheets some first refl fewer) refl,
-        subst (λ (s : SessionState). Shows (sealed ++ sheets_of (flushes own sheets)) (Own (seat_on base old)) (Some s)) (sym same)
-            (whole_file base old was.whole (subst (λ (s : List Sheet). Contains (sealed ++ s) base) (sym (sheets_flushed own sheets)) was.among) was.linked was.kept refl refl),
-      )
+        -- a fetch failed
+        pub fetch_failed : ((these : List Answer) → NoneRefuses (rules key false (Own own) line these)) → (blame : Blame) → Fits (length (now base old.tree)) old.tree.dirty step → BlamesFetch base own.name given blame → new.broken ≡ true
+            → LineEnds words (host_blamed blame) false (flush_reply (fault_of blame)) new (flushes own sheets)
+        fetch_failed passes blame fits blames broken = (
+          Own (broken_seat (seat_on base old)),
+          fails_turn passes words blame (flushes own sheets) (Own (broken_seat (seat_on base old))) (not_fetched own (seat_on base old) line step sheets blame some fits blames),
+          broken_shows (flushes own sheets) (seat_on base old) refl refl broken,
+        )
 
-      -- the flush before failed
-      pub flush_failed : ((these : List Answer) → NoneRefuses (rules key false (Own own) line these)) → (blame : Blame) (more : List (List ℕ)) (next : Sheet) → FlushesFirst (length (now base old.tree)) old.tree.dirty step → Seals (seat_on base old) more next → BlamesFlush own.name given blame → new.broken ≡ true
-          → LineEnds (words ++ more) (host_blamed blame) false (flush_reply (fault_of blame)) new (flushes own sheets ++ record { deed = Flush (seat_of own.key own.name next); done = false } ∷ [])
-      flush_failed passes blame more next first seals blames broken =
-          let acts : List Act = flushes own sheets ++ record { deed = Flush (seat_of own.key own.name next); done = false } ∷ [] in (
-            Own (broken_seat (seat_on base old)),
-            fails_turn passes (words ++ more) blame acts (Own (broken_seat (seat_on base old))) (not_flushed_before own (seat_on base old) line step words more sheets next blame some first seals refl blames),
-            broken_shows acts (seat_on base old) refl refl broken,
-          )
+        -- no word came for the flush before
+        pub no_word : ((these : List Answer) → NoneRefuses (rules key false (Own own) line these)) → (lost : List (List ℕ)) → FlushesFirst (length (now base old.tree)) old.tree.dirty step → TooFewToFlush old lost → new ≡ old → LineEnds (words ++ lost) false true replies.WordsFault new (flushes own sheets)
+        no_word passes lost first fewer same = (
+          Own (seat_on base old),
+          words_failed (passes given) (record { host = refl; random = refl }) (no_flush_before own (seat_on base old) line step words lost sheets some first refl fewer) refl,
+          subst (λ (s : SessionState). Shows (sealed ++ sheets_of (flushes own sheets)) (Own (seat_on base old)) (Some s)) (sym same)
+              (whole_file base old was.whole (subst (λ (s : List Sheet). Contains (sealed ++ s) base) (sym (sheets_flushed own sheets)) was.among) was.linked was.kept refl refl),
+        )
 
-      -- a fetch failed after it
-      pub fetch_failed_after : ((these : List Answer) → NoneRefuses (rules key false (Own own) line these)) → (blame : Blame) (more : List (List ℕ)) (next : Sheet) → FlushesFirst (length (now base old.tree)) old.tree.dirty step → Seals (seat_on base old) more next → BlamesFetch next own.name given blame
-          → new.broken ≡ true → LineEnds (words ++ more) (host_blamed blame) false (flush_reply (fault_of blame)) new (flushes own (sheets ++ next ∷ []))
-      fetch_failed_after passes blame more next first seals blames broken = (
-        Own (broken_seat (resealed (seat_on base old) next)),
-        fails_turn passes (words ++ more) blame (flushes own (sheets ++ next ∷ [])) (Own (broken_seat (resealed (seat_on base old) next)))
-            (not_fetched_after own (seat_on base old) line step words more sheets next blame some first seals refl blames),
-        broken_shows (flushes own (sheets ++ next ∷ [])) (resealed (seat_on base old) next) refl refl broken,
-      )
+        -- the flush before failed
+        pub flush_failed : ((these : List Answer) → NoneRefuses (rules key false (Own own) line these)) → (blame : Blame) (more : List (List ℕ)) (next : Sheet) → FlushesFirst (length (now base old.tree)) old.tree.dirty step → Seals (seat_on base old) more next → BlamesFlush own.name given blame → new.broken ≡ true
+            → LineEnds (words ++ more) (host_blamed blame) false (flush_reply (fault_of blame)) new (flushes own sheets ++ record { deed = Flush (seat_of own.key own.name next); done = false } ∷ [])
+        flush_failed passes blame more next first seals blames broken =
+            let acts : List Act = flushes own sheets ++ record { deed = Flush (seat_of own.key own.name next); done = false } ∷ [] in (
+              Own (broken_seat (seat_on base old)),
+              fails_turn passes (words ++ more) blame acts (Own (broken_seat (seat_on base old))) (not_flushed_before own (seat_on base old) line step words more sheets next blame some first seals refl blames),
+              broken_shows acts (seat_on base old) refl refl broken,
+            )
+
+        -- a fetch failed after it
+        pub fetch_failed_after : ((these : List Answer) → NoneRefuses (rules key false (Own own) line these)) → (blame : Blame) (more : List (List ℕ)) (next : Sheet) → FlushesFirst (length (now base old.tree)) old.tree.dirty step → Seals (seat_on base old) more next → BlamesFetch next own.name given blame
+            → new.broken ≡ true → LineEnds (words ++ more) (host_blamed blame) false (flush_reply (fault_of blame)) new (flushes own (sheets ++ next ∷ []))
+        fetch_failed_after passes blame more next first seals blames broken = (
+          Own (broken_seat (resealed (seat_on base old) next)),
+          fails_turn passes (words ++ more) blame (flushes own (sheets ++ next ∷ [])) (Own (broken_seat (resealed (seat_on base old) next)))
+              (not_fetched_after own (seat_on base old) line step words more sheets next blame some first seals refl blames),
+          broken_shows (flushes own (sheets ++ next ∷ [])) (resealed (seat_on base old) next) refl refl broken,
+        )
 
     -- a step was made
     pub made_more : (step : Step) (new : SessionState) → new.changed ≡ true → new.key ≡ old.key → new.name ≡ old.name → new.broken ≡ false → Fits (length (now base old.tree)) old.tree.dirty step → IsBacked base new → IsStepped step (seat_on base old) (seat_on base new)

@@ -21,7 +21,7 @@ use Rattle.pf_session.specs.declared.fault.WriteFault.{WriteFault}
 use Rattle.pf_session.specs.declared.fault.WriteFault.TheVariants as writes
 use Rattle.pf_session.specs.declared.fault.Written.{Written}
 use Rattle.pf_script.specs.BookSeats.{Covers, KeepsUnder}
-use Rattle.pf_script.specs.Desk.{IsSeated, seat_on}
+use Rattle.pf_script.specs.Desk.{IsSeated, seat_on, IsLikeOwn}
 use Rattle.pf_script.specs.DeskSteps.{IsChange, TakesNone, FlushesUnder, Admits, SeatGoes}
 use Rattle.pf_script.specs.Rules.{IsFirst, NoneRefuses, rules, seated_rules, writing_rules}
 use Rattle.pf_script.specs.Script.{OwnSeat, Seat, Own}
@@ -42,7 +42,6 @@ use Rattle.pf_script.proofs.Liking.{like_some}
 use Rattle.pf_script.proofs.OfScript.{of_flushed}
 use Rattle.pf_script.proofs.Refusing.{refused_goes, first_then, none_then, at_last, none_taken, same_keeps}
 use Rattle.pf_script.proofs.SeatCalls.{seen_by, whole_turns, goes_on}
-use Rattle.pf_script.proofs.Showing.{shows_whole}
 use Rattle.pf_script.proofs.StepTurns.{all_made}
 use Rattle.pf_script.proofs.WantFlushes.{Any, flushed_under, change_flushes}
 
@@ -122,37 +121,37 @@ module _ (key : List ℕ) (at : ℕ) (bytes : List ℕ) (line : ScriptLine) (cou
   count_is = write_count at bytes line count is_line
 
   -- a rule refuses
-  rule_goes : (why : Why) (host : HostState) (words : WordsState) → ((base : Sheet) → IsFirst (writing_rules (Own (seat_on base old)) at count) why) → SeatGoes key false line (Ok (replies.Refused why)) (Some old) (Some old) host host words words
+  rule_goes : (why : Why) (host : HostState) (words : WordsState) → ((own : OwnSeat) → length own.content ≡ old.tree.size → IsFirst (writing_rules (Own own) at count) why) → SeatGoes key false line (Ok (replies.Refused why)) (Some old) (Some old) host host words words
   rule_goes why host words first =
       refused_goes key false line why (Some old) host words
-      (λ sealed seat shows.
-      let on = shows_whole sealed seat old whole shows in
-      subst (λ (x : Seat). IsFirst (rules key false x line []) why) (sym on.seat_is)
-      (write_first at bytes line count is_line key (Own (seat_on on.sheet old)) [] why
-      (first_then (writing_rules (Own (seat_on on.sheet old)) at count) why (Own (seat_on on.sheet old)) (seat_on on.sheet old) refl whole (first on.sheet)))) seated
+      (λ seat like.
+      let like_old = like_some seat old like in
+      let own = like_old.own in
+      subst (λ (x : Seat). IsFirst (rules key false x line []) why) (sym like_old.seat_is)
+      (write_first at bytes line count is_line key (Own own) [] why (first_then (writing_rules (Own own) at count) why (Own own) own refl (like_old.like.broken_is ∙ whole) (first own (like_old.like.as_large whole))))) seated
 
   -- which rule it is that refuses
   pub record RefusedBy (fault : WriteFault) : Type 0 where
     pub why : Why
     pub reply_is : write_reply count (Err fault) ≡ Ok (replies.Refused why)
-    pub first : (base : Sheet) → IsFirst (writing_rules (Own (seat_on base old)) at count) why
+    pub first : (own : OwnSeat) → length own.content ≡ old.tree.size → IsFirst (writing_rules (Own own) at count) why
 
   pub why_refused : (fault : WriteFault) → WriteRefused at (length bytes) old.tree.size fault → RefusedBy fault
-  why_refused writes.TooLong why = record { why = whys.TooLong; reply_is = refl; first = λ base. inl (refl, subst (λ n. 32768 < n) (sym count_is) why) }
+  why_refused writes.TooLong why = record { why = whys.TooLong; reply_is = refl; first = λ own size_is. inl (refl, subst (λ n. 32768 < n) (sym count_is) why) }
   why_refused writes.TooLarge why = record {
     why = whys.TooLarge;
     reply_is = refl;
-    first = λ base. inr ((λ other refuses. omega (arith, refuses.1, why.0, count_is)), inl (refl, omega (arith, why.1, count_is)));
+    first = λ own size_is. inr ((λ other refuses. omega (arith, refuses.1, why.0, count_is)), inl (refl, omega (arith, why.1, count_is)));
   }
   why_refused (writes.PastEnd said) why = record {
     why = whys.PastEnd said;
     reply_is = refl;
-    first = λ base.
+    first = λ own size_is.
         inr (
           (λ other refuses. omega (arith, refuses.1, why.0, count_is)),
           inr (
             (λ other refuses. omega (arith, refuses.1, why.1, count_is)),
-            inl (said, why.3 ∙ sym (length_now base old.tree), subst (λ n. n < at) (sym why.3) why.2, refl),
+            inl (said, why.3 ∙ sym size_is, subst (λ n. n < at) (sym why.3) why.2, refl),
           ),
         );
   }
@@ -188,6 +187,9 @@ module _ (key : List ℕ) (at : ℕ) (bytes : List ℕ) (line : ScriptLine) (cou
         not_past : (why : Why) → ¬ ((size : ℕ) × (size ≡ length own.content) × (size < at) × (why ≡ whys.PastEnd size))
         not_past why past = free (writes.PastEnd old.tree.size) (few, small, subst (λ n. n < at) (past.1 ∙ as_large) past.2, refl)
 
+    like_passes : (own : OwnSeat) → IsLikeOwn own old → (given : List Answer) → NoneRefuses (rules key false (Own own) line given)
+    like_passes own like = passes_own key false own (like.broken_is ∙ whole) (like.as_large whole)
+
     pub passes : (base : Sheet) (given : List Answer) → NoneRefuses (rules key false (Own (seat_on base old)) line given)
     passes base = passes_own key false (seat_on base old) whole (length_now base old.tree)
 
@@ -208,14 +210,15 @@ module _ (key : List ℕ) (at : ℕ) (bytes : List ℕ) (line : ScriptLine) (cou
         (λ sealed base among linked kept.
         at_last [] (inl refl) (λ unforged. all_made key sealed (seat_on base old) line [] old [] [] [] base (none_made sealed base old among linked kept whole)
         (write_asks at bytes line count is_line (length (now base old.tree)) [] (nothing none refl)) (replies.Written count false) (write_replies at bytes line count is_line []) (passes base))))
+        (admits.none key false)
         (both_same (KeepsUnder (Covers old) (Covers old) (λ name. name ≡ old.name)) host.honest host.honest refl (same_keeps (Covers old) (λ name. name ≡ old.name))) seated refl
 
     -- a write of some bytes
     some_goes : bytes ≢ [] → (new : SessionState) (before after : HostState) (random random' : WordsState) → Aside old.name before after → OnDisk before after (KeepsUnder (Covers old) (Covers new) (λ name. name ≡ old.name)) → IsSeated key new → new.name ≡ old.name
         → (outcome : Outcome) → ChangeSeen (Write at bytes) old new outcome before after random random' → (outcome ≡ Wanted → (new.broken ≡ true) × OnDisk before after (FlushesUnder line old)) → SeatGoes key false line (outcome_reply (written count) outcome) (Some old) (Some new) before after random random'
     some_goes some new before after random random' aside books seated_new name_is =
-        line_goes key line old new whole (Write at bytes) (written count) (λ size. write_asks at bytes line count is_line size (Write at bytes ∷ []) (at_place some refl)) replied passes before after random random' aside books seated_new name_is
-        (write_takes at bytes line count is_line) (write_changes at bytes line count is_line) admits (λ flushed. (refl, refl))
+        line_goes key line old new whole (Write at bytes) (written count) (λ size. write_asks at bytes line count is_line size (Write at bytes ∷ []) (at_place some refl)) replied like_passes before after random random' aside books seated_new name_is
+        (write_takes at bytes line count is_line) (write_changes at bytes line count is_line) admits (λ flushed. (refl, refl)) (λ flushed seat given passed. passed)
       where
         replied : (flushed : Bool) (sheets : List Sheet) → Grew flushed [] sheets → IsChangeReply sheets line (replies.Written count flushed)
         replied false sheets grew = subst (λ (s : List Sheet). IsChangeReply s line (replies.Written count false)) (sym grew) (write_replies at bytes line count is_line [])

@@ -31,7 +31,7 @@ use Rattle.pf_script.proofs.ChangeKeeping.{change_keeps}
 use Rattle.pf_script.proofs.ChangeLeft.{ChangeIn, in_once, in_unflushed, in_after}
 use Rattle.pf_script.proofs.ChangeLine.{outcome_reply}
 use Rattle.pf_script.proofs.ChangeTold.{Outcome, outcome_of, flush_outcome, Grew}
-use Rattle.pf_script.proofs.Flushed.{flush_ends}
+use Rattle.pf_script.proofs.Flushed.{flush_ends, length_now}
 use Rattle.pf_script.proofs.LineUnder.{line_under}
 use Rattle.pf_script.proofs.MadeActs.{MayFlush}
 use Rattle.pf_script.proofs.OfScript.{of_flushed, change_names}
@@ -75,7 +75,7 @@ module _ (key : List ℕ) (at : ℕ) (bytes : List ℕ) (line : ScriptLine) (cou
       (idle_booked key line (replies.Refused by.why) old whole host words
       (λ standing base given.
       refuses by.why
-      (write_first at bytes line count is_line key (Own (seat_on base old)) given by.why (first_then (writing_rules (Own (seat_on base old)) at count) by.why (Own (seat_on base old)) (seat_on base old) refl whole (by.first base)))
+      (write_first at bytes line count is_line key (Own (seat_on base old)) given by.why (first_then (writing_rules (Own (seat_on base old)) at count) by.why (Own (seat_on base old)) (seat_on base old) refl whole (by.first (seat_on base old) (length_now base old.tree))))
       (record { host = refl; random = refl }) refl refl refl refl))
 
   module _ (free : (fault : WriteFault) → ¬ (WriteRefused at (length bytes) old.tree.size fault)) where

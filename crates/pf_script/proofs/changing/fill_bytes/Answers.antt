@@ -2,15 +2,15 @@ use Rattle.std.proofs.Common.{◌≡◌, false, inl, refl, sym, ◌∙◌, subst
 use Rattle.std.proofs.lemmas.Result.{err_from_is_err_and}
 use Rattle.pf_io.specs.declared.faults.Memory.{Memory}
 use Rattle.pf_session.specs.State.{SessionState}
-use Rattle.pf_script.specs.Desk.{IsSeatOf, Shows}
+use Rattle.pf_script.specs.Desk.{IsSeatOf, IsLike}
 use Rattle.pf_script.specs.DeskSteps.{SeatGoes}
 use Rattle.pf_script.specs.Rules.{writing_rules}
 use Rattle.pf_script.specs.declared.line.ScriptLine.TheVariants as lines
 use Rattle.pf_script.specs.declared.reply.Reply.{Reply}
 use Rattle.pf_script.specs.declared.reply.Reply.TheVariants as replies
 use Rattle.pf_script.specs.declared.reply.Why.TheVariants as whys
+use Rattle.pf_script.proofs.Liking.{like_none, like_some}
 use Rattle.pf_script.proofs.Refusing.{refused_goes, first_empty, first_broken, first_then, at_some, nothing_wanting}
-use Rattle.pf_script.proofs.Showing.{shows_none, shows_some}
 use Rattle.pf_script.proofs.WriteLine.{copies, write_goes}
 use Rattle.pf_script.specs.BookTurns.{SeatBooked}
 use Rattle.pf_script.proofs.Under.{LooksLike, refused_agrees, some_booked}
@@ -21,7 +21,7 @@ pub returns-in_default-clause-goes : goal.returns-in_default-clause-goes
 returns-in_default-clause-goes g c key k seated =
     let line = lines.Fill k c.args.at c.args.count c.args.byte in
     refused_goes key false line whys.SeatEmpty c.args.seat.now (g.H.Host.state c.args.host.now) (g.R.Words.state c.args.random.now)
-    (λ sealed seat shows. first_empty (writing_rules seat c.args.at c.args.count) seat (shows_none sealed seat (subst (λ (o : Option SessionState). Shows sealed seat o) c.in_default.is shows))) seated
+    (λ seat like. first_empty (writing_rules seat c.args.at c.args.count) seat (like_none seat (subst (λ (o : Option SessionState). IsLike seat o) c.in_default.is like))) seated
 
 pub returns-then-broken-clause-goes : goal.returns-then-broken-clause-goes
 returns-then-broken-clause-goes g c key k =
@@ -31,9 +31,9 @@ returns-then-broken-clause-goes g c key k =
     let random = g.R.Words.state c.args.random.now in
     at_some key false line (Ok (replies.Refused whys.Broken)) c.args.seat.now s (Some s) before before random random c.in-Some.is
     (λ seated. refused_goes key false line whys.Broken (Some s) before random
-    (λ sealed seat shows.
-    let shown = shows_some sealed seat s shows in
-    first_broken (writing_rules seat c.args.at c.args.count) seat shown.shown shown.seat_is (shown.broken_is ∙ sym c.broken.ensures ∙ c.if-broken.true)) seated)
+    (λ seat like.
+    let at = like_some seat s like in
+    first_broken (writing_rules seat c.args.at c.args.count) seat at.own at.seat_is (at.like.broken_is ∙ sym c.broken.ensures ∙ c.if-broken.true)) seated)
 
 pub returns-then-count-gt-LONGEST-clause-goes : goal.returns-then-count-gt-LONGEST-clause-goes
 returns-then-count-gt-LONGEST-clause-goes g c key k =
@@ -43,9 +43,9 @@ returns-then-count-gt-LONGEST-clause-goes g c key k =
     let random = g.R.Words.state c.args.random.now in
     at_some key false line (Ok (replies.Refused whys.TooLong)) c.args.seat.now s (Some s) before before random random c.in-Some.is
     (λ seated. refused_goes key false line whys.TooLong (Some s) before random
-    (λ sealed seat shows.
-    let shown = shows_some sealed seat s shows in
-    first_then (writing_rules seat c.args.at c.args.count) whys.TooLong seat shown.shown shown.seat_is (shown.broken_is ∙ sym c.broken.ensures ∙ c.if-broken.false) (inl (refl, c.if-count-gt-LONGEST.true))) seated)
+    (λ seat like.
+    let at = like_some seat s like in
+    first_then (writing_rules seat c.args.at c.args.count) whys.TooLong seat at.own at.seat_is (at.like.broken_is ∙ sym c.broken.ensures ∙ c.if-broken.false) (inl (refl, c.if-count-gt-LONGEST.true))) seated)
 
 pub returns-in_err-bytes-clause-goes : goal.returns-in_err-bytes-clause-goes
 returns-in_err-bytes-clause-goes g c key k =

@@ -1,7 +1,7 @@
 use Rattle.std.proofs.Common.{◌∷◌, ◌<◌, [], false, inl, refl, sym, ◌∙◌, subst, Option, Some, Result, Ok, Err}
 use Rattle.pf_io.specs.declared.faults.Memory.{Memory}
 use Rattle.pf_session.specs.State.{SessionState}
-use Rattle.pf_script.specs.Desk.{IsSeatOf, Shows}
+use Rattle.pf_script.specs.Desk.{IsSeatOf, IsLike}
 use Rattle.pf_script.specs.DeskSteps.{SeatGoes}
 use Rattle.pf_script.specs.Rules.{refuses}
 use Rattle.pf_script.specs.SeatSteps.{LARGEST}
@@ -9,8 +9,8 @@ use Rattle.pf_script.specs.declared.line.ScriptLine.TheVariants as lines
 use Rattle.pf_script.specs.declared.reply.Reply.{Reply}
 use Rattle.pf_script.specs.declared.reply.Reply.TheVariants as replies
 use Rattle.pf_script.specs.declared.reply.Why.TheVariants as whys
+use Rattle.pf_script.proofs.Liking.{like_none, like_some}
 use Rattle.pf_script.proofs.Refusing.{refused_goes, first_empty, first_broken, first_then, at_some}
-use Rattle.pf_script.proofs.Showing.{shows_none, shows_some}
 use Rattle.pf_script.proofs.SizeLine.{size_goes, no_limit}
 use Rattle.pf_script.specs.BookTurns.{SeatBooked}
 use Rattle.pf_script.proofs.SizeUnder.{size_under}
@@ -20,7 +20,7 @@ use Rattle.pf_script.proofs.changing.set_size.Goals as goal
 pub returns-in_default-clause-goes : goal.returns-in_default-clause-goes
 returns-in_default-clause-goes g c key k seated =
     refused_goes key false (lines.Size k c.args.size) whys.SeatEmpty c.args.seat.now (g.H.Host.state c.args.host.now) (g.R.Words.state c.args.random.now)
-    (λ sealed seat shows. first_empty (refuses whys.TooLarge (LARGEST < c.args.size) ∷ []) seat (shows_none sealed seat (subst (λ (o : Option SessionState). Shows sealed seat o) c.in_default.is shows))) seated
+    (λ seat like. first_empty (refuses whys.TooLarge (LARGEST < c.args.size) ∷ []) seat (like_none seat (subst (λ (o : Option SessionState). IsLike seat o) c.in_default.is like))) seated
 
 pub returns-then-broken-clause-goes : goal.returns-then-broken-clause-goes
 returns-then-broken-clause-goes g c key k =
@@ -29,9 +29,9 @@ returns-then-broken-clause-goes g c key k =
     let random = g.R.Words.state c.args.random.now in
     at_some key false (lines.Size k c.args.size) (Ok (replies.Refused whys.Broken)) c.args.seat.now s (Some s) before before random random c.in-Some.is
     (λ seated. refused_goes key false (lines.Size k c.args.size) whys.Broken (Some s) before random
-    (λ sealed seat shows.
-    let shown = shows_some sealed seat s shows in
-    first_broken (refuses whys.TooLarge (LARGEST < c.args.size) ∷ []) seat shown.shown shown.seat_is (shown.broken_is ∙ sym c.broken.ensures ∙ c.if-broken.true)) seated)
+    (λ seat like.
+    let at = like_some seat s like in
+    first_broken (refuses whys.TooLarge (LARGEST < c.args.size) ∷ []) seat at.own at.seat_is (at.like.broken_is ∙ sym c.broken.ensures ∙ c.if-broken.true)) seated)
 
 pub returns-then-size-gt-LARGEST-clause-goes : goal.returns-then-size-gt-LARGEST-clause-goes
 returns-then-size-gt-LARGEST-clause-goes g c key k =
@@ -40,9 +40,9 @@ returns-then-size-gt-LARGEST-clause-goes g c key k =
     let random = g.R.Words.state c.args.random.now in
     at_some key false (lines.Size k c.args.size) (Ok (replies.Refused whys.TooLarge)) c.args.seat.now s (Some s) before before random random c.in-Some.is
     (λ seated. refused_goes key false (lines.Size k c.args.size) whys.TooLarge (Some s) before random
-    (λ sealed seat shows.
-    let shown = shows_some sealed seat s shows in
-    first_then (refuses whys.TooLarge (LARGEST < c.args.size) ∷ []) whys.TooLarge seat shown.shown shown.seat_is (shown.broken_is ∙ sym c.broken.ensures ∙ c.if-broken.false) (inl (refl, c.if-size-gt-LARGEST.true))) seated)
+    (λ seat like.
+    let at = like_some seat s like in
+    first_then (refuses whys.TooLarge (LARGEST < c.args.size) ∷ []) whys.TooLarge seat at.own at.seat_is (at.like.broken_is ∙ sym c.broken.ensures ∙ c.if-broken.false) (inl (refl, c.if-size-gt-LARGEST.true))) seated)
 
 pub returns-in-Ok-clause-goes : goal.returns-in-Ok-clause-goes
 returns-in-Ok-clause-goes g c key k =
