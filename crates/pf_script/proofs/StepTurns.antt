@@ -78,7 +78,7 @@ module _ (key : List ℕ) (sealed : List Sheet) (own : OwnSeat) (line : ScriptLi
   -- the turn of a line that failed
   pub fails_turn : ((these : List Answer) → NoneRefuses (rules key false (Own own) line these)) → (words : List (List ℕ)) (blame : Blame) (acts : List Act) (left : Seat) → Fails key (seen_by given words (host_blamed blame) false) blame (Own own) line acts left
       → SeatTurn (on_carried key sealed) key false (Own own) line (seen_by given words (host_blamed blame) false) (flush_reply (fault_of blame)) acts left
-  fails_turn passes words ByHost acts left fails = host_failed (passes []) (record { host = refl; random = refl }) fails refl
+  fails_turn passes words ByHost acts left fails = host_failed (passes given) (record { host = refl; random = refl }) fails refl
   fails_turn passes words (ByDamage damage) acts left fails = was_damaged damage (passes given) (record { host = refl; random = refl }) fails refl
 
   module _ (old : SessionState) (made : List Step) (words : List (List ℕ)) (sheets : List Sheet) (base : Sheet) (was : Made sealed own old made words sheets base) where
