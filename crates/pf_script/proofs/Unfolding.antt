@@ -11,7 +11,7 @@ use Rattle.pf_script.specs.DeskSteps.{MaySeal, Unfolds, in_the_end, then_more, S
 use Rattle.pf_script.specs.Script.{Seat, ScriptState, seat_at, sheet_of, sheets_of}
 use Rattle.pf_script.specs.SeatSteps.{AsksFor}
 use Rattle.pf_script.specs.TurnLaws.{SealsNothing, HoldsInTheEnd, UnforgedWithAll}
-use Rattle.pf_script.specs.Turns.{Seen, Standing, Accepts, created, opened, read, changed, flushed, moved, drawn_again, drawn_now, let_go, flushed_last, Blame, IsSealLine, of_flush, of_close, Fails, not_asked, not_created, not_opened, not_read, not_fetched, not_fetched_after, not_flushed_before, not_sealed, not_looked_up, not_flushed_to_move, not_moved, Loses, no_creation, no_flush, no_move, no_nonce, no_last_flush, no_flush_before, SeatTurn, refused, accepted, host_failed, was_damaged, words_failed, Turn, silent, on_seat, on_carried}
+use Rattle.pf_script.specs.Turns.{Seen, Standing, Accepts, created, opened, read, changed, flushed, moved, drawn_again, drawn_now, let_go, flushed_last, Blame, of_flush, of_close, Fails, not_asked, not_created, not_opened, not_read, not_fetched, not_fetched_after, not_flushed_before, not_sealed, not_looked_up, not_flushed_to_move, not_moved, Loses, no_creation, no_flush, no_move, no_nonce, no_last_flush, no_flush_before, SeatTurn, refused, accepted, host_failed, was_damaged, words_failed, Turn, silent, on_seat, on_carried}
 use Rattle.pf_script.specs.declared.line.ScriptLine.{ScriptLine}
 use Rattle.pf_script.specs.declared.line.ScriptLine.TheVariants as lines
 use Rattle.pf_script.specs.declared.reply.Reply.{Reply}
