@@ -206,7 +206,7 @@ module _ (key : List ℕ) (own : OwnSeat) (line : ScriptLine) (book : Book) (sea
             shows = broken_under (flushes own sheets) progress.left (seat_on base old) (sym (ap (λ (s : SessionState). s.key) goes.state)) (sym (ap (λ (s : SessionState). s.name) goes.state)) (ap (λ (s : SessionState). s.broken) goes.state);
             turn = λ given.
                 subst (λ (w : List (List ℕ)). SeatTurn standing key false (Own own) line (seen_by given w true false) replies.HostFault (flushes own sheets) (Own (broken_seat (seat_on base old)))) (sym words_are)
-                (host_failed (passes []) (record { host = refl; random = refl }) (not_fetched own (seat_on base old) line step sheets ByHost some (fits_at base old step roomy) tt) refl);
+                (host_failed (passes given) (record { host = refl; random = refl }) (not_fetched own (seat_on base old) line step sheets ByHost some (fits_at base old step roomy) tt) refl);
           }
       once (Err trees.Memory) goes stands only = tt
 
@@ -256,7 +256,7 @@ module _ (key : List ℕ) (own : OwnSeat) (line : ScriptLine) (book : Book) (sea
           only = only_flush false next.0;
           made = is_on (IsFlushOf (Own own)) (flushes own sheets) (act next.0 false ∷ []) (are_flushes own sheets) (one_is (IsFlushOf (Own own)) (act next.0 false) refl);
           shows = broken_under (flushes own sheets ++ act next.0 false ∷ []) (left_now next.0 false) (seat_on base old) (sym key_is) (sym name_is) broken;
-          turn = λ given. host_failed (passes []) (record { host = refl; random = refl }) (not_flushed_before own (seat_on base old) line step words more sheets next.0 ByHost some (flushes_first base old step is_first) next.1 refl tt) refl;
+          turn = λ given. host_failed (passes given) (record { host = refl; random = refl }) (not_flushed_before own (seat_on base old) line step words more sheets next.0 ByHost some (flushes_first base old step is_first) next.1 refl tt) refl;
         }
 
     -- a step after the flush
@@ -338,7 +338,7 @@ module _ (key : List ℕ) (own : OwnSeat) (line : ScriptLine) (book : Book) (sea
             shows = broken_under (flushes own (sheets ++ next ∷ [])) (left_now next true) (resealed (seat_on base old) next)
                 (sym (ap (λ (s : SessionState). s.key) goes.state ∙ ap (λ (s : SessionState). s.key) same)) (sym (ap (λ (s : SessionState). s.name) goes.state ∙ ap (λ (s : SessionState). s.name) same)) (ap (λ (s : SessionState). s.broken) goes.state);
             turn = λ given.
-                host_failed (passes []) (record { host = refl; random = refl }) (not_fetched_after own (seat_on base old) line step words more sheets next ByHost some (flushes_first base old step is_first) own_seals refl tt) refl;
+                host_failed (passes given) (record { host = refl; random = refl }) (not_fetched_after own (seat_on base old) line step words more sheets next ByHost some (flushes_first base old step is_first) own_seals refl tt) refl;
           }
       after_step (Err trees.Memory) goes stands = tt
 

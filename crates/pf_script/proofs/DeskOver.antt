@@ -54,7 +54,7 @@ over_cases key taken seat line words reply acts after old new over = by_turn ove
     by_turn : SeatTurn (stands_on key old) key taken seat line (seen_over old line words) reply acts after → ((name : Name) → new name ≡ old name) ⊎ ((name : Name) → name_of_line line ≡ Some name → ¬ (¬ (IsTarget name)))
     by_turn (refused why first calm none said nothing stays) = inl (subst (λ (l : List Act). FilesAfter l old new) nothing over.files)
     by_turn (accepted none calm accepts) = inr (λ name gives. may_be key taken seat line (answers_of old line) name none gives)
-    by_turn (host_failed none failed fails said) = inr (λ name gives. may_be key taken seat line [] name none gives)
+    by_turn (host_failed none failed fails said) = inr (λ name gives. may_be key taken seat line (answers_of old line) name none gives)
     by_turn (was_damaged damage none calm fails said) = inr (λ name gives. may_be key taken seat line (answers_of old line) name none gives)
     by_turn (words_failed none failed loses said) = inr (λ name gives. may_be key taken seat line (answers_of old line) name none gives)
 

@@ -84,6 +84,7 @@ pub mod ReadLine
 pub mod DeskLine
 pub mod BlankLine
 pub mod MoveLine
+pub mod Unfolding
 pub mod BookRunning
 pub mod FilesRunning
 pub mod OneRules

@@ -49,17 +49,13 @@ use Rattle.pf_script.proofs.StepKeeping.{keeps_more}
 use Rattle.pf_script.proofs.Refusing.{none_taken, at_last, refused_goes, nothing_wanting, first_then, none_then}
 use Rattle.pf_script.proofs.SeatCalls.{seen_by, own_with, SheetTurns, whole_turns, host_reply, words_reply, shows_same, false_true}
 use Rattle.pf_script.proofs.Sparing.{spares_both}
+use Rattle.pf_script.proofs.Unfolding.{sheets_then}
 use Rattle.pf_script.proofs.WriteLine.{nothing_goes}
-use Rattle.pf_script.specs.Script.{OwnSeat, Own, Seat, sheet_of, sheets_of}
+use Rattle.pf_script.specs.Script.{OwnSeat, Own, Seat, sheets_of}
 use Rattle.pf_script.specs.SeatSteps.{SealsMoved, renamed, broken_seat, words_of_flush, words_of_move}
 use Rattle.pf_script.specs.Turns.{FlushedToMove, as_it_was, was_changed, IsShort, Blame, ByHost, ByDamage, BlamesFlush, FlushDamage, Caused, SeatTurn, Fails, refused, accepted, host_failed, was_damaged, words_failed, moved as moved_on, not_looked_up, not_flushed_to_move, not_moved as not_carried, no_move, flushes, on_carried}
 use Rattle.pf_script.proofs.FlushLine.{resealed_own}
 use Rattle.pf_script.proofs.Flushed.{SeenOf, counted_kind, host_blamed, fault_of, seal_ends, FlushEnds, not_begun, not_ended, was_ended}
-
--- the sheets of acts one after the other
-pub sheets_then : (acts more : List Act) → sheets_of (acts ++ more) ≡ sheets_of acts ++ sheets_of more
-sheets_then [] more = refl
-sheets_then (act ∷ acts) more = ap (λ (l : List Sheet). sheet_of act.deed ++ l) (sheets_then acts more) ∙ sym (append_assoc (sheet_of act.deed) (sheets_of acts) (sheets_of more))
 
 -- words that were taken one after the other
 pub taken_then : (words more : List (List ℕ)) (a b c : WordsState) → Both a.left b.left (AreTaken words) → Both b.left c.left (AreTaken more) → Both a.left c.left (AreTaken (words ++ more))

@@ -21,5 +21,6 @@ pub mod SeatReplies
 pub mod FileTurns
 pub mod BookTurns
 pub mod ScriptRuns
+pub mod TurnLaws
 pub mod BookRuns
 pub mod FileRuns

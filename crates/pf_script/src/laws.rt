@@ -1,5 +1,7 @@
-//! A line has one reading; what the calls of a step keep of a book; what a script comes to over files; the definitions on examples.
-ghost use Rattle.std.specs.Prelude.{◌≡◌, ◌∷◌, [], ℕ, true, false, List, Some, None, codes, replicate};
+//! A line has one reading; what the calls of a step keep of a book; what unfolds in a step; what a script comes to over files; the definitions on examples.
+ghost use Rattle.std.specs.Prelude.{◌≡◌, ◌∷◌, [], ℕ, Bool, true, false, List, Some, None, codes, replicate};
+ghost use Rattle.node_tree.specs.Sheet.{Sheet};
+ghost use Rattle.node_tree.specs.Unforged.{Unforged};
 ghost use Rattle.pf_script.specs.declared.line.ScriptLine.{ScriptLine};
 ghost use Rattle.pf_script.specs.declared.line.ScriptLine.TheVariants.{Open, Read, Move as MoveTo, Close};
 ghost use Rattle.pf_script.specs.declared.reply.Reply.TheVariants.{Written};
@@ -13,10 +15,13 @@ ghost use Rattle.pf_script.specs.BookActs.{Flush, Move};
 ghost use Rattle.pf_script.specs.BookExamples.{seal_at, book_of_flushes, book_of_a_move, book_after_it, seat_with, two_seats};
 ghost use Rattle.pf_script.specs.BookLaws.{KeepsBook, StartsWith};
 ghost use Rattle.pf_script.specs.BookTurns.{MadeBy};
+ghost use Rattle.pf_script.specs.DeskSteps.{SomeSeatTurn, SomeTurn};
 ghost use Rattle.pf_script.specs.FileRuns.{OneRun};
 ghost use Rattle.pf_script.specs.FileTurns.{answers_of};
-ghost use Rattle.pf_script.specs.Script.{Own};
+ghost use Rattle.pf_script.specs.Script.{Seat, Own, ScriptState};
 ghost use Rattle.pf_script.specs.ScriptRuns.{closings};
+ghost use Rattle.pf_script.specs.TurnLaws.{SealsNothing, HoldsInTheEnd, UnforgedWithAll};
+ghost use Rattle.pf_script.specs.Turns.{Seen};
 
 /// Bytes are one line at most.
 pub fn text_has_one_reading()
@@ -51,4 +56,12 @@ pub fn steps_keep_the_book()
 /// Files, lines and random words have one run of a script from empty seats.
 pub fn scripts_have_one_run()
     ensures { OneRun }
+{}
+
+/// What unfolds in a step holds in the end: for a line that seals nothing where no answer is forged, and for any line where none
+/// is by the sheets either that it may have sealed.
+pub fn what_unfolds_holds_in_the_end()
+    ensures on_a_seat { (key : List ℕ) (sealed : List Sheet) (taken : Bool) (seat : Seat) (line : ScriptLine) (seen : Seen) → SealsNothing line → Unforged key sealed seen.given → HoldsInTheEnd key sealed (SomeSeatTurn key sealed taken seat line) seen }
+    ensures in_a_script { (state : ScriptState) (line : ScriptLine) (seen : Seen) → SealsNothing line → Unforged state.key state.sealed seen.given → HoldsInTheEnd state.key state.sealed (SomeTurn state line) seen }
+    ensures of_any_line { (state : ScriptState) (line : ScriptLine) (seen : Seen) → Unforged state.key state.sealed seen.given → UnforgedWithAll state.key state.sealed (SomeTurn state line) seen → HoldsInTheEnd state.key state.sealed (SomeTurn state line) seen }
 {}

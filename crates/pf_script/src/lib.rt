@@ -26,6 +26,7 @@ pub use desk::Desk;
 pub use fault::LineFault;
 pub use laws::{
     definitions_on_examples, scripts_have_one_run, steps_keep_the_book, text_has_one_reading,
+    what_unfolds_holds_in_the_end,
 };
 pub use line::ScriptLine;
 pub use line_reader::LineReader;
