@@ -22,7 +22,7 @@ like_shown sealed seat session (whole_file sheet own whole among linked kept is 
 like_shown sealed seat session (broken_file shown own broken as_broken key name is some) =
     subst (λ (s : Seat). IsLike s session) (sym is)
     (subst (λ (o : Option SessionState). IsLike (Own shown) o) (sym some)
-        (record { key_is = key; name_is = name; broken_is = as_broken ∙ sym broken; as_large = λ whole. let e : true ≡ false = sym broken ∙ whole in absurd (cc) }))
+    (record { key_is = key; name_is = name; broken_is = as_broken ∙ sym broken; as_large = λ whole. let e : true ≡ false = sym broken ∙ whole in absurd (cc) }))
 
 pub like_state : (state : ScriptState) (desk : DeskState) → IsStateOf state desk → IsLikeDesk state desk
 like_state state desk is_state = record { key_is = is_state.key_is; like = λ k. like_shown state.sealed _ (session_at desk k) (is_state.shows k) }

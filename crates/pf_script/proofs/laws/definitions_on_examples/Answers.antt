@@ -1,5 +1,6 @@
-use Rattle.std.proofs.Common.{List, ℕ, ◌++◌, codes, refl, sym, ap, arith}
+use Rattle.std.proofs.Common.{◌≡◌, List, ℕ, ◌++◌, codes, refl, sym, ap, arith, get_or}
 use Rattle.std.proofs.lemmas.Fmt.{decimal_digit}
+use Rattle.pf_io.specs.Disk.{Name}
 use Rattle.pf_script.specs.Replies.{ended}
 use Rattle.pf_script.specs.declared.command.Command.TheVariants as commands
 use Rattle.pf_script.specs.ScriptLines.{Worded}
@@ -52,4 +53,6 @@ pub returns-clause-flushes_itself : goal.returns-clause-flushes_itself
 returns-clause-flushes_itself c = refl
 
 pub returns-clause-no_other : goal.returns-clause-no_other
-returns-clause-no_other c both = omega (arith, both.0)
+returns-clause-no_other c both =
+    let same : 97 ≡ 98 = ap (λ (name : Name). get_or name 0 0) both.0 in
+    omega (arith, same)
