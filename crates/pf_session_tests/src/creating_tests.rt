@@ -69,35 +69,6 @@ fn what_was_created_opens_as_an_empty_version(rt: HostRuntime) -> Result<(), Fai
 }
 
 #[test]
-fn a_name_that_is_there_is_refused(rt: HostRuntime) -> Result<(), Fail> {
-    let alloc = rt.alloc();
-    let mut host = MemHost::new(alloc);
-    host.put("a.pf", b"before")?;
-    assert_eq!(rt; created(alloc, &mut host, 2)?, Some(CreateFault::Exists));
-    assert_eq!(rt; host.bytes("a.pf"), Some(&b"before"[..]));
-    Ok(())
-}
-
-#[test]
-fn names_and_paths_that_are_none_are_refused(rt: HostRuntime) -> Result<(), Fail> {
-    let alloc = rt.alloc();
-    let rows: [(&str, &str); 3] = [("a.new", "a"), ("", "a"), ("a", "")];
-    for (name, path) in rows {
-        let mut host = MemHost::new(alloc);
-        let mut random = words_of(alloc, 0)?;
-        match Session::create(alloc, &mut host, &mut random, &KEY, name, path) {
-            Ok(_session) => panic!(rt; "created"),
-            Err(fault) => assert_eq!(rt; fault, CreateFault::BadName),
-        }
-        match Session::create_beside(alloc, &mut host, &mut random, &KEY, name, path) {
-            Ok(_session) => panic!(rt; "begun"),
-            Err(fault) => assert_eq!(rt; fault, BesideFault::BadName),
-        }
-    }
-    Ok(())
-}
-
-#[test]
 fn want_of_words_and_failing_calls_leave_the_name_absent(rt: HostRuntime) -> Result<(), Fail> {
     let alloc = rt.alloc();
     for count in 0..2 {

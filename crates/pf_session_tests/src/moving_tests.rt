@@ -131,49 +131,6 @@ fn a_nonce_that_was_drawn_stays_for_the_next_flush(rt: HostRuntime) -> Result<()
 }
 
 #[test]
-fn a_name_that_is_there_or_is_no_target_is_refused(rt: HostRuntime) -> Result<(), Fail> {
-    let alloc = rt.alloc();
-    let mut host = MemHost::new(alloc);
-    let mut random = words_of(alloc, 8)?;
-    let mut session = sealed_file(&rt, alloc, &mut host, &mut random);
-    host.put("b.pf", b"other")?;
-    for name in ["a.pf", "b.pf"] {
-        let moved = move_to(&rt, alloc, &mut session, &mut host, &mut random, name);
-        assert_eq!(rt; moved, Err(MoveFault::TargetExists));
-    }
-    for name in ["", "b.new", "b.recovery", "."] {
-        let moved = move_to(&rt, alloc, &mut session, &mut host, &mut random, name);
-        assert_eq!(rt; moved, Err(MoveFault::BadName));
-    }
-    assert_eq!(rt; host.bytes("b.pf"), Some(&b"other"[..]));
-    assert_eq!(rt; first_byte(&rt, alloc, &mut host, "a.pf"), Some(5));
-    Ok(())
-}
-
-// A move that needs four words, where so many were there for the file and the move.
-fn move_with_words(rt: &impl Abort, alloc: Global, words: u8) -> Result<(), Fail> {
-    let mut host = MemHost::new(alloc);
-    let mut random = words_of(alloc, words)?;
-    let mut session = sealed_file(rt, alloc, &mut host, &mut random);
-    change(rt, &mut session, &mut host, &mut random);
-    let moved = move_to(rt, alloc, &mut session, &mut host, &mut random, "b.pf");
-    assert_eq!(rt; moved, Err(MoveFault::Words));
-    assert!(rt; session.changed() && !session.broken());
-    assert_eq!(rt; session.path().as_str(), "a.pf");
-    assert_eq!(rt; first_byte(rt, alloc, &mut host, "a.pf"), Some(5));
-    assert_eq!(rt; first_byte(rt, alloc, &mut host, "b.pf"), None);
-    Ok(())
-}
-
-#[test]
-fn want_of_words_leaves_the_session_and_its_file(rt: HostRuntime) -> Result<(), Fail> {
-    for words in 6..10 {
-        move_with_words(&rt, rt.alloc(), words)?;
-    }
-    Ok(())
-}
-
-#[test]
 fn a_short_node_breaks_the_session_and_leaves_the_old_name(rt: HostRuntime) -> Result<(), Fail> {
     let alloc = rt.alloc();
     let mut host = MemHost::new(alloc);

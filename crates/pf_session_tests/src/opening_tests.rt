@@ -129,14 +129,3 @@ fn another_path_and_another_key_are_refused(rt: HostRuntime) {
         }
     );
 }
-
-#[test]
-fn names_that_are_none_or_absent_are_refused(rt: HostRuntime) {
-    let mut host = host_with_file(&rt, rt.alloc());
-    let fault = open_fault(&rt, rt.alloc(), &mut host, &KEY, "a.new", None);
-    assert!(rt; matches!(fault, OpenFault::BadName));
-    let fault = open_fault(&rt, rt.alloc(), &mut host, &KEY, "a.pf", Some(""));
-    assert!(rt; matches!(fault, OpenFault::BadName));
-    let fault = open_fault(&rt, rt.alloc(), &mut host, &KEY, "b.pf", None);
-    assert!(rt; matches!(fault, OpenFault::NotFound));
-}

@@ -2,38 +2,24 @@
 #![tactic(auto)]
 
 mod decrypt;
-#[cfg(test)]
-mod decrypt_tests;
 mod defines;
 mod encrypt;
-#[cfg(test)]
-mod encrypt_tests;
 mod fault;
 mod input_file;
 mod key;
 mod lines;
 mod manifest;
-#[cfg(test)]
-mod manifest_tests;
 mod manifest_words;
 mod measuring;
-#[cfg(test)]
-mod measuring_tests;
 mod pieces;
 mod plain_file;
 mod rendering;
 mod run;
 mod script;
 mod script_lines;
-#[cfg(test)]
-mod script_tests;
 mod session_faults;
 mod sum_files;
 mod sums;
-#[cfg(test)]
-mod sums_tests;
-#[cfg(test)]
-mod tests;
 mod text_output;
 mod text_refusals;
 mod why;
