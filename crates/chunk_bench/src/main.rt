@@ -6,8 +6,6 @@
 
 mod fault;
 mod files;
-#[cfg(test)]
-mod tests;
 
 use files::{hash_file, read_file};
 use pf_io::DiskHost;

@@ -8,8 +8,6 @@
 #![tactic(auto)]
 
 mod calls;
-#[cfg(test)]
-mod tests;
 
 use calls::{NO_CALL, answer};
 use pf_io::{DiskHost, read_number};
