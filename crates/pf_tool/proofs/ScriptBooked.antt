@@ -23,7 +23,6 @@ use Rattle.pf_script.specs.DeskSteps.{IsChange, BreaksSeat, AreFlushes, Admits, 
 use Rattle.pf_script.specs.Script.{OwnSeat, Seat, Empty, Own, ScriptState, seat_at}
 use Rattle.pf_script.specs.Words.{SEATS}
 use Rattle.pf_script.specs.declared.line.ScriptLine.{ScriptLine}
-use Rattle.pf_script.specs.declared.line.ScriptLine.TheVariants as lines
 use Rattle.pf_script.proofs.ActKeeping.{unchanged_now}
 use Rattle.pf_script.proofs.BookRunning.{IsUnder, own_same, none_some, under_as, one_seated}
 use Rattle.pf_script.proofs.CallKeeping.{at_both}
@@ -139,16 +138,20 @@ stops_wanting starved line is_starved none d0 d1 h0 h1 after r0 r1 book state d 
           leaves = all_leaves book is.seats did.0 did.1 d b is.agrees is.image did.2;
           spares = did_spares book is.seats did.0 did.1 d b did.2;
           agrees = all_agrees book is.seats did.0 did.1 d b is.agrees is.image did.2;
-          none = inr (line, is_starved breaks.change, record {
-            k = k;
-            own = seat.own;
-            is_seat = breaks.is_seat;
-            is_own = seat.is_own;
-            flushes = subst (λ (n : Name). AreFlushes n did.0) (sym seat.name_is) did.3;
-            spares = did.4;
-            whole = seat.whole;
-            seals = sealed seat on did.0 did.5;
-          });
+          none = inr (
+            line,
+            is_starved breaks.change,
+            record {
+              k = k;
+              own = seat.own;
+              is_seat = breaks.is_seat;
+              is_own = seat.is_own;
+              flushes = subst (λ (n : Name). AreFlushes n did.0) (sym seat.name_is) did.3;
+              spares = did.4;
+              whole = seat.whole;
+              seals = sealed seat on did.0 did.5;
+            },
+          );
         }
       where
         sealed : {s : Seat} {o : Option SessionState} (seat : Admitted line s o) (on : OnSheet book is.seats seat.own seat.held) (acts : List Act)
