@@ -1,6 +1,6 @@
 -- What a session does under a book with which it may begin.
 use Rattle.std.proofs.Common.{◌≡◌, inl, inr, ⊎_elim, ℕ, true, false, List, [], refl, sym, ◌∙◌, ap, subst, Option, Some, None, Err}
-use Rattle.std.specs.Prelude.{IfSome, IsSome}
+use Rattle.std.specs.Prelude.{IfSome, IsSome, IsSomeAnd}
 use Rattle.std.specs.List.{flat_map}
 use Rattle.pf_io.specs.Disk.{Name, Disk, IsImage, reading}
 use Rattle.pf_io.specs.Host.{HostState, Both, ReadsAsImage}
@@ -19,11 +19,10 @@ use Rattle.pf_script.specs.BookRuns.{AreSeated, FollowsUnder}
 use Rattle.pf_script.specs.BookSeats.{CoversOn}
 use Rattle.pf_script.specs.BookTurns.{ShowsUnder, no_file, of_book, other_file}
 use Rattle.pf_script.specs.Desk.{DeskState, session_at, seat_on}
-use Rattle.pf_script.specs.DeskSteps.{HasItsName, IsChange, BreaksSeat, AreFlushes, SealsOnly, FlushesUnder, DeskGoes}
-use Rattle.pf_script.specs.Script.{OwnSeat, Seat, Empty, Own, ScriptState, seat_at, name_of_line}
+use Rattle.pf_script.specs.DeskSteps.{IsChange, BreaksSeat, AreFlushes, Admits, SealsOnly, FlushesUnder, DeskGoes}
+use Rattle.pf_script.specs.Script.{OwnSeat, Seat, Empty, Own, ScriptState, seat_at}
 use Rattle.pf_script.specs.Words.{SEATS}
 use Rattle.pf_script.specs.declared.line.ScriptLine.{ScriptLine}
-use Rattle.pf_script.specs.declared.line.ScriptLine.TheVariants as lines
 use Rattle.pf_script.proofs.ActKeeping.{unchanged_now}
 use Rattle.pf_script.proofs.BookRunning.{IsUnder, own_same, none_some, under_as, one_seated}
 use Rattle.pf_script.proofs.CallKeeping.{at_both}
@@ -43,7 +42,7 @@ began_seated : (desk : DeskState) (host : HostState) (book : Book) (state : Scri
 began_seated desk host book state d is k own = one_seated book is.seats (seat_at state k) (session_at desk k) own (is.is_state.shows k)
 
 -- The disk stayed behind the last exchange.
-stops_still : (starved : Type 0) (desk : DeskState) (host : HostState) (book : Book) (state : ScriptState) (d b : Honest) → IsUnder desk host book state d → Unchanged d b → StopsUnder starved book state d b
+stops_still : (starved : ScriptLine → Type 0) (desk : DeskState) (host : HostState) (book : Book) (state : ScriptState) (d b : Honest) → IsUnder desk host book state d → Unchanged d b → StopsUnder starved book state d b
 stops_still starved desk host book state d b is unchanged = record {
   acts = [];
   seats = is.seats;
@@ -58,7 +57,7 @@ stops_still starved desk host book state d b is unchanged = record {
 }
 
 -- nothing was done
-pub stops_idle : (starved : Type 0) (desk : DeskState) (host after : HostState) (book : Book) (state : ScriptState) (d b : Honest) → IsUnder desk host book state d → after.honest ≡ Some b → after ≡ host → StopsUnder starved book state d b
+pub stops_idle : (starved : ScriptLine → Type 0) (desk : DeskState) (host after : HostState) (book : Book) (state : ScriptState) (d b : Honest) → IsUnder desk host book state d → after.honest ≡ Some b → after ≡ host → StopsUnder starved book state d b
 stops_idle starved desk host after book state d b is at_end same =
     let e : Some d ≡ Some b = sym is.is_disk ∙ ap (λ (h : HostState). h.honest) (sym same) ∙ at_end in
     let one : d ≡ b = cc in
@@ -67,32 +66,18 @@ stops_idle starved desk host after book state d b is at_end same =
 held_same : (one other : SessionState) → ◌≡◌ {A = Option SessionState} (Some one) (Some other) → one ≡ other
 held_same one other same = cc
 
--- a change gives no name
-unnamed : (line : ScriptLine) (name : Name) → IsChange line → name_of_line line ≡ Some name → ⊥
-unnamed lines.Blank name change gives = absurd change
-unnamed (lines.Create seat own) name change gives = absurd change
-unnamed (lines.Open seat own) name change gives = absurd change
-unnamed (lines.View seat path) name change gives = absurd change
-unnamed (lines.Read seat at count) name change gives = absurd change
-unnamed (lines.Write seat at bytes) name change gives = absurd (cc)
-unnamed (lines.Fill seat at count byte) name change gives = absurd (cc)
-unnamed (lines.Size seat size) name change gives = absurd (cc)
-unnamed (lines.Flush seat) name change gives = absurd change
-unnamed (lines.Move seat own) name change gives = absurd change
-unnamed (lines.Draw seat) name change gives = absurd change
-unnamed (lines.Close seat) name change gives = absurd change
-
--- a seat that shows a session, and its name
-record Named (seat : Seat) (session : Option SessionState) : Type 0 where
+-- a seat that shows a session on which no rule refuses a line
+record Admitted (line : ScriptLine) (seat : Seat) (session : Option SessionState) : Type 0 where
   own : OwnSeat
   is_own : seat ≡ Own own
   held : SessionState
   is_held : session ≡ Some held
   name_is : own.name ≡ held.name
+  whole : own.broken ≡ false
 
-named_own : (seat : Seat) (session : Option SessionState) (name : Name) → LooksLike session seat → HasItsName session name → Named seat session
-named_own seat None name looks has = absurd has
-named_own seat (Some s) name looks has = record { own = looks.shown; is_own = looks.seat_is; held = s; is_held = refl; name_is = looks.name_is }
+admitted_own : (line : ScriptLine) (seat : Seat) (session : Option SessionState) → LooksLike session seat → IsSomeAnd session (Admits line) → Admitted line seat session
+admitted_own line seat None looks admits = absurd admits
+admitted_own line seat (Some s) looks admits = record { own = looks.shown; is_own = looks.seat_is; held = s; is_held = refl; name_is = looks.name_is; whole = looks.broken_is ∙ admits.whole }
 
 -- The sheet on which the session of a seat stands, where the book speaks of it: the content that the seat shows is that of the session.
 record OnSheet (book : Book) (seats : List Seal) (own : OwnSeat) (held : SessionState) : Type 0 where
@@ -127,28 +112,20 @@ some_entry (Some entry) has = (entry, refl)
 some_entry None has = absurd (none_some None refl has)
 
 -- there was no memory for a line
-pub stops_wanting : (starved : Type 0) → starved → (line : ScriptLine) (none : Memory) (d0 d1 : DeskState) (h0 h1 after : HostState) (r0 r1 : WordsState) (book : Book) (state : ScriptState) (d b : Honest) → IsUnder d0 h0 book state d → DeskGoes line (Err none) d0 d1 h0 h1 r0 r1
-    → after.honest ≡ Some b → after ≡ h1 → StopsUnder starved book state d b
-stops_wanting starved is_starved line none d0 d1 h0 h1 after r0 r1 book state d b is goes at_end same =
-    ⊎_elim (λ nothing. stops_still starved d0 h0 book state d b is (at_both Unchanged h0.honest h1.honest d b is.is_disk at_last nothing.disk)) (λ change. changed change) goes.wants.ends
+pub stops_wanting : (starved : ScriptLine → Type 0) (line : ScriptLine) → (IsChange line → starved line) → (none : Memory) (d0 d1 : DeskState) (h0 h1 after : HostState) (r0 r1 : WordsState) (book : Book) (state : ScriptState) (d b : Honest) → IsUnder d0 h0 book state d
+    → DeskGoes line (Err none) d0 d1 h0 h1 r0 r1 → after.honest ≡ Some b → after ≡ h1 → StopsUnder starved book state d b
+stops_wanting starved line is_starved none d0 d1 h0 h1 after r0 r1 book state d b is goes at_end same =
+    ⊎_elim (λ nothing. stops_still starved d0 h0 book state d b is (at_both Unchanged h0.honest h1.honest d b is.is_disk at_last nothing.disk)) (λ breaks. changed breaks) goes.wants.ends
   where
     at_last : h1.honest ≡ Some b
     at_last = ap (λ (h : HostState). h.honest) (sym same) ∙ at_end
 
-    shown : (change : IsChange line × BreaksSeat line d1) → Named (seat_at state change.1.0) (session_at d0 change.1.0)
-    shown change =
-        let k = change.1.0 in
-        let session = change.1.1 in
-        let has : HasItsName (session_at d1 k) session.name = subst (λ (o : Option SessionState). HasItsName o session.name) (sym change.1.3) refl in
-        let before : HasItsName (session_at d0 k) session.name = ⊎_elim (λ was. was) (λ given. absurd (unnamed line session.name change.0 given.1)) (goes.named k session.name has) in
-        named_own (seat_at state k) (session_at d0 k) session.name (looks_like book is.seats (seat_at state k) (session_at d0 k) (is.is_state.shows k)) before
-
-    changed : IsChange line × BreaksSeat line d1 → StopsUnder starved book state d b
-    changed change =
-        let k = change.1.0 in
-        let seat = shown change in
-        let flushes : FlushesUnder seat.held d b =
-        at_both (FlushesUnder seat.held) h0.honest h1.honest d b is.is_disk at_last (goes.wants.flushes k seat.held change.1.2 seat.is_held) in
+    changed : BreaksSeat line d0 d1 → StopsUnder starved book state d b
+    changed breaks =
+        let k = breaks.seat in
+        let seat = admitted_own line (seat_at state k) (session_at d0 k) (looks_like book is.seats (seat_at state k) (session_at d0 k) (is.is_state.shows k)) breaks.admitted in
+        let flushes : FlushesUnder line seat.held d b =
+        at_both (FlushesUnder line seat.held) h0.honest h1.honest d b is.is_disk at_last (goes.wants.flushes k seat.held breaks.is_seat seat.is_held) in
         let on = on_sheet book is.seats (seat_at state k) (session_at d0 k) seat.own seat.held (is.is_state.shows k) seat.is_own seat.is_held in
         let did = flushes book is.seats is.agrees is.image on.sheet on.covers in
         record {
@@ -161,15 +138,28 @@ stops_wanting starved is_starved line none d0 d1 h0 h1 after r0 r1 book state d 
           leaves = all_leaves book is.seats did.0 did.1 d b is.agrees is.image did.2;
           spares = did_spares book is.seats did.0 did.1 d b did.2;
           agrees = all_agrees book is.seats did.0 did.1 d b is.agrees is.image did.2;
-          none = inr (is_starved, (k, seat.own, seat.is_own, subst (λ (n : Name). AreFlushes n did.0) (sym seat.name_is) did.3, sealed seat on did.0 did.4));
+          none = inr (
+            line,
+            is_starved breaks.change,
+            record {
+              k = k;
+              own = seat.own;
+              is_seat = breaks.is_seat;
+              is_own = seat.is_own;
+              flushes = subst (λ (n : Name). AreFlushes n did.0) (sym seat.name_is) did.3;
+              spares = did.4;
+              whole = seat.whole;
+              seals = sealed seat on did.0 did.5;
+            },
+          );
         }
       where
-        sealed : {s : Seat} {o : Option SessionState} (seat : Named s o) (on : OnSheet book is.seats seat.own seat.held) (acts : List Act)
-            → ((entry : Entry) → seat.held.broken ≡ false → book seat.held.name ≡ Some entry → SealsOnly (now on.sheet seat.held.tree) acts) → IsSome (book seat.own.name) → seat.own.broken ≡ false → SealsOnly seat.own.content acts
-        sealed seat on acts seals has whole =
+        sealed : {s : Seat} {o : Option SessionState} (seat : Admitted line s o) (on : OnSheet book is.seats seat.own seat.held) (acts : List Act)
+            → ((entry : Entry) → seat.held.broken ≡ false → book seat.held.name ≡ Some entry → SealsOnly line (now on.sheet seat.held.tree) acts) → IsSome (book seat.own.name) → SealsOnly line seat.own.content acts
+        sealed seat on acts seals has =
             let entry = some_entry (book seat.own.name) has in
-            let shows = on.shows has whole in
-            subst (λ (c : List ℕ). SealsOnly c acts) (sym shows.1) (seals entry.0 shows.0 (ap book (sym seat.name_is) ∙ entry.1))
+            let shows = on.shows has seat.whole in
+            subst (λ (c : List ℕ). SealsOnly line c acts) (sym shows.1) (seals entry.0 shows.0 (ap book (sym seat.name_is) ∙ entry.1))
 
 -- from empty seats
 begun_under : (user : List ℕ) (begun : World) (book : Book) (s : Honest) → Agrees book [] s.now → IsImage s.now (reading s.now) → begun.host.honest ≡ Some s → IsUnder (begins user begun).desk begun.host book (empty_seats user []) s
@@ -182,7 +172,7 @@ begun_under user begun book s agrees image is = record {
 }
 
 -- the exchanges of the lines, then those of the closings, and how they stop
-pub runs_under : (starved : Type 0) (user : List ℕ) (transcript : Transcript) (begun : World) (read : At) (before : HostState) (book : Book) (a b : Honest) → before.honest ≡ Some a → ReadsAsImage before → StartsWith book a.now → KeepsDisk before begun.host
+pub runs_under : (starved : ScriptLine → Type 0) (user : List ℕ) (transcript : Transcript) (begun : World) (read : At) (before : HostState) (book : Book) (a b : Honest) → before.honest ≡ Some a → ReadsAsImage before → StartsWith book a.now → KeepsDisk before begun.host
     → Under (flat_map exchange_of transcript.items) (begins user begun) read
     → ((later : Book) (state : ScriptState) (mid : Honest) → IsUnder read.desk read.world.host later state mid → AreClosings transcript state × FollowsUnder later state transcript.closed mid (λ last after end. StopsUnder starved last after end b))
     → RunsUnder user transcript starved book a b

@@ -1,5 +1,5 @@
 -- What a whole session does under a book with which it may begin.
-use Rattle.std.proofs.Common.{◌≡◌, ◌⊎◌, inl, inr, ⊎_elim, ℕ, suc, Bool, true, false, List, [], ◌∷◌, ◌++◌, map, refl, sym, ◌∙◌, ap, subst, append_assoc, Option, Some, Result, Ok, Err}
+use Rattle.std.proofs.Common.{◌≡◌, ◌⊎◌, inl, inr, ⊎_elim, ℕ, suc, Bool, true, false, List, [], ◌∷◌, ◌++◌, length, map, refl, sym, ◌∙◌, ap, subst, append_assoc, Option, Some, Result, Ok, Err}
 use Rattle.std.specs.Prelude.{⊤, IfSome}
 use Rattle.std.specs.List.{flat_map}
 use Rattle.std.proofs.lemmas.List.{append-nil}
@@ -17,18 +17,22 @@ use Rattle.pf_script.specs.BookDebts.{Unchanged}
 use Rattle.pf_script.specs.BookLaws.{StartsWith, RunKeeps}
 use Rattle.pf_script.proofs.CallKeeping.{both_with}
 use Rattle.pf_script.specs.Desk.{session_at}
+use Rattle.pf_script.specs.LineReading.{GoesOn}
 use Rattle.pf_script.specs.Script.{ScriptState, seat_at}
-use Rattle.pf_script.specs.ScriptRuns.{Exchange}
+use Rattle.pf_script.specs.ScriptLines.{IsScriptLine}
+use Rattle.pf_script.specs.ScriptRuns.{Exchange, closings}
+use Rattle.pf_script.specs.declared.line.ScriptLine.{ScriptLine}
+use Rattle.pf_script.specs.declared.next_line.NextLine.TheVariants as nexts
 use Rattle.pf_script.proofs.BookRunning.{IsUnder, under_as}
 use Rattle.pf_script.proofs.FilesRunning.{IsOver, over_as}
 use Rattle.pf_script.proofs.Under.{looks_like, looks_over}
 use Rattle.pf_script.specs.Words.{SEATS}
-use Rattle.pf_tool.specs.BookScripts.{closings, StopsUnder, RunsUnder, KeepsScript, no_script, script, FilesAre}
+use Rattle.pf_tool.specs.BookScripts.{StopsUnder, IsNextLine, StarvesAt, RunsUnder, KeepsScript, no_script, script, FilesAre}
 use Rattle.pf_tool.specs.Keys.{KeyOver}
 use Rattle.pf_tool.specs.Outcomes.{SaysScript}
 use Rattle.pf_tool.specs.Replying.{spoken_text, closed_text, first_of, end_text}
 use Rattle.pf_tool.specs.Reports.{WroteAll}
-use Rattle.pf_tool.specs.Scripting.{At, begins, Answers, ScriptGoes, no_key, no_reader, no_line, no_closing, no_end, done, AllLines, LineStops, not_read, not_answered, not_said, KeyRead, Closings}
+use Rattle.pf_tool.specs.Scripting.{At, begins, Reads, Answers, ScriptGoes, no_key, no_reader, no_line, no_closing, no_end, done, AllLines, LineStops, not_read, not_answered, not_said, KeyRead, Closings}
 use Rattle.pf_tool.specs.Transcripts.{Item, Transcript, exchange_of, exchanges_of, item_text, item_status, text_of, status_of, AnswerEach, AnswersFirst, IsStarved, PutOut, whole, cut_off, counts_after, SeenUntil}
 use Rattle.pf_tool.specs.World.{World, with_log}
 use Rattle.pf_tool.specs.declared.fault.Fault.{Fault}
@@ -42,7 +46,7 @@ use Rattle.pf_tool.proofs.ScriptUnread.{NoneCame, read_over, key_unread, lines_u
 use Rattle.pf_tool.proofs.SeatClosings.{lines_in, desk_closings, are_closings}
 use Rattle.pf_tool.proofs.ScriptContent.{stream_says, memory_says}
 use Rattle.pf_tool.proofs.ScriptBooks.{script_books}
-use Rattle.pf_tool.proofs.ScriptReading.{FirstLinesAre, input_ends, status_on, text_on}
+use Rattle.pf_tool.proofs.ScriptReading.{FirstLinesAre, read_settled, input_ends, status_on, text_on}
 use Rattle.pf_tool.proofs.ScriptClosing.{closing_texts, closing_statuses, closing_texts_on}
 use Rattle.pf_tool.proofs.ScriptParts.{lines_only, both_first}
 use Rattle.pf_tool.proofs.ScriptText.{wrote_front, failed_front, lines_text}
@@ -74,6 +78,12 @@ all_under user begun status now all =
       status_is = told.status_is;
     }
 
+each_many : (first : List (List ℕ)) (items : List Item) → AnswerEach first items → length first ≡ length items
+each_many [] [] each = refl
+each_many (bytes ∷ first) (item ∷ items) each = ap suc (each_many first items each.1)
+each_many [] (item ∷ items) each = absurd each
+each_many (bytes ∷ first) [] each = absurd each
+
 pub five_or_seven : (old new : World) (status : ℕ) → IsStarved old new status → (status ≡ 5) ⊎ (status ≡ 7)
 five_or_seven old new status (inl is) = inl is
 five_or_seven old new status (inr both) = inr both.0
@@ -88,7 +98,7 @@ pub record CameUnder (key : Name) (old new : World) (status : ℕ) (book : Book)
   pub words_counts : new.random.faults ≡ counts_after (words_flags (exchanges_of transcript)) old.random.faults
   pub lines : IfSome old.input.left (AnswersFirst transcript)
   pub put : PutOut transcript old new status
-  pub runs : RunsUnder user transcript (IsStarved old new status) book a b
+  pub runs : RunsUnder user transcript (StarvesAt transcript old new status) book a b
   pub over_files : AreCalm (exchanges_of transcript) → RunsFiles (IsStarved old new status) user transcript (reading a.now) new
 
 -- what came behind the last reply
@@ -125,7 +135,7 @@ module _ (key : Name) (old new : World) (status : ℕ) (book : Book) (a b : Hone
       (λ x y found. record { first = found.0; rest = lines_of (now.reader.pending ++ y); whole = found.1; each = found.2; all = λ more. absurd (⊎_elim (λ some. some refl) (λ is. absurd (cc)) more) }))
 
   came : (transcript : Transcript) (until : World) → Saw (exchanges_of transcript) begun.host until.host begun.random until.random → Rest until new IsWanting → IfSome old.input.left (AnswersFirst transcript) → PutOut transcript old new status
-      → RunsUnder user transcript IsWanting book a b → (AreCalm (exchanges_of transcript) → RunsFiles IsWanting user transcript (reading a.now) new) → CameUnder key old new status book a b
+      → RunsUnder user transcript (StarvesAt transcript old new status) book a b → (AreCalm (exchanges_of transcript) → RunsFiles IsWanting user transcript (reading a.now) new) → CameUnder key old new status book a b
   came transcript until saw rest lines put runs files = record {
     user = user;
     transcript = transcript;
@@ -140,14 +150,29 @@ module _ (key : Name) (old new : World) (status : ℕ) (book : Book) (a b : Hone
   }
 
   lines_kept : (items : List Item) (last : At) → FirstLinesAre items Start last → Under (flat_map exchange_of items) Start last → PutOut (lines_only items) old new status → Rest last.world new IsWanting
-      → ((final : Book) (state : ScriptState) (d : Honest) → IsUnder last.desk last.world.host final state d → StopsUnder IsWanting final state d b)
+      → ((final : Book) (state : ScriptState) (d : Honest) → IsUnder last.desk last.world.host final state d → StopsUnder (StarvesAt (lines_only items) old new status) final state d b)
       → ((state : ScriptState) (files : Files) → IsOver last.desk last.world.host state files → FilesAre files new ⊎ IsWanting) → CameUnder key old new status book a b
   lines_kept items last reads under put rest stops left =
       came (lines_only items) last.world (subst (λ (l : List Exchange). Saw l begun.host last.world.host begun.random last.world.random) (sym (append-nil (flat_map exchange_of items))) under.saw) rest (first_lines items last reads) put
-      (runs_under IsWanting user (lines_only items) begun last old.host book a b at_start image starts read.disk under
+      (runs_under (StarvesAt (lines_only items) old new status) user (lines_only items) begun last old.host book a b at_start image starts read.disk under
       (λ later state mid is_mid. (record { rest = closings SEATS 0 state; in_order = refl; all = λ e. absurd (cc) }, stops later state mid is_mid)))
       (runs_over IsWanting user (lines_only items) begun last old.host a new at_start read.disk under
       (λ calm state mid is_mid. (record { rest = closings SEATS 0 state; in_order = refl; all = λ e. absurd (cc) }, left state mid is_mid)))
+
+  -- so many lines, and then this one
+  abbrev IsThen : List Item → At → List ℕ → List ℕ → Type 0
+  IsThen items now before left = (first : List (List ℕ)) × (lines_of before ≡ first ++ now.reader.line ∷ lines_of (now.reader.pending ++ left)) × (length first ≡ length items)
+
+  -- the line that was read behind those that the items answer
+  next_line : (items : List Item) (last now : At) (line : ScriptLine) → FirstLinesAre items Start last → Reads (Ok nexts.Whole) last now → IsScriptLine now.reader.line line → IfSome old.input.left (λ input. IsNextLine input items line)
+  next_line items last now line reads whole_read is_line =
+      let settled = read_settled nexts.Whole last now (λ e. absurd (cc)) whole_read in
+      subst (λ (s : SourceState). IfSome s.left (λ input. IsNextLine input items line)) read.passed.input
+      (both_first (IsThen items now) (λ input. IsNextLine input items line) begun.input.left now.world.input.left
+      (both_then (λ before left. (first : List (List ℕ)) × (lines_of before ≡ first ++ lines_of (last.reader.pending ++ left)) × AnswerEach first items)
+      (λ before left. GoesOn (Ok nexts.Whole) (lines_of (last.reader.pending ++ before)) now.reader (lines_of (now.reader.pending ++ left))) (IsThen items now) begun.input.left last.world.input.left now.world.input.left reads settled.1
+      (λ x y z found goes. (found.0, found.1 ∙ ap (λ (l : List (List ℕ)). found.0 ++ l) goes.1, each_many found.0 items found.2)))
+      (λ x y found. record { first = found.0; bytes = now.reader.line; rest = lines_of (now.reader.pending ++ y); whole = found.1; as_many = found.2; is_line = is_line }))
 
   -- there was no memory for a line
   wanting_rest : (bytes : List ℕ) (none : Memory) (last now : At) → IsWanting → Answers bytes (Err none) last now → new.host ≡ now.world.host → new.random ≡ now.world.random → Rest last.world new IsWanting
@@ -172,17 +197,17 @@ module _ (key : Name) (old new : World) (status : ℕ) (book : Book) (a b : Hone
       lines_kept lines.items last lines.reads lines.under
       (cut_off (inr (seven is)) (subst (λ (s : SinkState). Both old.out.bytes s.bytes (TakesFront (text_of (lines_only lines.items)))) (sym (out ∙ says.out)) (wrote_front (flat_map item_text lines.items) (text_of (lines_only lines.items)) old.out last.world.out (lines_text lines.items) (since _ _ lines.said))))
       (no_rest last.world new IsWanting (host ∙ nothing.same_host) (random ∙ nothing.same_random))
-      (λ final state d is_last. stops_idle IsWanting last.desk last.world.host new.host final state d b is_last at_end (host ∙ nothing.same_host))
+      (λ final state d is_last. stops_idle (StarvesAt (lines_only lines.items) old new status) last.desk last.world.host new.host final state d b is_last at_end (host ∙ nothing.same_host))
       (λ state files is_last. inl (files_left last.desk last.world.host state files new is_last (host ∙ nothing.same_host)))
   line_stops fault earlier last now lines (not_answered none reads answers says is) host random out starved seven =
       lines_kept lines.items last lines.reads lines.under
       (cut_off (five_or_seven old new status (starved is)) (subst (λ (s : SinkState). Both old.out.bytes s.bytes (TakesFront (text_of (lines_only lines.items)))) (sym (out ∙ says.out)) (wrote_front (flat_map item_text lines.items) (text_of (lines_only lines.items)) old.out last.world.out (lines_text lines.items) (since _ _ lines.said))))
       (wanting_rest now.reader.line none last now (starved is) answers host random)
       (λ final state d is_last.
-      ⊎_elim (λ nothing. stops_idle IsWanting last.desk last.world.host new.host final state d b is_last at_end (host ∙ nothing.same_host))
-      (λ step. stops_wanting IsWanting (starved is) step.0 none last.desk now.desk last.world.host now.world.host new.host last.world.random now.world.random final state d b is_last step.2 at_end host) answers)
+      ⊎_elim (λ nothing. stops_idle (StarvesAt (lines_only lines.items) old new status) last.desk last.world.host new.host final state d b is_last at_end (host ∙ nothing.same_host))
+      (λ step. stops_wanting (StarvesAt (lines_only lines.items) old new status) step.0 (λ change. record { starved = starved is; change = change; none_closed = refl; next = next_line lines.items last now step.0 lines.reads reads step.1 }) none last.desk now.desk last.world.host now.world.host new.host last.world.random now.world.random final state d b is_last step.2 at_end host) answers)
       (λ state files is_last. inr (starved is))
-  line_stops fault earlier last now lines (not_said reply answered failed is) host random out starved seven =
+  line_stops fault earlier last now lines (not_said reply answered some failed is) host random out starved seven =
       let one = line_under reply last now answered in
       let items = lines.items ++ one.item ∷ [] in
       let more = lines_more lines.items Start last now reply lines.reads lines.under one in
@@ -190,7 +215,7 @@ module _ (key : Name) (old new : World) (status : ℕ) (book : Book) (a b : Hone
       (cut_off (inr (seven is)) (subst (λ (s : SinkState). Both old.out.bytes s.bytes (TakesFront (text_of (lines_only items)))) (sym out)
       (failed_front (flat_map item_text lines.items) (spoken_text reply) (text_of (lines_only items)) old.out last.world.out now.world.out (lines_text items ∙ text_on lines.items one.item ∙ ap (λ (l : List ℕ). flat_map item_text lines.items ++ l) one.text_is) (since _ _ lines.said) failed)))
       (no_rest now.world new IsWanting host random)
-      (λ final state d is_last. stops_idle IsWanting now.desk now.world.host new.host final state d b is_last at_end host)
+      (λ final state d is_last. stops_idle (StarvesAt (lines_only items) old new status) now.desk now.world.host new.host final state d b is_last at_end host)
       (λ state files is_last. inl (files_left now.desk now.world.host state files new is_last host))
 
   -- with closings
@@ -205,10 +230,10 @@ module _ (key : Name) (old new : World) (status : ℕ) (book : Book) (a b : Hone
         (subst (λ (s : SourceState). IfSome s.left (AnswersFirst (with closed ended))) read.passed.input
         (both_first (λ before left. (AnswerEach (lines_of before) lines.items) × (left ≡ [])) (AnswersFirst (with closed ended)) begun.input.left at_read.world.input.left lines.reads
         (λ x y found. record { first = lines_of x; rest = []; whole = sym (append-nil (lines_of x)); each = found.0; all = λ more. refl }))) put
-        (runs_under IsWanting user (with closed ended) begun at_read old.host book a b at_start image starts read.disk lines.under
+        (runs_under (StarvesAt (with closed ended) old new status) user (with closed ended) begun at_read old.host book a b at_start image starts read.disk lines.under
         (λ later state mid is_mid. (
           are_closings state at_read.desk is_mid.is_state.eight (λ k. looks_like later is_mid.seats (seat_at state k) (session_at at_read.desk k) (is_mid.is_state.shows k)) lines.items closed ended count all are,
-          under_as later state closed mid (λ final after d is_last. stops_idle IsWanting now.desk now.world.host new.host final after d b is_last at_end host) (under.follows later state mid is_mid),
+          under_as later state closed mid (λ final after d is_last. stops_idle (StarvesAt (with closed ended) old new status) now.desk now.world.host new.host final after d b is_last at_end host) (under.follows later state mid is_mid),
         )))
         (runs_over IsWanting user (with closed ended) begun at_read old.host a new at_start read.disk lines.under
         (λ calm state mid is_mid. (

@@ -152,7 +152,7 @@ module _ (input : List ℕ) (before : HostState) where
   stop_spared fault old new so_far (not_answered none reads answers says is) =
       let next = whole_read old new so_far reads in
       answers_spared (IsNamed input) before new.reader.line (Err none) old new so_far.spared (gives_named new.reader.line next.among) answers
-  stop_spared fault old new so_far (not_said reply answered failed is) = let now = line_spared reply old new so_far answered in now.spared
+  stop_spared fault old new so_far (not_said reply answered some failed is) = let now = line_spared reply old new so_far answered in now.spared
 
 module _ (key : Name) (old new : World) (status : ℕ) (run : RunsScript key old new status) (input : List ℕ) (told : old.input.left ≡ Some input) where
   abbrev Named : Name → Type 0
