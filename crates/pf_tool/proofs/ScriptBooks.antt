@@ -75,7 +75,7 @@ module _ (first : DeskState) (before : HostState) where
   stop_keeps fault old new so_far (not_read cause reads nothing says is) = books_on first old.desk new.desk before old.world.host new.world.host so_far.keeps so_far.image (idle_keeps old new nothing)
   stop_keeps fault old new so_far (not_answered none reads (inl nothing) says is) = books_on first old.desk new.desk before old.world.host new.world.host so_far.keeps so_far.image (idle_keeps old new nothing)
   stop_keeps fault old new so_far (not_answered none reads (inr step) says is) = books_on first old.desk new.desk before old.world.host new.world.host so_far.keeps so_far.image (books_of step.0 old.desk new.desk old.world.host new.world.host step.2.books)
-  stop_keeps fault old new so_far (not_said reply answered failed is) = let now = line_keeps reply old new so_far answered in now.keeps
+  stop_keeps fault old new so_far (not_said reply answered some failed is) = let now = line_keeps reply old new so_far answered in now.keeps
 
 -- only reads on the disk, as those of a key
 read_keeps : (desk : DeskState) (before after : HostState) → KeepsDisk before after → KeepsDesk desk desk before after

@@ -10,8 +10,9 @@ use Rattle.pf_io.proofs.Telling.{both_same}
 use Rattle.pf_script.specs.Book.{Book}
 use Rattle.pf_script.specs.BookLaws.{StartsWith}
 use Rattle.pf_script.specs.FileRuns.{TakesWords}
+use Rattle.pf_script.specs.ScriptRuns.{closings}
 use Rattle.pf_script.specs.Words.{SEATS}
-use Rattle.pf_tool.specs.BookScripts.{closings, GivesScript}
+use Rattle.pf_tool.specs.BookScripts.{GivesScript}
 use Rattle.pf_tool.specs.Happened.{IsTaken}
 use Rattle.pf_tool.specs.Keys.{KeyOver}
 use Rattle.pf_tool.specs.Runs.{RunsScript, NoneRose}

@@ -5,12 +5,12 @@ use Rattle.std.proofs.lemmas.List.{append-nil, get_or_past}
 use Rattle.pf_session.specs.State.{SessionState}
 use Rattle.pf_script.specs.Desk.{DeskState, session_at}
 use Rattle.pf_script.specs.Script.{Seat, Empty, Own, ScriptState, seat_at}
-use Rattle.pf_script.specs.ScriptRuns.{Exchange}
+use Rattle.pf_script.specs.ScriptRuns.{Exchange, closing_of, closings}
 use Rattle.pf_script.specs.Words.{SEATS}
 use Rattle.pf_script.specs.declared.line.ScriptLine.{ScriptLine}
 use Rattle.pf_script.specs.declared.line.ScriptLine.TheVariants as lines
 use Rattle.pf_script.proofs.Under.{LooksLike}
-use Rattle.pf_tool.specs.BookScripts.{closing_of, closings, AreClosings}
+use Rattle.pf_tool.specs.BookScripts.{AreClosings}
 use Rattle.pf_tool.specs.Transcripts.{Item}
 
 abbrev pub lines_in : List Exchange → List ScriptLine
