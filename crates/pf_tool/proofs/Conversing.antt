@@ -41,8 +41,8 @@ wrote_nothing sink = record { told = both_nothing sink.bytes; calm = refl }
 -- a closing as its calls say
 pub closing_goes : (seat : ℕ) (result : Result ℕ StreamFault) (reply : Option Reply) (d0 d1 : DeskState) (reader : ReaderState) (h0 h1 : HostState) (input : SourceState) (o0 o1 log : SinkState) (r0 r1 : WordsState) → (reply ≡ None) ↔ (session_at d0 seat ≡ None) → ((other : ℕ) → other ≢ seat → session_at d1 other ≡ session_at d0 other)
     → EndGoes seat reply d0 d1 h0 h1 r0 r1 → EndBooked seat reply d0 d1 h0 h1 r0 r1 → ReadsAsImage h1 → SaysClosing result reply o0 o1 → ClosingGoes seat result (at d0 reader (world_of h0 input o0 log r0)) (at d1 reader (world_of h1 input o1 log r1))
-closing_goes seat (Ok status) reply d0 d1 reader h0 h1 input o0 o1 log r0 r1 none others ends booked image says = (reply, record { ends = ends; booked = booked; none = none; others = others; reader = refl; input = refl; log = refl; image = image }, says.1, says.0)
-closing_goes seat (Err fault) reply d0 d1 reader h0 h1 input o0 o1 log r0 r1 none others ends booked image says = record { reply = reply; closed = record { ends = ends; booked = booked; none = none; others = others; reader = refl; input = refl; log = refl; image = image }; failed = says }
+closing_goes seat (Ok status) reply d0 d1 reader h0 h1 input o0 o1 log r0 r1 none others ends booked image says = (reply, record { ends = ends; booked = booked; none = none; others = others; reader = refl; input = refl; log = refl; image = image }, says.0, says.1)
+closing_goes seat (Err fault) reply d0 d1 reader h0 h1 input o0 o1 log r0 r1 none others ends booked image says = record { reply = reply; closed = record { ends = ends; booked = booked; none = none; others = others; reader = refl; input = refl; log = refl; image = image }; some = says.0.0; failed = says.0.1 }
 
 -- a new desk and a new reader are where a script begins
 pub begins_is : (user : List ℕ) (world : World) (desk : DeskState) (reader : ReaderState) → desk.key ≡ user → desk.seats ≡ replicate SEATS None → reader ≡ record { line = []; pending = []; reads = 0; stage = stages.Open } → at desk reader world ≡ begins user world

@@ -149,7 +149,7 @@ module _ (key : Name) (old new : World) (status : ℕ) where
       let flows = flows_then start last now (flows_lines start s last lines) (flows_read nexts.Whole last now reads (ap (λ (k : SinkState). k.faults) says.out) says.log) in
       memory_causes (fault_line faults.Memory) (subst (λ (f : Fault). Reported (fault_line f) (fault_status f) old.log new.log status) why reported)
       (subst (λ (w : World). (w.input.faults ≡ old.input.faults) × (w.out.faults ≡ old.out.faults)) (sym is) (came user begun now read flows))
-  stop_causes user begun s last now fault read lines is reported (not_said reply answered failed why) =
+  stop_causes user begun s last now fault read lines is reported (not_said reply answered some failed why) =
       let start = begins user begun in
       let flows = flows_lines start s last lines in
       let once : now.world.out.faults ≡ counted old.out.faults = failed.once ∙ ap counted (came user begun last read flows).1 in

@@ -146,7 +146,7 @@ module _ (key : Name) (old new : World) (status : ℕ) where
   stop_grows s start last now fault lines (not_answered none reads (inl nothing) says why) =
       grows_then start.world.host last.world.host now.world.host (grows_lines start s last lines) (grows_none last.world.host now.world.host (ap (λ (h : HostState). h.given) nothing.same_host))
   stop_grows s start last now fault lines (not_answered none reads (inr step) says why) = grows_then start.world.host last.world.host now.world.host (grows_lines start s last lines) (grows_told (λ given. ⊤) last.world.host now.world.host step.2.wants.told)
-  stop_grows s start last now fault lines (not_said reply answered failed why) = grows_then start.world.host last.world.host now.world.host (grows_lines start s last lines) (grows_line reply last now answered)
+  stop_grows s start last now fault lines (not_said reply answered some failed why) = grows_then start.world.host last.world.host now.world.host (grows_lines start s last lines) (grows_line reply last now answered)
 
   closed_grows : (s count more : ℕ) (read last : At) → (begun : ScriptRead key old s read) → Closings read count more last → Grows begun.begun.host last.world.host
   closed_grows s count more read last begun closings =

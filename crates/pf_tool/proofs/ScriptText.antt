@@ -97,7 +97,7 @@ module _ (user : List ℕ) (begun : World) (before : List Answer) (was : begun.h
           on_step told at_last none (inr step) =
               let found = both_some (λ b n. IsMore (since b n) b n × ⊤) last.world.host.given now.world.host.given told at_last step.2.wants.told in
               (since told found.0, record { before = told; was = at_last; now = ap (λ (h : HostState). h.given) host ∙ found.1 ∙ ap (λ (l : List Answer). Some l) found.2.0 })
-      by_cause so_far told at_last (not_said reply answered failed is) =
+      by_cause so_far told at_last (not_said reply answered some failed is) =
           let one = line_told reply last now told at_last answered in
           let items = so_far.items ++ one.item ∷ [] in
           let told_now = lines_on so_far.items Start last now reply so_far.lines one in (

@@ -22,7 +22,7 @@ returns-in_err-say-in-TooLong g c log =
     let s1 = g.S.Source.state c.advance.new.input in
     let a = c.in_ok-advance in
     let reads = subst (λ (n : NextLine). ReadsOn (Ok n) c.args.reader.now c.advance.new.self s0 s1) c.in-TooLong.is (reads_on (Ok a.field-0) c.args.reader.now c.advance.new.self s0 s1 a.ensures.advances a.ensures.lines (λ shut. let t = a.ensures.again shut in (t.0, t.1, ap g.S.Source.state t.2))) in
-    rw p.1 (not_said None (record { next = nexts.TooLong; reads = reads; answers = (refl, record { same_desk = refl; same_host = refl; same_random = refl }); log = refl; image = g.met.H.Host.reads_as_image c.args.host.now }) c.in_err-say-in-TooLong.ensures p.2)
+    rw p.1 (not_said None (record { next = nexts.TooLong; reads = reads; answers = (refl, record { same_desk = refl; same_host = refl; same_random = refl }); log = refl; image = g.met.H.Host.reads_as_image c.args.host.now }) c.in_err-say-in-TooLong.ensures.0.0 c.in_err-say-in-TooLong.ensures.0.1 p.2)
 
 pub returns-in_err-reply-in-Whole : goal.returns-in_err-reply-in-Whole
 returns-in_err-reply-in-Whole g c log =
@@ -52,7 +52,7 @@ returns-in_err-say-in-Whole g c log =
     let reply = c.in_ok-reply-in-Whole.reply in
     let reads = subst (λ (n : NextLine). ReadsOn (Ok n) c.args.reader.now c.advance.new.self s0 s1) c.in-Whole.is (reads_on (Ok a.field-0) c.args.reader.now c.advance.new.self s0 s1 a.ensures.advances a.ensures.lines (λ shut. let t = a.ensures.again shut in (t.0, t.1, ap g.S.Source.state t.2))) in
     let answers = subst (λ (t : List ℕ). BytesAnswered t (Ok reply) c.args.desk.now c.answer_line.new.desk h0 h1 r0 r1) c.line.ensures c.in_ok-reply-in-Whole.ensures in
-    rw p.1 (not_said reply (record { next = nexts.Whole; reads = reads; answers = answers; log = refl; image = g.met.H.Host.reads_as_image c.answer_line.new.host }) c.in_err-say-in-Whole.ensures p.2)
+    rw p.1 (not_said reply (record { next = nexts.Whole; reads = reads; answers = answers; log = refl; image = g.met.H.Host.reads_as_image c.answer_line.new.host }) c.in_err-say-in-Whole.ensures.0.0 c.in_err-say-in-Whole.ensures.0.1 p.2)
 
 pub returns-in_ok-say-in-TooLong : goal.returns-in_ok-say-in-TooLong
 returns-in_ok-say-in-TooLong g c log =
@@ -64,9 +64,9 @@ returns-in_ok-say-in-TooLong g c log =
       None,
       record {
         answered = record { next = nexts.TooLong; reads = reads; answers = (refl, record { same_desk = refl; same_host = refl; same_random = refl }); log = refl; image = g.met.H.Host.reads_as_image c.args.host.now };
-        said = said.1;
+        said = said.0;
       },
-      said.0,
+      said.1,
     )
 
 pub returns-in_ok-say-in-Whole : goal.returns-in_ok-say-in-Whole
@@ -82,4 +82,4 @@ returns-in_ok-say-in-Whole g c log =
     let reads = subst (λ (n : NextLine). ReadsOn (Ok n) c.args.reader.now c.advance.new.self s0 s1) c.in-Whole.is (reads_on (Ok a.field-0) c.args.reader.now c.advance.new.self s0 s1 a.ensures.advances a.ensures.lines (λ shut. let t = a.ensures.again shut in (t.0, t.1, ap g.S.Source.state t.2))) in
     let answers = subst (λ (t : List ℕ). BytesAnswered t (Ok reply) c.args.desk.now c.answer_line.new.desk h0 h1 r0 r1) c.line.ensures c.in_ok-reply-in-Whole.ensures in
     let said = c.in_ok-say-in-Whole.ensures in
-    (reply, record { answered = record { next = nexts.Whole; reads = reads; answers = answers; log = refl; image = g.met.H.Host.reads_as_image c.answer_line.new.host }; said = said.1 }, said.0)
+    (reply, record { answered = record { next = nexts.Whole; reads = reads; answers = answers; log = refl; image = g.met.H.Host.reads_as_image c.answer_line.new.host }; said = said.0 }, said.1)
