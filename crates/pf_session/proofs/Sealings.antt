@@ -13,8 +13,8 @@ use Rattle.pf_session.specs.State.{SessionState}
 use Rattle.pf_session.specs.Backing.{IsBacked}
 use Rattle.pf_session.specs.Sealing.{HasNext}
 use Rattle.pf_session.specs.Making.{KeptAtDamage}
-use Rattle.pf_session.specs.Flushing.{SealsEach, KeepsName, SealGoes, node_short, call_failed, flushed}
-use Rattle.pf_session.specs.Versions.{VersionGoes, SealsOns, SealedAll}
+use Rattle.pf_session.specs.Flushing.{SealsEach, KeepsName, SealedAll, SealGoes, node_short, call_failed, flushed}
+use Rattle.pf_session.specs.Versions.{VersionGoes, SealsOns}
 use Rattle.pf_session.specs.declared.fault.FlushFault.{FlushFault}
 use Rattle.pf_session.specs.declared.fault.FlushFault.TheVariants as faults
 

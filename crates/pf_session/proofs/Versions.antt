@@ -21,7 +21,7 @@ use Rattle.pf_session.specs.Reopening.{ReadsAs, HasSheet}
 use Rattle.pf_session.specs.Steps.{seal_steps, clean_nodes, steps_by}
 use Rattle.pf_session.specs.Sealing.{ChangesAlone, HasNext, HasSealed, SealsFile, Replaces, StandsNext}
 use Rattle.pf_session.specs.Making.{ReplaceGoes, ReplacesNexts, StandsNexts, ReplaceUndamaged, done_of}
-use Rattle.pf_session.specs.Flushing.{UndamagedFlush}
+use Rattle.pf_session.specs.Flushing.{SealedAll, UndamagedFlush}
 use Rattle.pf_session.specs.Versions.{VersionGoes, SealsOn, SealsOns}
 use Rattle.pf_session.specs.declared.fault.FlushFault.{FlushFault}
 use Rattle.pf_session.specs.declared.fault.FlushFault.TheVariants as faults
@@ -60,21 +60,22 @@ module _ (s : SessionState) (nonce : List ℕ) (keys : List (List ℕ)) (mid : T
         alone = λ other. alone;
       })
 
-  pub beside_done : s.beside ≡ true → KeepsShape s.tree mid → Asked (seal_steps s.key s.path nonce (side_of s.name) s.tree.dirty keys mid) NoCall old new → VersionGoes (Ok tt) nonce keys s mid old new
-  beside_done beside shape asked =
+  pub beside_done : s.beside ≡ true → KeepsShape s.tree mid → SealedAll nonce keys s mid → Asked (seal_steps s.key s.path nonce (side_of s.name) s.tree.dirty keys mid) NoCall old new → VersionGoes (Ok tt) nonce keys s mid old new
+  beside_done beside shape sealed asked =
       let any = any_blocks (clean_nodes s) in
-      record { blocks = any.0; are_blocks = any.1; shape = shape; asked = same_asked _ _ NoCall old new (ap (λ (b : Bool). steps_by b s nonce keys any.0 mid) (sym beside)) asked }
+      record { blocks = any.0; are_blocks = any.1; shape = shape; sealed = sealed; asked = same_asked _ _ NoCall old new (ap (λ (b : Bool). steps_by b s nonce keys any.0 mid) (sym beside)) asked }
 
-  pub named_goes : (r : Result (Unit {0}) FlushFault) → s.beside ≡ false → KeepsShape s.tree mid → ReplaceGoes r s.key s.path nonce s.name (side_of s.name) (clean_nodes s) s.tree.dirty keys mid old new → VersionGoes r nonce keys s mid old new
-  named_goes (Ok done) beside shape goes = record {
+  pub named_goes : (r : Result (Unit {0}) FlushFault) → s.beside ≡ false → KeepsShape s.tree mid → OnOk r (SealedAll nonce keys s mid) → ReplaceGoes r s.key s.path nonce s.name (side_of s.name) (clean_nodes s) s.tree.dirty keys mid old new → VersionGoes r nonce keys s mid old new
+  named_goes (Ok done) beside shape sealed goes = record {
     blocks = goes.blocks;
     are_blocks = goes.are_blocks;
     shape = shape;
+    sealed = sealed;
     asked = same_asked _ _ NoCall old new (ap (λ (b : Bool). steps_by b s nonce keys goes.blocks mid) (sym beside)) goes.asked;
   }
-  named_goes (Err faults.Words) beside shape goes = goes
-  named_goes (Err (faults.Damaged damage)) beside shape goes = (beside, goes)
-  named_goes (Err faults.Host) beside shape goes = record {
+  named_goes (Err faults.Words) beside shape sealed goes = goes
+  named_goes (Err (faults.Damaged damage)) beside shape sealed goes = (beside, goes)
+  named_goes (Err faults.Host) beside shape sealed goes = record {
     blocks = goes.blocks;
     are_blocks = goes.are_blocks;
     stopped = record {

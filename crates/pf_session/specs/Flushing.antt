@@ -1,7 +1,7 @@
 -- What a flush of a session comes to.
 use Rattle.std.specs.Prelude.{◌≡◌, ◌≢◌, ℕ, Bool, true, false, List, length, None, Result, Ok, Err}
 use Rattle.node_layout.specs.declared.damage.Damage.{Damage}
-use Rattle.node_tree.specs.Next.{NextSheet, KeepsShape, IsSettled}
+use Rattle.node_tree.specs.Next.{NextSheet, KeepsShape, IsSealedAs, IsSettled}
 use Rattle.node_tree.specs.Sheet.{Sheet, IsLinked, Stands}
 use Rattle.node_tree.specs.State.{TreeState}
 use Rattle.pf_io.specs.Host.{Swapped, HostState, OnHonest, contents}
@@ -14,7 +14,7 @@ use Rattle.pf_session.specs.Asking.{NoCall, Asked, Stopped}
 use Rattle.pf_session.specs.Drawing.{WordsCame, WordsLacked}
 use Rattle.pf_session.specs.Copying.{AreBlocksOf}
 use Rattle.pf_session.specs.Steps.{clean_nodes, flush_steps}
-use Rattle.pf_session.specs.Sealing.{ChangesAlone, Replaces, StandsNext}
+use Rattle.pf_session.specs.Sealing.{ChangesAlone, HasNext, Replaces, StandsNext}
 use Rattle.pf_session.specs.Making.{ReplaceShort}
 use Rattle.pf_session.specs.declared.fault.FlushFault.{FlushFault}
 use Rattle.pf_session.specs.declared.fault.FlushFault.TheVariants as faults
@@ -42,11 +42,16 @@ pub record FlushStopped (session : SessionState) (nonce : List ℕ) (keys : List
   pub stopped : Stopped (flush_steps session nonce keys blocks tree) before after
   pub alone : stopped.failed ≢ Swapped (side_of session.name) session.name → ChangesAlone (side_of session.name) before after
 
--- All calls were answered. `mid` is the tree as it was sealed.
+-- for each next sheet, the tree is as it is sealed there
+abbrev pub SealedAll : List ℕ → List (List ℕ) → SessionState → TreeState → Type 0
+SealedAll nonce keys old tree = (sheet next : Sheet) → HasNext sheet old.tree old.path nonce keys next → IsSealedAs next tree
+
+-- All calls were answered. `mid` is the tree as it was sealed, and it is the sheet's: its first bytes, its root and the nodes that it holds are those of the next sheet of each linked sheet on which the session stood.
 pub record FlushDone (session : SessionState) (nonce : List ℕ) (keys : List (List ℕ)) (mid : TreeState) (before after : HostState) : Type 0 where
   pub blocks : List (List ℕ)
   pub are_blocks : AreBlocksOf (clean_nodes session) blocks
   pub shape : KeepsShape session.tree mid
+  pub sealed : SealedAll nonce keys session mid
   pub asked : Asked (flush_steps session nonce keys blocks mid) NoCall before after
 
 -- a session whose file stands at the side name until it is published changes nothing else

@@ -1,6 +1,5 @@
 -- What the writing of a new version comes to.
 use Rattle.std.specs.Prelude.{◌≡◌, ℕ, Bool, true, false, List, Result, Ok, Err}
-use Rattle.node_tree.specs.Next.{IsSealedAs}
 use Rattle.node_tree.specs.Sheet.{Sheet}
 use Rattle.node_tree.specs.State.{TreeState}
 use Rattle.pf_io.specs.Host.{HostState}
@@ -17,10 +16,6 @@ VersionGoes (Ok done) nonce keys old tree before after = FlushDone old nonce key
 VersionGoes (Err faults.Words) nonce keys old tree before after = ⊥
 VersionGoes (Err (faults.Damaged damage)) nonce keys old tree before after = (old.beside ≡ false) × FlushShort old damage before after
 VersionGoes (Err faults.Host) nonce keys old tree before after = FlushStopped old nonce keys tree before after
-
--- for each next sheet, the tree is as it is sealed there
-abbrev pub SealedAll : List ℕ → List (List ℕ) → SessionState → TreeState → Type 0
-SealedAll nonce keys old tree = (sheet next : Sheet) → HasNext sheet old.tree old.path nonce keys next → IsSealedAs next tree
 
 -- what it leaves of a sheet and the next one
 pub record SealsOn (done : Bool) (sheet next : Sheet) (old : SessionState) (before after : HostState) : Type 0 where

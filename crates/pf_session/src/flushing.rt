@@ -5,8 +5,8 @@ ghost use Rattle.node_tree.specs.Existing.{AreKeys};
 ghost use Rattle.node_tree.specs.Next.{KeepsShape};
 ghost use Rattle.node_tree.specs.State.{IsSound};
 ghost use Rattle.pf_session.specs.Aside.{Aside};
-ghost use Rattle.pf_session.specs.Flushing.{SealGoes, FlushGoes, UndamagedFlush, KeepsName, host_part, words_part};
-ghost use Rattle.pf_session.specs.Versions.{VersionGoes, SealsOns, SealedAll};
+ghost use Rattle.pf_session.specs.Flushing.{SealedAll, SealGoes, FlushGoes, UndamagedFlush, KeepsName, host_part, words_part};
+ghost use Rattle.pf_session.specs.Versions.{VersionGoes, SealsOns};
 ghost use Rattle.pf_session.specs.Making.{KeptAtDamage};
 
 use crate::drawing::take_words;

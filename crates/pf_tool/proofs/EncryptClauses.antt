@@ -137,6 +137,7 @@ module _ (key input output : Name) (old new : World) (status : ℕ) (ended : Res
             content_is = sealed.content_is;
             sealed = sealed.sealed;
             shape = sealed.shape;
+            as_sealed = sealed.as_sealed;
             front = First ++ sealed.front;
             last_calls = all ∙ ap (λ (l : List Answer). First ++ l) sealed.last_calls;
           };

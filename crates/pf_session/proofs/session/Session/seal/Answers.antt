@@ -2,7 +2,8 @@ use Rattle.std.proofs.Common.{◌≡◌, ◌∙◌, ap, sym, subst, List, ℕ, O
 use Rattle.node_layout.specs.Metadata.{IsPath}
 use Rattle.node_tree.specs.State.{TreeState}
 use Rattle.pf_session.specs.State.{SessionState}
-use Rattle.pf_session.specs.Versions.{VersionGoes, SealedAll}
+use Rattle.pf_session.specs.Flushing.{SealedAll}
+use Rattle.pf_session.specs.Versions.{VersionGoes}
 use Rattle.pf_session.proofs.Sealings.{seal_fails, seal_done}
 use Rattle.pf_session.proofs.session.Session.seal.Goals as goal
 

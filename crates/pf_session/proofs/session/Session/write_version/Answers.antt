@@ -43,7 +43,7 @@ returns-then-self-clause-goes g c =
     let mid = c.seal_nodes.new.tree in
     let side_is : c.as_str.result.now ≡ side_of s.name = c.as_str.ensures ∙ c.self.invariant.side_is in
     let asked = subst (λ (n : Name). Asked (seal_steps s.key s.path c.args.nonce.now n s.tree.dirty c.args.keys.now mid) NoCall s0 s1) side_is c.in_ok-seal_nodes.ensures.goes in
-    subst (λ (x : SessionState). VersionGoes (Ok tt) c.args.nonce.now c.args.keys.now x mid s0 s1) c.self.view_is (beside_done s c.args.nonce.now c.args.keys.now mid s0 s1 c.if-self.true c.seal_nodes.ensures.shape asked)
+    subst (λ (x : SessionState). VersionGoes (Ok tt) c.args.nonce.now c.args.keys.now x mid s0 s1) c.self.view_is (beside_done s c.args.nonce.now c.args.keys.now mid s0 s1 c.if-self.true c.seal_nodes.ensures.shape c.in_ok-seal_nodes.ensures.sealed asked)
 
 pub returns-then-self-clause-seals : goal.returns-then-self-clause-seals
 returns-then-self-clause-seals g c =
@@ -70,7 +70,7 @@ returns-clause-goes g c =
     let s1 = g.H.Host.state c.replace.new.host in
     let tree = c.replace.new.tree in
     subst (λ (x : SessionState). VersionGoes c.replace.result c.args.nonce.now c.args.keys.now x tree s0 s1) c.self.view_is
-    (named_goes s c.args.nonce.now c.args.keys.now tree s0 s1 c.replace.result c.if-self.false c.replace.ensures.shape
+    (named_goes s c.args.nonce.now c.args.keys.now tree s0 s1 c.replace.result c.if-self.false c.replace.ensures.shape c.replace.ensures.sealed
     (renamed c.replace.result s.key s.path c.args.nonce.now c.as_str-2.result.now s.name c.as_str-3.result.now (side_of s.name) (clean_nodes s) s.tree.dirty c.args.keys.now tree s0 s1 c.as_str-2.ensures (c.as_str-3.ensures ∙ c.self.invariant.side_is) c.replace.ensures.goes))
 
 pub returns-clause-undamaged : goal.returns-clause-undamaged
