@@ -1,5 +1,5 @@
 -- A line on one seat of a desk over files, as one on the desk.
-use Rattle.std.proofs.Common.{◌≡◌, ◌≢◌, ◌⊎◌, inl, inr, ⊎_elim, Bool, false, List, [], ℕ, ◌<◌, refl, sym, ◌∙◌, ap, subst, Option, Some, None, length}
+use Rattle.std.proofs.Common.{◌≡◌, ◌≢◌, ◌⊎◌, inl, inr, ⊎_elim, Bool, false, List, ℕ, ◌<◌, refl, sym, ◌∙◌, ap, subst, Option, Some, None, length}
 use Rattle.std.proofs.lemmas.List.{get_or-set_same, get_or-set_other, length-set}
 use Rattle.pf_io.specs.Disk.{Name, Files, reading, read_of}
 use Rattle.pf_io.specs.Host.{Answer, HostState, OnDisk}
