@@ -297,6 +297,7 @@ module _ (user : List ℕ) (input output : Name) (ne : input ≢ side_of output)
                         content_is = content_is;
                         sealed = sealed_tree;
                         shape = done.shape;
+                        as_sealed = done.sealed c.sheet next (record { linked = c.stands.linked; backs = c.stands.backed.backs; is_next = is_next });
                         front = one.0;
                         last_calls = refl;
                       },
