@@ -22,6 +22,8 @@ blank_goes desk host words = record {
         turns = λ state is_state. at_last [] (inl refl) (λ unforged. (state, silent refl refl refl refl refl, is_state));
       });
   caused = record { given = []; told = told_none host host refl; caused = λ state like. inl (refl, refl) };
+  leaves = λ k none. absurd (cc);
+  others = λ j other. refl;
   books = both_same (KeepsUnder (CoversDesk desk) (CoversDesk desk) (ConcernsDesk lines.Blank desk)) host.honest host.honest refl (same_keeps (CoversDesk desk) (ConcernsDesk lines.Blank desk));
   named = λ k name has. inl has;
   spares = spares_none (ConcernsDesk lines.Blank desk) host;

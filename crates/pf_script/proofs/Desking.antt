@@ -16,7 +16,7 @@ use Rattle.pf_script.specs.Book.{Book, Seal}
 use Rattle.pf_script.specs.BookActs.{Act}
 use Rattle.pf_script.specs.BookSeats.{Covers, CoversEach, CoversBoth, KeepsUnder}
 use Rattle.pf_script.specs.Desk.{DeskState, session_at, IsSeated, IsSeatOf, IsLikeDesk, IsDesk, Shows, IsStateOf}
-use Rattle.pf_script.specs.DeskSteps.{MaySeal, Unfolds, in_the_end, then_more, SomeSeatTurn, SomeTurn, SeatAsks, SeatCaused, DeskCaused, Asks, IsChange, Admits, HasItsName, OtherHas, Concerns, ConcernsDesk, CoversSome, CoversDesk, KeepsNames, KeepsSession, NothingDone, IsBrokenSession, BreaksSeat, SeatIdle, FlushesUnder, SeatWants, Wants, WhereWanting, WhereReplied, SeatGoes, DeskGoes}
+use Rattle.pf_script.specs.DeskSteps.{MaySeal, Unfolds, in_the_end, then_more, SomeSeatTurn, SomeTurn, SeatAsks, SeatCaused, DeskCaused, LeavesSeat, Asks, IsChange, Admits, HasItsName, OtherHas, Concerns, ConcernsDesk, CoversSome, CoversDesk, KeepsNames, KeepsSession, NothingDone, IsBrokenSession, BreaksSeat, SeatIdle, FlushesUnder, SeatWants, Wants, WhereWanting, WhereReplied, SeatGoes, DeskGoes}
 use Rattle.pf_script.specs.Script.{Seat, Empty, ScriptState, seat_at, IsTaken, state_with, seat_of_line, name_of_line}
 use Rattle.pf_script.specs.Turns.{Seen, SeatTurn, Caused, Turn, on_seat, on_carried, SaysTaken}
 use Rattle.pf_script.specs.Words.{SEATS}
@@ -199,6 +199,17 @@ module _ (old : DeskState) (desk : IsDesk old) (k : ℕ) (below : k < SEATS) (ta
           inr (k, taken, names, state_says state like, subst (λ (x : List ℕ). Caused x taken (seat_at state k) line caused.given reply) (sym like.key_is) (caused.caused (seat_at state k) (like.like k)));
     }
 
+    leaves_on : (reply : Reply) → LeavesSeat line reply (session_at old k) left random random' → (j : ℕ) → seat_of_line line ≡ Some j → LeavesSeat line reply (session_at old j) (session_at new j) random random'
+    leaves_on reply leaves j is =
+        subst (λ i. LeavesSeat line reply (session_at old i) (session_at new i) random random') (same_some k j (sym names ∙ is)) (subst (λ (o : Option SessionState). LeavesSeat line reply (session_at old k) o random random') (sym here) leaves)
+      where
+        same_some : (i j : ℕ) → ◌≡◌ {A = Option ℕ} (Some i) (Some j) → i ≡ j
+        same_some i j e = cc
+
+    all_leaves : (r : Result Reply Memory) → WhereReplied r (λ reply. LeavesSeat line reply (session_at old k) left random random') → WhereReplied r (λ reply. (j : ℕ) → seat_of_line line ≡ Some j → LeavesSeat line reply (session_at old j) (session_at new j) random random')
+    all_leaves (Ok reply) leaves = leaves_on reply leaves
+    all_leaves (Err fault) leaves = tt
+
     all_caused : (r : Result Reply Memory) → WhereReplied r (λ reply. SeatCaused old.key taken line reply (session_at old k) before after) → WhereReplied r (λ reply. DeskCaused line reply old before after)
     all_caused (Ok reply) caused = caused_on reply caused
     all_caused (Err fault) caused = tt
@@ -215,7 +226,6 @@ module _ (old : DeskState) (desk : IsDesk old) (k : ℕ) (below : k < SEATS) (ta
       told = wants.told;
       ends = ⊎_elim (λ idle. inl (nothing idle)) (λ breaks. inr (broken breaks.0 breaks.1 breaks.2)) wants.ends;
       flushes = λ j session is_seat is. flushed j session (same_seat j (sym is_seat ∙ names)) is;
-      others = λ j other. off j (λ e. other (names ∙ ap (λ (i : ℕ). Some i) (sym e)));
     }
       where
         off : (j : ℕ) → j ≢ k → KeepsSession (session_at old j) (session_at new j)
@@ -260,6 +270,8 @@ module _ (old : DeskState) (desk : IsDesk old) (k : ℕ) (below : k < SEATS) (ta
       key_is = refl;
       asks = all_asks result goes.asks;
       caused = all_caused result goes.caused;
+      leaves = all_leaves result goes.leaves;
+      others = λ j other. there j (λ e. other (names ∙ ap (λ (i : ℕ). Some i) (sym e)));
       books = both_weaker (KeepsUnder (CoversSome (session_at old k)) (CoversSome left) (Concerns taken line (session_at old k))) (KeepsUnder (CoversDesk old) (CoversDesk new) (ConcernsDesk line old)) before.honest after.honest goes.books books_on;
       named = named_on;
       spares = spares_more (Concerns taken line (session_at old k)) (ConcernsDesk line old) concern_desk before after goes.spares;

@@ -20,7 +20,7 @@ use Rattle.pf_script.specs.BookSeats.{CoversNone, KeepsUnder}
 use Rattle.pf_script.specs.BookTurns.{no_file, LineUnder, SeatUnder, SeatBooked, MadeBy}
 use Rattle.pf_script.specs.FileTurns.{stands_on, seen_over, no_file as no_file_over, ReopensOpened, LineOver, SeatFiles}
 use Rattle.pf_script.specs.Desk.{IsSeatOf, IsLike, Shows, no_file as no_file_now}
-use Rattle.pf_script.specs.DeskSteps.{MaySeal, Unfolds, SomeSeatTurn, SeatTurns, SeatAsks, CountsFault, CoversSome, Concerns, Spares, HasItsName, SeatGoes, TakesNone, is_host_fault, is_words_fault}
+use Rattle.pf_script.specs.DeskSteps.{MaySeal, Unfolds, SomeSeatTurn, SeatTurns, SeatAsks, CountsFault, CoversSome, Concerns, Spares, HasItsName, SeatGoes, TakesNone, is_host_fault, is_words_fault, LeavesSeat}
 use Rattle.pf_script.specs.Rules.{Rule, IsFirst, NoneRefuses, seating_rules}
 use Rattle.pf_script.specs.Script.{Seat, Empty, name_of_line, sheets_of}
 use Rattle.pf_script.specs.Turns.{Seen, Failed, Standing, SeatTurn, Caused, on_carried}
@@ -109,11 +109,12 @@ module _ (key : List ℕ) (line : ScriptLine) (name : Name) (names : name_of_lin
         (λ a b keeps. keeps_more CoversNone (CoversSome new) (λ n. n ≡ name) (Concerns false line None) a b concerns keeps)
 
     pub empty_goes : (reply : Reply) (these : List Answer) (words : List (List ℕ)) (of_host of_words : Bool) → SeenOf these words of_host of_words before after random random' → is_host_fault reply ≡ of_host → is_words_fault reply ≡ of_words
-        → SeatTurns key false line (seen_by these words of_host of_words) reply None new these → Caused key false Empty line these reply → SeatGoes key false line (Ok reply) None new before after random random'
-    empty_goes reply these words of_host of_words seen host_is words_is turns caused = record {
+        → SeatTurns key false line (seen_by these words of_host of_words) reply None new these → Caused key false Empty line these reply → LeavesSeat line reply None new random random' → SeatGoes key false line (Ok reply) None new before after random random'
+    empty_goes reply these words of_host of_words seen host_is words_is turns caused leaves = record {
       asks = told_by (λ given. SeatAsks key false line reply None new given before after random random') these before after seen.told
           (record { seen = seen_by these words of_host of_words; was_seen = record { answers = refl; words = seen.taken; of_host = seen.on_host; of_words = seen.on_words }; turns = turns });
       caused = record { given = these; told = seen.told; caused = λ seat like. subst (λ (x : Seat). Caused key false x line these reply) (sym (like_none seat like)) caused };
+      leaves = leaves;
       books = books;
       counts = (subst (λ b. CountsFault b before.faults after.faults) (sym host_is) seen.on_host, subst (λ b. CountsFault b random.faults random'.faults) (sym words_is) seen.on_words);
       wants = tt;
@@ -127,6 +128,7 @@ module _ (key : List ℕ) (line : ScriptLine) (name : Name) (names : name_of_lin
     empty_wants takes none disk calm same told = record {
       asks = tt;
       caused = tt;
+      leaves = tt;
       books = books;
       counts = (calm, ap (λ (w : WordsState). w.faults) same);
       wants = record { takes = takes; told = told; ends = inl (record { seat = none; disk = disk; words = same }); flushes = λ session is. absurd (cc) };
@@ -200,12 +202,12 @@ module _ (key : List ℕ) (line : ScriptLine) (name : Name) (names : name_of_lin
 
   -- nothing was done
   pub empty_idle : (before after : HostState) (random random' : WordsState) (reply : Reply) (these : List Answer) (words : List (List ℕ)) (of_host of_words : Bool) → OnDisk before after Unchanged → SeenOf these words of_host of_words before after random random'
-      → is_host_fault reply ≡ of_host → is_words_fault reply ≡ of_words → ((standing : Standing) → SeatTurn standing key false Empty line (seen_by these words of_host of_words) reply [] Empty) → Caused key false Empty line these reply
+      → is_host_fault reply ≡ of_host → is_words_fault reply ≡ of_words → ((standing : Standing) → SeatTurn standing key false Empty line (seen_by these words of_host of_words) reply [] Empty) → Caused key false Empty line these reply → LeavesSeat line reply None None random random'
       → ((a : Honest) → before.honest ≡ Some a → Failed (seen_by these words of_host of_words) false false → TurnsOver (reading a.now) words reply) → BothHalves key line (Ok reply) None before after random random'
-  empty_idle before after random random' reply these words of_host of_words only seen host_is words_is turn caused over = record {
+  empty_idle before after random random' reply these words of_host of_words only seen host_is words_is turn caused leaves over = record {
     goes = empty_goes None before after random random'
         (both_weaker Unchanged (KeepsUnder CoversNone CoversNone (λ n. n ≡ name)) before.honest after.honest only (λ a b only_ab. only_reads CoversNone a b (λ n. n ≡ name) only_ab)) (spares_kept (Concerns false line None) before after only) tt (λ n none. absurd none)
-        reply these words of_host of_words seen host_is words_is (empty_turns (seen_by these words of_host of_words) reply None these [] Empty (λ sealed. inl refl) turn still_shows) caused;
+        reply these words of_host of_words seen host_is words_is (empty_turns (seen_by these words of_host of_words) reply None these [] Empty (λ sealed. inl refl) turn still_shows) caused leaves;
     booked = record {
       seen = seen_by these words of_host of_words;
       was_seen = seen_in these words of_host of_words before after random random' seen;

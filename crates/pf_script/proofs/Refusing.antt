@@ -67,6 +67,7 @@ module _ (key : List ℕ) (taken : Bool) (line : ScriptLine) (why : Why) (old : 
   refused_goes seated = record {
     asks = told_by (λ given. SeatAsks key taken line (replies.Refused why) old old given host host words words) [] host host (told_none host host refl) refused_asks;
     caused = unasked_cause key taken line (replies.Refused why) old host first;
+    leaves = (refl, refl);
     books = both_same (KeepsUnder (CoversSome old) (CoversSome old) (Concerns taken line old)) host.honest host.honest refl (same_keeps (CoversSome old) (Concerns taken line old));
     counts = (refl, refl);
     wants = tt;
@@ -86,6 +87,7 @@ pub nothing_wanting : (key : List ℕ) (taken : Bool) (line : ScriptLine) (fault
 nothing_wanting key taken line fault old host words takes seated = record {
   asks = tt;
   caused = tt;
+  leaves = tt;
   books = both_same (KeepsUnder (CoversSome old) (CoversSome old) (Concerns taken line old)) host.honest host.honest refl (same_keeps (CoversSome old) (Concerns taken line old));
   counts = (refl, refl);
   wants = record {

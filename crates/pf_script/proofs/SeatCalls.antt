@@ -13,7 +13,7 @@ use Rattle.pf_session.specs.Aside.{Aside}
 use Rattle.pf_session.specs.State.{SessionState}
 use Rattle.pf_script.specs.BookSeats.{Covering, Covers, CoversNone, KeepsUnder}
 use Rattle.pf_script.specs.Desk.{IsSeated, IsLike, Shows, seat_on}
-use Rattle.pf_script.specs.DeskSteps.{MaySeal, Unfolds, SomeSeatTurn, CountsFault, SeatTurns, SeatCaused, SeatAsks, Concerns, CountsReply, Spares, SeatWants, SeatGoes, is_host_fault, is_words_fault}
+use Rattle.pf_script.specs.DeskSteps.{MaySeal, Unfolds, SomeSeatTurn, CountsFault, SeatTurns, SeatCaused, LeavesSeat, SeatAsks, Concerns, CountsReply, Spares, SeatWants, SeatGoes, is_host_fault, is_words_fault}
 use Rattle.pf_script.specs.Script.{OwnSeat, Seat, Own, sheets_of}
 use Rattle.pf_script.specs.SeatReplies.{flush_reply}
 use Rattle.pf_script.specs.Turns.{Seen, SeatTurn, Caused, on_carried, Blame, ByHost, ByDamage}
@@ -87,6 +87,7 @@ module _ (key : List ℕ) (taken : Bool) (line : ScriptLine) (old : SessionState
   goes_wanting fault new wants books seated name_is on_host on_words = record {
     asks = tt;
     caused = tt;
+    leaves = tt;
     books = books_on (Covers new) books;
     counts = (on_host, on_words);
     wants = wants;
@@ -98,14 +99,14 @@ module _ (key : List ℕ) (taken : Bool) (line : ScriptLine) (old : SessionState
   module _ (reply : Reply) (counts : CountsReply (Ok reply) before after random random') where
     -- the session goes on
     pub goes_told : (new : SessionState) → WhereTold before after (λ given. SeatAsks key taken line reply (Some old) (Some new) given before after random random')
-        → SeatCaused key taken line reply (Some old) before after → OnDisk before after (KeepsUnder (Covers old) (Covers new) (λ name. name ≡ old.name)) → IsSeated key new → new.name ≡ old.name
+        → SeatCaused key taken line reply (Some old) before after → LeavesSeat line reply (Some old) (Some new) random random' → OnDisk before after (KeepsUnder (Covers old) (Covers new) (λ name. name ≡ old.name)) → IsSeated key new → new.name ≡ old.name
         → SeatGoes key taken line (Ok reply) (Some old) (Some new) before after random random'
-    goes_told new asks caused books seated name_is = record { asks = asks; caused = caused; books = books_on (Covers new) books; counts = counts; wants = tt; seated = seated; named = λ name has. inl (has ∙ name_is); spares = spares_on }
+    goes_told new asks caused leaves books seated name_is = record { asks = asks; caused = caused; leaves = leaves; books = books_on (Covers new) books; counts = counts; wants = tt; seated = seated; named = λ name has. inl (has ∙ name_is); spares = spares_on }
 
     -- it is let go
     pub out_told : WhereTold before after (λ given. SeatAsks key taken line reply (Some old) None given before after random random')
-        → SeatCaused key taken line reply (Some old) before after → OnDisk before after (KeepsUnder (Covers old) CoversNone (λ name. name ≡ old.name)) → SeatGoes key taken line (Ok reply) (Some old) None before after random random'
-    out_told asks caused books = record { asks = asks; caused = caused; books = books_on CoversNone books; counts = counts; wants = tt; seated = tt; named = λ name none. absurd none; spares = spares_on }
+        → SeatCaused key taken line reply (Some old) before after → LeavesSeat line reply (Some old) None random random' → OnDisk before after (KeepsUnder (Covers old) CoversNone (λ name. name ≡ old.name)) → SeatGoes key taken line (Ok reply) (Some old) None before after random random'
+    out_told asks caused leaves books = record { asks = asks; caused = caused; leaves = leaves; books = books_on CoversNone books; counts = counts; wants = tt; seated = tt; named = λ name none. absurd none; spares = spares_on }
 
 module _ (key : List ℕ) (taken : Bool) (line : ScriptLine) (reply : Reply) (old : SessionState) (before after : HostState) (random random' : WordsState) (aside : Aside old.name before after) (these : List Answer) (words : List (List ℕ)) (of_host of_words : Bool)
     (seen : SeenOf these words of_host of_words before after random random') (host_is : is_host_fault reply ≡ of_host) (words_is : is_words_fault reply ≡ of_words) where
@@ -122,14 +123,14 @@ module _ (key : List ℕ) (taken : Bool) (line : ScriptLine) (reply : Reply) (ol
   caused_by : ((seat : Seat) → IsLike seat (Some old) → Caused key taken seat line these reply) → SeatCaused key taken line reply (Some old) before after
   caused_by caused = record { given = these; told = seen.told; caused = caused }
 
-  pub goes_on : (new : SessionState) → SeatTurns key taken line (seen_by these words of_host of_words) reply (Some old) (Some new) these → ((seat : Seat) → IsLike seat (Some old) → Caused key taken seat line these reply) → OnDisk before after (KeepsUnder (Covers old) (Covers new) (λ name. name ≡ old.name))
+  pub goes_on : (new : SessionState) → SeatTurns key taken line (seen_by these words of_host of_words) reply (Some old) (Some new) these → ((seat : Seat) → IsLike seat (Some old) → Caused key taken seat line these reply) → LeavesSeat line reply (Some old) (Some new) random random' → OnDisk before after (KeepsUnder (Covers old) (Covers new) (λ name. name ≡ old.name))
       → IsSeated key new → new.name ≡ old.name → SeatGoes key taken line (Ok reply) (Some old) (Some new) before after random random'
-  goes_on new turns caused =
+  goes_on new turns caused leaves =
       goes_told key taken line old before after random random' aside reply counts_by new
-      (told_by (λ given. SeatAsks key taken line reply (Some old) (Some new) given before after random random') these before after seen.told (asks_by (Some new) turns)) (caused_by caused)
+      (told_by (λ given. SeatAsks key taken line reply (Some old) (Some new) given before after random random') these before after seen.told (asks_by (Some new) turns)) (caused_by caused) leaves
 
-  pub goes_out : SeatTurns key taken line (seen_by these words of_host of_words) reply (Some old) None these → ((seat : Seat) → IsLike seat (Some old) → Caused key taken seat line these reply) → OnDisk before after (KeepsUnder (Covers old) CoversNone (λ name. name ≡ old.name))
+  pub goes_out : SeatTurns key taken line (seen_by these words of_host of_words) reply (Some old) None these → ((seat : Seat) → IsLike seat (Some old) → Caused key taken seat line these reply) → LeavesSeat line reply (Some old) None random random' → OnDisk before after (KeepsUnder (Covers old) CoversNone (λ name. name ≡ old.name))
       → SeatGoes key taken line (Ok reply) (Some old) None before after random random'
-  goes_out turns caused =
+  goes_out turns caused leaves =
       out_told key taken line old before after random random' aside reply counts_by
-      (told_by (λ given. SeatAsks key taken line reply (Some old) None given before after random random') these before after seen.told (asks_by None turns)) (caused_by caused)
+      (told_by (λ given. SeatAsks key taken line reply (Some old) None given before after random random') these before after seen.told (asks_by None turns)) (caused_by caused) leaves

@@ -1,5 +1,5 @@
 -- What a step of a desk comes to.
-use Rattle.std.specs.Prelude.{⊤, ◌≡◌, ◌≢◌, ◌⊎◌, ℕ, ◌+◌, ◌<◌, Bool, true, false, List, [], ◌++◌, length, Contains, replicate, Option, Some, None, IsSomeAnd, Result, Ok, Err}
+use Rattle.std.specs.Prelude.{⊤, ◌≡◌, ◌≢◌, ◌⊎◌, ℕ, ◌+◌, ◌-◌, ◌<◌, min, Bool, true, false, List, [], ◌++◌, length, Contains, replicate, Option, Some, None, IsSomeAnd, Result, Ok, Err}
 use Rattle.node_tree.specs.Backing.{now}
 use Rattle.node_tree.specs.Reading.{KeepsFields as KeepsTree}
 use Rattle.node_tree.specs.Sheet.{Sheet}
@@ -235,13 +235,63 @@ pub record BreaksSeat (line : ScriptLine) (old new : DeskState) : Type 0 where
   pub broken : IsBrokenSession (session_at new seat)
   pub admitted : IsSomeAnd (session_at old seat) (Admits line)
 
--- want of memory; what the host tells goes on, and each other seat is as before
+-- want of memory; what the host tells goes on
 pub record Wants (line : ScriptLine) (old new : DeskState) (before after : HostState) (random random' : WordsState) : Type 0 where
   pub takes : ¬ (TakesNone line)
   pub told : WhereTold before after (λ given. ⊤)
   pub ends : NothingDone old new before after random random' ⊎ BreaksSeat line old new
   pub flushes : (k : ℕ) (session : SessionState) → seat_of_line line ≡ Some k → session_at old k ≡ Some session → OnDisk before after (FlushesUnder line session)
-  pub others : (j : ℕ) → seat_of_line line ≢ Some j → KeepsSession (session_at old j) (session_at new j)
+
+-- what an accepted reply to a line leaves in its seat
+pub data IsAcceptance : Option SessionState → ScriptLine → Reply → Option SessionState → Type 0 where
+  to_create : (k : ℕ) (name : Name) (new : SessionState) → new.name ≡ name → new.broken ≡ false → new.tree.size ≡ 0 → IsAcceptance None (lines.Create k name) replies.Created (Some new)
+  to_open : (k : ℕ) (name : Name) (new : SessionState) → new.name ≡ name → new.broken ≡ false → new.changed ≡ false → IsAcceptance None (lines.Open k name) (replies.Opened new.tree.size) (Some new)
+  to_read : (k at count : ℕ) (bytes : List ℕ) (old new : SessionState) → length bytes ≡ min count (old.tree.size - at) → HoldsMore old new → IsAcceptance (Some old) (lines.Read k at count) (replies.Given bytes) (Some new)
+  to_write : (k at : ℕ) (bytes : List ℕ) (flushed : Bool) (old new : SessionState) → new.broken ≡ false → IsAcceptance (Some old) (lines.Write k at bytes) (replies.Written (length bytes) flushed) (Some new)
+  to_fill : (k at count byte : ℕ) (flushed : Bool) (old new : SessionState) → new.broken ≡ false → IsAcceptance (Some old) (lines.Fill k at count byte) (replies.Written count flushed) (Some new)
+  to_size : (k n : ℕ) (old new : SessionState) → new.broken ≡ false → new.tree.size ≡ n → IsAcceptance (Some old) (lines.Size k n) (replies.Sized n) (Some new)
+  to_flush : (k : ℕ) (old new : SessionState) → new.broken ≡ false → new.changed ≡ false → IsAcceptance (Some old) (lines.Flush k) replies.Flushed (Some new)
+  to_move : (k : ℕ) (name : Name) (old new : SessionState) → new.name ≡ name → new.broken ≡ false → IsAcceptance (Some old) (lines.Move k name) replies.Moved (Some new)
+  to_draw : (k : ℕ) (nonce : List ℕ) (old new : SessionState) → new ≡ record old { drawn = Some nonce } → IsAcceptance (Some old) (lines.Draw k) (replies.Drawn nonce) (Some new)
+  to_close : (k : ℕ) (old : SessionState) → IsAcceptance (Some old) (lines.Close k) (replies.Closed old.broken) None
+
+-- what a fault of the host or a damage leaves there
+abbrev pub LeftAtFault : ScriptLine → Option SessionState → Option SessionState → Type 0
+LeftAtFault lines.Blank old new = ⊥
+LeftAtFault (lines.Create k name) old new = new ≡ old
+LeftAtFault (lines.Open k name) old new = new ≡ old
+LeftAtFault (lines.View k path) old new = ⊥
+LeftAtFault (lines.Read k at count) old new = KeepsSession old new
+LeftAtFault (lines.Write k at bytes) old new = IsBrokenSession new
+LeftAtFault (lines.Fill k at count byte) old new = IsBrokenSession new
+LeftAtFault (lines.Size k n) old new = IsBrokenSession new
+LeftAtFault (lines.Flush k) old new = IsBrokenSession new
+LeftAtFault (lines.Move k name) old new = (new ≡ old) ⊎ IsBrokenSession new
+LeftAtFault (lines.Draw k) old new = ⊥
+LeftAtFault (lines.Close k) old new = new ≡ None
+
+-- what is left where a random word was wanting: steps that a `size` line had made stand
+abbrev pub LeftAtWords : ScriptLine → Option SessionState → Option SessionState → Type 0
+LeftAtWords lines.Blank old new = ⊥
+LeftAtWords (lines.Create k name) old new = new ≡ old
+LeftAtWords (lines.Open k name) old new = ⊥
+LeftAtWords (lines.View k path) old new = ⊥
+LeftAtWords (lines.Read k at count) old new = ⊥
+LeftAtWords (lines.Write k at bytes) old new = new ≡ old
+LeftAtWords (lines.Fill k at count byte) old new = new ≡ old
+LeftAtWords (lines.Size k n) old new = IsSomeAnd new (λ session. session.broken ≡ false)
+LeftAtWords (lines.Flush k) old new = new ≡ old
+LeftAtWords (lines.Move k name) old new = new ≡ old
+LeftAtWords (lines.Draw k) old new = new ≡ old
+LeftAtWords (lines.Close k) old new = new ≡ None
+
+-- What stands in the seat of a line after its reply, whatever is told or forged. A refusal leaves it, and takes no random words.
+abbrev pub LeavesSeat : ScriptLine → Reply → Option SessionState → Option SessionState → WordsState → WordsState → Type 0
+LeavesSeat line (replies.Refused why) old new random random' = (new ≡ old) × (random' ≡ random)
+LeavesSeat line (replies.DamagedNode damage) old new random random' = LeftAtFault line old new
+LeavesSeat line replies.HostFault old new random random' = LeftAtFault line old new
+LeavesSeat line replies.WordsFault old new random random' = LeftAtWords line old new
+LeavesSeat line other old new random random' = IsAcceptance old line other new
 
 abbrev pub WhereWanting : Result Reply Memory → Type 0 → Type 0
 WhereWanting (Ok reply) P = ⊤
@@ -255,6 +305,7 @@ WhereReplied (Err fault) P = ⊤
 pub record SeatGoes (key : List ℕ) (taken : Bool) (line : ScriptLine) (result : Result Reply Memory) (old new : Option SessionState) (before after : HostState) (random random' : WordsState) : Type 0 where
   pub asks : WhereReplied result (λ reply. WhereTold before after (λ given. SeatAsks key taken line reply old new given before after random random'))
   pub caused : WhereReplied result (λ reply. SeatCaused key taken line reply old before after)
+  pub leaves : WhereReplied result (λ reply. LeavesSeat line reply old new random random')
   pub books : OnDisk before after (KeepsUnder (CoversSome old) (CoversSome new) (Concerns taken line old))
   pub counts : CountsReply result before after random random'
   pub wants : WhereWanting result (SeatWants line old new before after random random')
@@ -267,6 +318,8 @@ pub record DeskGoes (line : ScriptLine) (result : Result Reply Memory) (old new 
   pub key_is : new.key ≡ old.key
   pub asks : WhereReplied result (λ reply. WhereTold before after (λ given. Asks line reply old new given before after random random'))
   pub caused : WhereReplied result (λ reply. DeskCaused line reply old before after)
+  pub leaves : WhereReplied result (λ reply. (k : ℕ) → seat_of_line line ≡ Some k → LeavesSeat line reply (session_at old k) (session_at new k) random random')
+  pub others : (j : ℕ) → seat_of_line line ≢ Some j → session_at new j ≡ session_at old j
   pub books : KeepsBooks line old new before after
   pub named : KeepsNames line old new
   pub spares : Spares (ConcernsDesk line old) before after

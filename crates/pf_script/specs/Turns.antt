@@ -185,7 +185,7 @@ pub data Turn (standing : Standing) (state : ScriptState) (line : ScriptLine) (s
   on_seat : (k : ℕ) (taken : Bool) (seat : Seat) → seat_of_line line ≡ Some k → SaysTaken state k (name_of_line line) taken → SeatTurn standing state.key taken (seat_at state k) line seen reply acts seat
       → after ≡ state_with state k seat acts → Turn standing state line seen reply acts after
 
--- a whole block that was given in this step does not open
+-- a whole block of the node was given in this step, which is told not to open
 pub record IsClosed (name : Name) (given : List Answer) (damage : Damage) : Type 0 where
   pub block : List ℕ
   pub gave : Given name given damage.node block
