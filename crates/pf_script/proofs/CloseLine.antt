@@ -13,7 +13,7 @@ use Rattle.pf_session.specs.State.{SessionState}
 use Rattle.pf_session.specs.declared.fault.FlushFault.{FlushFault}
 use Rattle.pf_script.specs.BookSeats.{Covers, CoversNone, KeepsUnder}
 use Rattle.pf_script.specs.Desk.{IsSeated, IsLike, no_file, seat_on}
-use Rattle.pf_script.specs.DeskSteps.{MaySeal, SomeSeatTurn, SeatTurns, SeatGoes}
+use Rattle.pf_script.specs.DeskSteps.{MaySeal, SomeSeatTurn, SeatTurns, LeavesSeat, to_close, SeatGoes}
 use Rattle.pf_script.specs.Rules.{NoneRefuses, rules}
 use Rattle.pf_script.specs.Script.{OwnSeat, Seat, Empty, Own}
 use Rattle.pf_script.specs.SeatReplies.{flush_reply}
@@ -102,20 +102,25 @@ module _ (key : List ℕ) (k : ℕ) (old : SessionState) where
         at_last (flush_act old next.0 true ∷ []) (inr (may_seal sealed base next.0 these words false true next.1)) (λ unforged. (Empty, accepted (none_to_close key k own) (record { host = refl; random = refl }) (flushes_last k own next.0 was_changed whole next.1), no_file refl refl))
 
   module _ (before after : HostState) (random random' : WordsState) (aside : Aside old.name before after) (books : OnDisk before after (KeepsUnder (Covers old) CoversNone (λ name. name ≡ old.name))) where
+    failed_leaves : (blame : Blame) → LeavesSeat (lines.Close k) (flush_reply (fault_of blame)) (Some old) None random random'
+    failed_leaves ByHost = refl
+    failed_leaves (ByDamage damage) = refl
+
     by_case : (result : Result (Unit {0}) FlushFault) (mid : SessionState) → old.broken ≡ false → old.changed ≡ true → FlushCase result old mid before after random random'
         → SeatGoes key false (lines.Close k) (Ok (close_result false result)) (Some old) None before after random random'
     by_case result mid whole was_changed (lacked words fewer seen same stays said) =
         subst (λ (r : Result (Unit {0}) FlushFault). SeatGoes key false (lines.Close k) (Ok (close_result false r)) (Some old) None before after random random') (sym said)
         (goes_out key false (lines.Close k) replies.WordsFault old before after random random' aside [] words false true seen refl refl
-        (whole_turns key false (lines.Close k) (seen_by [] words false true) replies.WordsFault old None [] whole (lacked_turns whole was_changed words fewer)) passes_like books)
+        (whole_turns key false (lines.Close k) (seen_by [] words false true) replies.WordsFault old None [] whole (lacked_turns whole was_changed words fewer)) passes_like refl books)
     by_case result mid whole was_changed (failed blame these words seen blames seals key_is name_is broken said) =
         subst (λ (r : Result (Unit {0}) FlushFault). SeatGoes key false (lines.Close k) (Ok (close_result false r)) (Some old) None before after random random') (sym said)
         (goes_out key false (lines.Close k) (flush_reply (fault_of blame)) old before after random random' aside these words (host_blamed blame) false seen (host_reply blame) (words_reply blame)
-        (whole_turns key false (lines.Close k) (seen_by these words (host_blamed blame) false) (flush_reply (fault_of blame)) old None these whole (failed_turns whole was_changed these words blame seals blames)) (failed_caused these blame blames) books)
+        (whole_turns key false (lines.Close k) (seen_by these words (host_blamed blame) false) (flush_reply (fault_of blame)) old None these whole (failed_turns whole was_changed these words blame seals blames)) (failed_caused these blame blames) (failed_leaves blame) books)
     by_case result mid whole was_changed (done these words seen seals same dirty said) =
         subst (λ (r : Result (Unit {0}) FlushFault). SeatGoes key false (lines.Close k) (Ok (close_result false r)) (Some old) None before after random random') (sym said)
         (goes_out key false (lines.Close k) (replies.Closed false) old before after random random' aside these words false false seen refl refl
-        (whole_turns key false (lines.Close k) (seen_by these words false false) (replies.Closed false) old None these whole (done_turns whole was_changed mid these words seals)) passes_like books)
+        (whole_turns key false (lines.Close k) (seen_by these words false false) (replies.Closed false) old None these whole (done_turns whole was_changed mid these words seals)) passes_like
+        (subst (λ (b : Bool). LeavesSeat (lines.Close k) (replies.Closed b) (Some old) None random random') whole (to_close k old)) books)
 
 pub close_goes : (key : List ℕ) (k : ℕ) (old : SessionState) (result : Result (Unit {0}) FlushFault) (before after : HostState) (random random' : WordsState) → IsSeated key old
     → CloseGoes result old before after random random' → Aside old.name before after → ReadsAsImage after → SeatGoes key false (lines.Close k) (Ok (close_result old.broken result)) (Some old) None before after random random'
@@ -133,7 +138,7 @@ close_goes key k old result before after random random' seated goes aside reads 
           taken = subst (λ (w : WordsState). Both random.left w.left (AreTaken [])) (sym same) (none_taken random);
           on_host = ap (λ (h : HostState). h.faults) stays;
           on_words = ap (λ (w : WordsState). w.faults) same;
-        }) refl refl (idle_turns key k old old.broken refl why) (passes_like key k old) books)
+        }) refl refl (idle_turns key k old old.broken refl why) (passes_like key k old) (to_close k old) books)
     by_end (flushed_last mid was_changed whole flushes) =
         subst (λ (b : Bool). SeatGoes key false (lines.Close k) (Ok (close_result b result)) (Some old) None before after random random') (sym whole)
         (by_case key k old before after random random' aside books result mid whole was_changed (flush_case old seated.of_script mid before after random random' result flushes))

@@ -13,7 +13,7 @@ use Rattle.pf_session.specs.State.{SessionState}
 use Rattle.pf_session.proofs.Created.{aside_none}
 use Rattle.pf_script.specs.BookSeats.{Covers, KeepsUnder}
 use Rattle.pf_script.specs.Desk.{IsSeated, IsLike, Shows, whole_file, seat_on}
-use Rattle.pf_script.specs.DeskSteps.{SeatGoes}
+use Rattle.pf_script.specs.DeskSteps.{to_draw, SeatGoes}
 use Rattle.pf_script.specs.Rules.{NoneRefuses, rules}
 use Rattle.pf_script.specs.Script.{Seat, Own}
 use Rattle.pf_script.specs.Turns.{accepted, words_failed, drawn_again, drawn_now as draws_now, no_nonce}
@@ -96,7 +96,8 @@ draw_goes key k old new result host random random' seated whole goes = by_case g
           taken = subst (λ (w : WordsState). Both random.left w.left (AreTaken [])) (sym words) (none_taken random);
           on_host = refl;
           on_words = ap (λ (w : WordsState). w.faults) words;
-        }) refl refl new (whole_turns key false (lines.Draw k) (seen_by [] [] false false) (replies.Drawn nonce) old (Some new) [] whole (again_turns key k old whole new nonce was same)) passes_like books
+        }) refl refl new (whole_turns key false (lines.Draw k) (seen_by [] [] false false) (replies.Drawn nonce) old (Some new) [] whole (again_turns key k old whole new nonce was same)) passes_like
+        (to_draw k nonce old new (same ∙ ap (λ (d : Option (List ℕ)). record old { drawn = d }) was)) books
         (subst (λ (s : SessionState). IsSeated key s) (sym same) seated) (ap (λ (s : SessionState). s.name) same))
     by_case (drawn_now nonce none drawn same said) =
         let joined : new ≡ record old { drawn = Some (drawn.first ++ drawn.second) } = subst (λ (n : List ℕ). new ≡ record old { drawn = Some n }) drawn.is same in
@@ -105,10 +106,10 @@ draw_goes key k old new result host random random' seated whole goes = by_case g
         (goes_on key false (lines.Draw k) (replies.Drawn (drawn.first ++ drawn.second)) old host host random random' (aside_none old.name host) [] (drawn.first ∷ drawn.second ∷ []) false false
         (record { told = told_none host host refl; taken = drawn.took.told; on_host = refl; on_words = drawn.took.calm }) refl refl new
         (whole_turns key false (lines.Draw k) (seen_by [] (drawn.first ∷ drawn.second ∷ []) false false) (replies.Drawn (drawn.first ++ drawn.second)) old (Some new) [] whole
-        (new_turns key k old whole new drawn.first drawn.second none joined)) passes_like books (seated_now same) (ap (λ (s : SessionState). s.name) same)))
+        (new_turns key k old whole new drawn.first drawn.second none joined)) passes_like (to_draw k (drawn.first ++ drawn.second) old new joined) books (seated_now same) (ap (λ (s : SessionState). s.name) same)))
     by_case (not_drawn fault none fewer same said) =
         subst (λ (r : Result (List ℕ) WordsFault). SeatGoes key false (lines.Draw k) (Ok (draw_result r)) (Some old) (Some new) host host random random') (sym said)
         (goes_on key false (lines.Draw k) replies.WordsFault old host host random random' (aside_none old.name host) [] fewer.words false true
         (record { told = told_none host host refl; taken = fewer.told; on_host = refl; on_words = fewer.once }) refl refl new
-        (whole_turns key false (lines.Draw k) (seen_by [] fewer.words false true) replies.WordsFault old (Some new) [] whole (lost_turns key k old whole new fewer.words fewer.fewer none same)) passes_like books
+        (whole_turns key false (lines.Draw k) (seen_by [] fewer.words false true) replies.WordsFault old (Some new) [] whole (lost_turns key k old whole new fewer.words fewer.fewer none same)) passes_like (ap (λ (s : SessionState). Some s) same) books
         (subst (λ (s : SessionState). IsSeated key s) (sym same) seated) (ap (λ (s : SessionState). s.name) same))

@@ -18,7 +18,7 @@ use Rattle.pf_script.specs.BookActs.{Flush, Act}
 use Rattle.pf_script.specs.BookDebts.{seat_of}
 use Rattle.pf_script.specs.BookSeats.{IsOfScript, Covers, KeepsUnder}
 use Rattle.pf_script.specs.Desk.{IsSeated, IsLike, Shows, whole_file, broken_file, seat_on}
-use Rattle.pf_script.specs.DeskSteps.{MaySeal, SomeSeatTurn, SeatGoes}
+use Rattle.pf_script.specs.DeskSteps.{MaySeal, SomeSeatTurn, LeavesSeat, to_flush, SeatGoes}
 use Rattle.pf_script.specs.Rules.{NoneRefuses, rules}
 use Rattle.pf_script.specs.Script.{Seat, Own}
 use Rattle.pf_script.specs.SeatReplies.{flush_reply}
@@ -102,6 +102,10 @@ module _ (key : List ℕ) (k : ℕ) (old : SessionState) (seated : IsSeated key 
   failed_caused these ByHost blames seat like = passes_like seat like
   failed_caused these (ByDamage damage) blames seat like = (passes_like seat like, like_short seat old these damage like blames)
 
+  failed_leaves : (blame : Blame) → new.broken ≡ true → LeavesSeat (lines.Flush k) (flush_reply (fault_of blame)) (Some old) (Some new) random random'
+  failed_leaves ByHost broken = broken
+  failed_leaves (ByDamage damage) broken = broken
+
   failed_turns : (these : List Answer) (words : List (List ℕ)) (blame : Blame) → SealsOwn old words (λ next. Unit {0}) → BlamesFlush old.name these blame → new.key ≡ old.key → new.name ≡ old.name → new.broken ≡ true
       → SheetTurns key false (lines.Flush k) (seen_by these words (host_blamed blame) false) (flush_reply (fault_of blame)) old (Some new) these
   failed_turns these words blame seals blames key_is name_is broken sealed base among linked kept =
@@ -128,17 +132,18 @@ module _ (key : List ℕ) (k : ℕ) (old : SessionState) (seated : IsSeated key 
   by_case result (lacked words fewer seen same stays said) =
       subst (λ (r : Result (Unit {0}) FlushFault). SeatGoes key false (lines.Flush k) (Ok (flush_result r)) (Some old) (Some new) before after random random') (sym said)
       (goes_on key false (lines.Flush k) replies.WordsFault old before after random random' aside [] words false true seen refl refl new
-      (whole_turns key false (lines.Flush k) (seen_by [] words false true) replies.WordsFault old (Some new) [] whole (lacked_turns words fewer same)) passes_like books
+      (whole_turns key false (lines.Flush k) (seen_by [] words false true) replies.WordsFault old (Some new) [] whole (lacked_turns words fewer same)) passes_like (ap (λ (s : SessionState). Some s) same) books
       (subst (λ (s : SessionState). IsSeated key s) (sym same) seated) (ap (λ (s : SessionState). s.name) same))
   by_case result (failed blame these words seen blames seals key_is name_is broken said) =
       subst (λ (r : Result (Unit {0}) FlushFault). SeatGoes key false (lines.Flush k) (Ok (flush_result r)) (Some old) (Some new) before after random random') (sym said)
       (goes_on key false (lines.Flush k) (flush_reply (fault_of blame)) old before after random random' aside these words (host_blamed blame) false seen (host_reply blame) (words_reply blame) new
-      (whole_turns key false (lines.Flush k) (seen_by these words (host_blamed blame) false) (flush_reply (fault_of blame)) old (Some new) these whole (failed_turns these words blame seals blames key_is name_is broken)) (failed_caused these blame blames) books
+      (whole_turns key false (lines.Flush k) (seen_by these words (host_blamed blame) false) (flush_reply (fault_of blame)) old (Some new) these whole (failed_turns these words blame seals blames key_is name_is broken)) (failed_caused these blame blames) (failed_leaves blame broken) books
       (record { of_script = goes; key_is = key_is ∙ seated.key_is; clean = λ also. absurd (false_true new.broken broken also) }) name_is)
   by_case result (done these words seen seals same dirty said) =
       subst (λ (r : Result (Unit {0}) FlushFault). SeatGoes key false (lines.Flush k) (Ok (flush_result r)) (Some old) (Some new) before after random random') (sym said)
       (goes_on key false (lines.Flush k) replies.Flushed old before after random random' aside these words false false seen refl refl new
-      (whole_turns key false (lines.Flush k) (seen_by these words false false) replies.Flushed old (Some new) these whole (done_turns these words seals same dirty)) passes_like books
+      (whole_turns key false (lines.Flush k) (seen_by these words false false) replies.Flushed old (Some new) these whole (done_turns these words seals same dirty)) passes_like
+      (to_flush k old new (ap (λ (s : SessionState). s.broken) same ∙ whole) (ap (λ (s : SessionState). s.changed) same)) books
       (record { of_script = goes; key_is = ap (λ (s : SessionState). s.key) same ∙ seated.key_is; clean = λ also unchanged. dirty }) (ap (λ (s : SessionState). s.name) same))
 
 pub flush_goes : (key : List ℕ) (k : ℕ) (old new : SessionState) (result : Result (Unit {0}) FlushFault) (before after : HostState) (random random' : WordsState) → IsSeated key old → old.broken ≡ false

@@ -27,7 +27,7 @@ use Rattle.pf_session.specs.State.{SessionState, file_of}
 use Rattle.pf_session.proofs.Created.{aside_kept}
 use Rattle.pf_script.specs.BookSeats.{Covers, KeepsUnder}
 use Rattle.pf_script.specs.Desk.{IsSeated, IsLike, Shows, whole_file, seat_on}
-use Rattle.pf_script.specs.DeskSteps.{SeatAsks, SeatCaused, SeatGoes}
+use Rattle.pf_script.specs.DeskSteps.{SeatAsks, SeatCaused, HoldsMore, to_read, SeatGoes}
 use Rattle.pf_script.specs.Rules.{NoneRefuses, rules, refuses}
 use Rattle.pf_script.specs.Script.{OwnSeat, Seat, Own}
 use Rattle.pf_script.specs.SeatReplies.{read_reply}
@@ -195,6 +195,10 @@ module _ (key : List ℕ) (k at count : ℕ) (old : SessionState) (seated : IsSe
         let on = like_some seat old like in
         subst (λ (s : Seat). NoneRefuses (rules key false s (lines.Read k at count) [])) (sym on.seat_is) (read_passes key k at count on.own (on.like.broken_is ∙ whole) few)
 
+    -- the session is as before, but for what was fetched
+    holds : HoldsMore old new
+    holds = record { fields = fields; tree = reads.rest; held = reads.fetched.kept }
+
     caused_by : (reply : Reply) → ((seat : Seat) → IsLike seat (Some old) → Caused key false seat (lines.Read k at count) reads.these reply) → SeatCaused key false (lines.Read k at count) reply (Some old) before after
     caused_by reply caused = record { given = reads.these; told = reads.answered.told; caused = caused }
 
@@ -207,7 +211,7 @@ module _ (key : List ℕ) (k at count : ℕ) (old : SessionState) (seated : IsSe
           seen = seen_by given [] false false;
           was_seen = record { answers = refl; words = none_taken words; of_host = cause.still; of_words = refl };
           turns = whole_turns key false (lines.Read k at count) (seen_by given [] false false) (replies.Given buffer) old (Some new) given whole (given_turns few given n ends.0 facts);
-        })) (caused_by (replies.Given buffer) passes_like) books seated_new (ap (λ (s : SessionState). s.name) fields)
+        })) (caused_by (replies.Given buffer) passes_like) (to_read k at count buffer old new room holds) books seated_new (ap (λ (s : SessionState). s.name) fields)
     by_result (Err (trees.Damaged d)) ends cause told =
         goes_told key false (lines.Read k at count) old before after words words (aside_kept old.name before after disk) (replies.DamagedNode d) (cause.still, refl) new
         (told_weaker (ReadFacts (Err (trees.Damaged d)) at buffer old new) (λ given. SeatAsks key false (lines.Read k at count) (replies.DamagedNode d) (Some old) (Some new) given before after words words) before after told
@@ -215,7 +219,7 @@ module _ (key : List ℕ) (k at count : ℕ) (old : SessionState) (seated : IsSe
           seen = seen_by given [] false false;
           was_seen = record { answers = refl; words = none_taken words; of_host = cause.still; of_words = refl };
           turns = whole_turns key false (lines.Read k at count) (seen_by given [] false false) (replies.DamagedNode d) old (Some new) given whole (damage_turns few given d facts);
-        })) (caused_by (replies.DamagedNode d) (λ seat like. (passes_like seat like, comes d (readable old.tree at (length buffer)) ends seat like))) books seated_new (ap (λ (s : SessionState). s.name) fields)
+        })) (caused_by (replies.DamagedNode d) (λ seat like. (passes_like seat like, comes d (readable old.tree at (length buffer)) ends seat like))) holds books seated_new (ap (λ (s : SessionState). s.name) fields)
     by_result (Err trees.Host) ends cause told =
         goes_told key false (lines.Read k at count) old before after words words (aside_kept old.name before after disk) replies.HostFault (cause.once, refl) new
         (told_weaker (ReadFacts (Err trees.Host) at buffer old new) (λ given. SeatAsks key false (lines.Read k at count) replies.HostFault (Some old) (Some new) given before after words words) before after told
@@ -223,13 +227,13 @@ module _ (key : List ℕ) (k at count : ℕ) (old : SessionState) (seated : IsSe
           seen = seen_by given [] true false;
           was_seen = record { answers = refl; words = none_taken words; of_host = cause.once; of_words = refl };
           turns = whole_turns key false (lines.Read k at count) (seen_by given [] true false) replies.HostFault old (Some new) given whole (host_turns few given facts);
-        })) (caused_by replies.HostFault passes_like) books seated_new (ap (λ (s : SessionState). s.name) fields)
+        })) (caused_by replies.HostFault passes_like) holds books seated_new (ap (λ (s : SessionState). s.name) fields)
     by_result (Err trees.Memory) ends cause told =
         goes_wanting key false (lines.Read k at count) old before after words words (aside_kept old.name before after disk) (record {}) new
         (record {
           takes = λ none. none;
           told = told_weaker (ReadFacts (Err trees.Memory) at buffer old new) (λ given. Unit {0}) before after told (λ given facts. tt);
-          ends = inl (record { seat = record { fields = fields; tree = reads.rest; held = reads.fetched.kept }; disk = disk; words = refl });
+          ends = inl (record { seat = holds; disk = disk; words = refl });
           flushes = λ session is. kept_flushes (lines.Read k at count) session before after disk;
         }) books seated_new
         (ap (λ (s : SessionState). s.name) fields) cause.still refl
