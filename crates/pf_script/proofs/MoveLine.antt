@@ -27,7 +27,7 @@ use Rattle.pf_script.specs.BookActs.{Move, Flush, Act}
 use Rattle.pf_script.specs.BookDebts.{seat_of}
 use Rattle.pf_script.specs.BookSeats.{IsOfScript, Covers, KeepsUnder}
 use Rattle.pf_script.specs.Desk.{IsSeated, IsLike, Shows, whole_file, broken_file, seat_on}
-use Rattle.pf_script.specs.DeskSteps.{MaySeal, SomeSeatTurn, CountsFault, SeatAsks, SeatGoes, Concerns, Spares, is_host_fault, is_words_fault}
+use Rattle.pf_script.specs.DeskSteps.{MaySeal, SomeSeatTurn, CountsFault, SeatAsks, LeavesSeat, to_move, SeatGoes, Concerns, Spares, is_host_fault, is_words_fault}
 use Rattle.pf_script.specs.Rules.{Rule, IsFirst, NoneRefuses, rules, refuses}
 use Rattle.pf_script.specs.SeatReplies.{flush_reply, move_reply}
 use Rattle.pf_script.specs.declared.line.ScriptLine.{ScriptLine}
@@ -271,9 +271,9 @@ module _ (key : List ℕ) (k : ℕ) (to : Name) (old : SessionState) (seated : I
 
   module _ (new : SessionState) (before after : HostState) (random random' : WordsState) (books : OnDisk before after (KeepsUnder (Covers old) (Covers new) (Concerns false line (Some old)))) (spares : Spares (Concerns false line (Some old)) before after) (mine : IsOfScript new) where
     move_on : (reply : Reply) (these : List Answer) (words : List (List ℕ)) (of_host of_words : Bool) → SeenOf these words of_host of_words before after random random' → is_host_fault reply ≡ of_host → is_words_fault reply ≡ of_words
-        → SheetTurns key false line (seen_by these words of_host of_words) reply old (Some new) these → ((seat : Seat) → IsLike seat (Some old) → Caused key false seat line these reply) → new.key ≡ old.key → ((name : Name) → name ≡ new.name → Concerns false line (Some old) name)
+        → SheetTurns key false line (seen_by these words of_host of_words) reply old (Some new) these → ((seat : Seat) → IsLike seat (Some old) → Caused key false seat line these reply) → LeavesSeat line reply (Some old) (Some new) random random' → new.key ≡ old.key → ((name : Name) → name ≡ new.name → Concerns false line (Some old) name)
         → (new.broken ≡ false → new.changed ≡ false → new.tree.dirty ≡ []) → SeatGoes key false line (Ok reply) (Some old) (Some new) before after random random'
-    move_on reply these words of_host of_words seen host_is words_is turns caused key_is names clean = record {
+    move_on reply these words of_host of_words seen host_is words_is turns caused leaves key_is names clean = record {
       asks = told_by (λ given. SeatAsks key false line reply (Some old) (Some new) given before after random random') these before after seen.told
           (record {
             seen = seen_by these words of_host of_words;
@@ -281,6 +281,7 @@ module _ (key : List ℕ) (k : ℕ) (to : Name) (old : SessionState) (seated : I
             turns = whole_turns key false line (seen_by these words of_host of_words) reply old (Some new) these whole turns;
           });
       caused = record { given = these; told = seen.told; caused = caused };
+      leaves = leaves;
       books = books;
       counts = (subst (λ b. CountsFault b before.faults after.faults) (sym host_is) seen.on_host, subst (λ b. CountsFault b random.faults random'.faults) (sym words_is) seen.on_words);
       wants = tt;
@@ -292,15 +293,15 @@ module _ (key : List ℕ) (k : ℕ) (to : Name) (old : SessionState) (seated : I
     -- the session is as it was
     as_before : (reply : Reply) (these : List Answer) (words : List (List ℕ)) (of_host of_words : Bool) → SeenOf these words of_host of_words before after random random' → is_host_fault reply ≡ of_host → is_words_fault reply ≡ of_words → new ≡ old
         → ((sealed : List Sheet) (base : Sheet) → SeatTurn (on_carried key sealed) key false (Own (seat_on base old)) line (seen_by these words of_host of_words) reply [] (Own (seat_on base old)))
-        → ((seat : Seat) → IsLike seat (Some old) → Caused key false seat line these reply) → SeatGoes key false line (Ok reply) (Some old) (Some new) before after random random'
-    as_before reply these words of_host of_words seen host_is words_is same turns caused =
+        → ((seat : Seat) → IsLike seat (Some old) → Caused key false seat line these reply) → LeavesSeat line reply (Some old) (Some new) random random' → SeatGoes key false line (Ok reply) (Some old) (Some new) before after random random'
+    as_before reply these words of_host of_words seen host_is words_is same turns caused leaves =
         move_on reply these words of_host of_words seen host_is words_is
         (λ sealed base among linked kept. at_last [] (inl refl) (λ unforged. (
           Own (seat_on base old),
           turns sealed base,
           shows_same sealed (Own (seat_on base old)) (Some new) (subst (λ (s : SessionState). Shows sealed (Own (seat_on base old)) (Some s)) (sym same) (whole_file base old whole among linked kept refl refl)),
         )))
-        caused (ap (λ (s : SessionState). s.key) same) (λ name is. inl (is ∙ ap (λ (s : SessionState). s.name) same))
+        caused leaves (ap (λ (s : SessionState). s.key) same) (λ name is. inl (is ∙ ap (λ (s : SessionState). s.name) same))
         (subst (λ (s : SessionState). s.broken ≡ false → s.changed ≡ false → s.tree.dirty ≡ []) (sym same) seated.clean)
 
     -- a call failed: the seat is broken
@@ -317,8 +318,12 @@ module _ (key : List ℕ) (k : ℕ) (to : Name) (old : SessionState) (seated : I
         let seat = Own (seat_on base old) in
         at_last on.0 (inr (may_fail sealed seat (Own on.1) these words (host_blamed blame) false on.0 on.0 (move_passes good base rest) (on.2 ByHost tt) refl))
         (λ unforged. (Own on.1, fault_turn sealed seat these blame on.0 (Own on.1) (move_passes good base rest) (on.2 blame blames), broken_file on.1 new broken on.3 (on.4 ∙ sym key_is) (on.5 ∙ sym name_is) refl refl)))
-        (fault_cause good rest blame blames) key_is (λ name is. inl (is ∙ name_is)) (λ also. absurd (false_true new.broken broken also))
+        (fault_cause good rest blame blames) (left_broken blame) key_is (λ name is. inl (is ∙ name_is)) (λ also. absurd (false_true new.broken broken also))
       where
+        left_broken : (blame : Blame) → LeavesSeat line (flush_reply (fault_of blame)) (Some old) (Some new) random random'
+        left_broken ByHost = inr broken
+        left_broken (ByDamage damage) = inr broken
+
         fault_turn : (sealed : List Sheet) (seat : Seat) (these : List Answer) (blame : Blame) (acts : List Act) (left : Seat) → NoneRefuses (rules key false seat line these) → Fails key (seen_by these words (host_blamed blame) false) blame seat line acts left
             → SeatTurn (on_carried key sealed) key false seat line (seen_by these words (host_blamed blame) false) (flush_reply (fault_of blame)) acts left
         fault_turn sealed seat these ByHost acts left none fails = host_failed none (record { host = refl; random = refl }) fails refl
@@ -424,7 +429,7 @@ module _ (key : List ℕ) (k : ℕ) (to : Name) (old : SessionState) (seated : I
             shows_moved sealed base' acts each.3 on
                 (Contains-append_right sealed (sheets_of acts) on.next (subst (λ (l : List Sheet). Contains l on.next) (sym (sheets_then before_it (act ∷ []))) (Contains-push (sheets_of before_it) on.next))) same,
           )))
-          (like_passes free.is_target (all_given more) (none_found (f.these ++ more))) (ap (λ (s : SessionState). s.key) same ∙ f.key_is) (λ name is. inr (ap Some (sym (is ∙ ap (λ (s : SessionState). s.name) same)), refl))
+          (like_passes free.is_target (all_given more) (none_found (f.these ++ more))) (to_move k to old new (ap (λ (s : SessionState). s.name) same) (ap (λ (s : SessionState). s.broken) same ∙ f.whole)) (ap (λ (s : SessionState). s.key) same ∙ f.key_is) (λ name is. inr (ap Some (sym (is ∙ ap (λ (s : SessionState). s.name) same)), refl))
           (λ also unchanged. ap (λ (s : SessionState). s.tree.dirty) same ∙ f.dirty)
 
     move_cases : (result : Result (Unit {0}) MoveFault) → MoveGoes result to old new before after random random' → SeatGoes key false line (move_reply result) (Some old) (Some new) before after random random'
@@ -443,20 +448,20 @@ module _ (key : List ℕ) (k : ℕ) (to : Name) (old : SessionState) (seated : I
         subst (λ (x : Result (Unit {0}) MoveFault). SeatGoes key false line (move_reply x) (Some old) (Some new) before after random random') (sym said)
         (as_before replies.HostFault [] [] true false
         (record { told = fails.asked.asked.told; taken = subst (λ (w : WordsState). Both random.left w.left (AreTaken [])) (sym words) (none_taken random); on_host = fails.asked.asked.faults; on_words = ap (λ (w : WordsState). w.faults) words })
-        refl refl same (λ sealed base. host_failed (move_unasked good base) (record { host = refl; random = refl }) (not_looked_up k to (seat_on base old) refl) refl) (like_passes good [] none_asked))
+        refl refl same (λ sealed base. host_failed (move_unasked good base) (record { host = refl; random = refl }) (not_looked_up k to (seat_on base old) refl) refl) (like_passes good [] none_asked) (inl (ap Some same)))
     move_cases result (was_there size good looks same words said) =
         subst (λ (x : Result (Unit {0}) MoveFault). SeatGoes key false line (move_reply x) (Some old) (Some new) before after random random') (sym said)
         (as_before (replies.Refused whys.TargetExists) (looked (Some size) ∷ []) [] false false
         (record { told = looks.asked.asked.told; taken = subst (λ (w : WordsState). Both random.left w.left (AreTaken [])) (sym words) (none_taken random); on_host = looks.asked.asked.faults; on_words = ap (λ (w : WordsState). w.faults) words })
         refl refl same
         (λ sealed base. refused whys.TargetExists (move_found size good (Own (seat_on base old)) (seat_on base old) refl whole) (record { host = refl; random = refl }) refl refl refl refl)
-        (on_like (λ seat. IsFirst (rules key false seat line (looked (Some size) ∷ [])) whys.TargetExists) (move_found size good)))
+        (on_like (λ seat. IsFirst (rules key false seat line (looked (Some size) ∷ [])) whys.TargetExists) (move_found size good)) (ap Some same, words))
     move_cases result (no_words free fewer same said) =
         subst (λ (x : Result (Unit {0}) MoveFault). SeatGoes key false line (move_reply x) (Some old) (Some new) before after random random') (sym said)
         (as_before replies.WordsFault (looked None ∷ []) fewer.words false true
         (record { told = free.looks.asked.asked.told; taken = fewer.told; on_host = free.looks.asked.asked.faults; on_words = fewer.once })
         refl refl same (λ sealed base. words_failed (move_passes free.is_target base []) (record { host = refl; random = refl }) (no_move k to (seat_on base old) (too_few_to_move base old fewer.words fewer.fewer)) refl)
-        (like_passes free.is_target (looked None ∷ []) (none_found [])))
+        (like_passes free.is_target (looked None ∷ []) (none_found [])) (ap Some same))
     move_cases result (not_flushed start fault free fails said) =
         subst (λ (x : Result (Unit {0}) MoveFault). SeatGoes key false line (move_reply x) (Some old) (Some new) before after random random') (sym said)
         (unflushed start fault free fails (seal_ends old seated.of_script new start after random fails.between (Err fault) fails.sealed fails.keys fails.came fails.goes))
