@@ -29,7 +29,7 @@ use Rattle.pf_script.specs.BookDebts.{Unchanged, seat_of}
 use Rattle.pf_script.specs.BookSeats.{CoversNone, CoversMade, KeepsUnder}
 use Rattle.pf_script.specs.BookTurns.{ShowsUnder, no_file, of_book, SeatUnder, MadeBy}
 use Rattle.pf_script.specs.Desk.{no_file as no_seat, whole_file, seat_on}
-use Rattle.pf_script.specs.DeskSteps.{MaySeal, SomeSeatTurn, Concerns}
+use Rattle.pf_script.specs.DeskSteps.{MaySeal, SomeSeatTurn, Concerns, to_create}
 use Rattle.pf_script.specs.FileTurns.{stands_on, answers_of, seen_over, FilesAfter, whole_file as whole_over, LineOver, SeatFiles}
 use Rattle.pf_script.specs.Rules.{Rule, IsFirst, NoneRefuses, refuses, rules}
 use Rattle.pf_script.specs.Script.{Seat, Empty, Own}
@@ -188,7 +188,7 @@ module _ (key : List ℕ) (k : ℕ) (name : Name) (utf8 : IsUtf8 name) (before a
       refused whys.BadName (first given) (record { host = refl; random = refl }) refl refl refl refl in
       subst (λ (r : Result SessionState CreateFault). Both (create_result name r) (made_seat r)) (sym said)
       (empty_idle key line name refl before after random random' (replies.Refused whys.BadName) [] [] false false (stays_so stays)
-      (record { told = told_none before after (ap (λ (h : HostState). h.given) stays); taken = none_taken_now same; on_host = ap (λ (h : HostState). h.faults) stays; on_words = ap (λ (w : WordsState). w.faults) same }) refl refl (λ standing. turn standing []) (first [])
+      (record { told = told_none before after (ap (λ (h : HostState). h.given) stays); taken = none_taken_now same; on_host = ap (λ (h : HostState). h.faults) stays; on_words = ap (λ (w : WordsState). w.faults) same }) refl refl (λ standing. turn standing []) (first []) (refl, same)
       (λ a is calm. turn (stands_on key (reading a.now)) (answers_of (reading a.now) line)))
   by_case result aside reads keeps (no_memory good stays same said) =
       subst (λ (r : Result SessionState CreateFault). Both (create_result name r) (made_seat r)) (sym said)
@@ -203,7 +203,7 @@ module _ (key : List ℕ) (k : ℕ) (name : Name) (utf8 : IsUtf8 name) (before a
       subst (λ (r : Result SessionState CreateFault). Both (create_result name r) (made_seat r)) (sym said)
       (empty_idle key line name refl before after random random' replies.HostFault [] [] true false fails.disk
       (record { told = fails.asked.asked.told; taken = none_taken_now same; on_host = fails.asked.asked.faults; on_words = ap (λ (w : WordsState). w.faults) same }) refl refl
-      (λ standing. host_failed none (record { host = refl; random = refl }) (not_asked k name refl) refl) none (λ a is calm. absurd (no_host_fault calm)))
+      (λ standing. host_failed none (record { host = refl; random = refl }) (not_asked k name refl) refl) none refl (λ a is calm. absurd (no_host_fault calm)))
   by_case result aside reads keeps (was_there size good looks same said) =
       let given = LengthWas name (Some size) ∷ [] in
       let first : IsFirst (rules key false Empty line given) (whys.Exists name) =
@@ -212,7 +212,7 @@ module _ (key : List ℕ) (k : ℕ) (name : Name) (utf8 : IsUtf8 name) (before a
       refused (whys.Exists name) first (record { host = refl; random = refl }) refl refl refl refl in
       subst (λ (r : Result SessionState CreateFault). Both (create_result name r) (made_seat r)) (sym said)
       (empty_idle key line name refl before after random random' (replies.Refused (whys.Exists name)) given [] false false looks.disk
-      (record { told = looks.asked.asked.told; taken = none_taken_now same; on_host = looks.asked.asked.faults; on_words = ap (λ (w : WordsState). w.faults) same }) refl refl turn first
+      (record { told = looks.asked.asked.told; taken = none_taken_now same; on_host = looks.asked.asked.faults; on_words = ap (λ (w : WordsState). w.faults) same }) refl refl turn first (refl, same)
       (λ a is calm.
       same_over key (reading a.now) false Empty line given [] (replies.Refused (whys.Exists name)) [] Empty
       (ap (λ (o : Option ℕ). LengthWas name o ∷ []) (on_reading (λ files. AllByRecursion (IsAnswerOf files) given) before.honest a is looks.asked.answered.honest).0) (turn (stands_on key (reading a.now)))))
@@ -222,7 +222,7 @@ module _ (key : List ℕ) (k : ℕ) (name : Name) (utf8 : IsUtf8 name) (before a
       subst (λ (r : Result SessionState CreateFault). Both (create_result name r) (made_seat r)) (sym said)
       (empty_idle key line name refl before after random random' replies.WordsFault given fewer.words false true looks.disk
       (record { told = looks.asked.asked.told; taken = fewer.told; on_host = looks.asked.asked.faults; on_words = fewer.once }) refl refl
-      (λ standing. words_failed none (record { host = refl; random = refl }) (no_creation k name fewer.fewer) refl) none (λ a is calm. absurd (no_words_fault calm)))
+      (λ standing. words_failed none (record { host = refl; random = refl }) (no_creation k name fewer.fewer) refl) none refl (λ a is calm. absurd (no_words_fault calm)))
   by_case result aside reads keeps (create_stopped nonce between good looks drawn stopped said) =
       let those = stopped.stopped.answered in
       let these = LengthWas name None ∷ those in
@@ -241,7 +241,7 @@ module _ (key : List ℕ) (k : ℕ) (name : Name) (utf8 : IsUtf8 name) (before a
         goes = empty_goes key line name refl None before after random random' (subst (λ (r : Result SessionState CreateFault). OnDisk before after (KeepsUnder CoversNone (CoversMade r) (λ n. n ≡ name))) said (keeps good.is_target)) (spares_given key line name refl before after aside) tt (λ n none. absurd none)
             replies.HostFault these words true false seen refl refl
             (empty_turns key line name refl (seen_by these words true false) replies.HostFault None these (act nonce these drawn false ∷ []) Empty (λ sealed. inr (may_seal nonce these drawn true false none stopped.linked sealed)) turn (λ sealed. no_seat refl refl))
-            none;
+            none refl;
         booked = record {
           seen = seen_by these words true false;
           was_seen = seen_in these words true false before after random random' seen;
@@ -276,7 +276,7 @@ module _ (key : List ℕ) (k : ℕ) (name : Name) (utf8 : IsUtf8 name) (before a
             replies.Created these words false false seen refl refl
             (empty_turns key line name refl (seen_by these words false false) replies.Created (Some made) these (act nonce these drawn true ∷ []) (Own (new_seat key name sheet)) (λ sealed. inr (may_seal nonce these drawn false true none is_fresh.linked sealed)) turn
             (λ sealed. whole_file sheet made refl (Contains-push sealed sheet) is_fresh.linked (record { backed = is_fresh.stands.backed; rests = λ calm. record { stands = is_fresh.stands; clean = refl } }) (ap Own same) refl))
-            none;
+            none (to_create k name made refl refl refl);
         booked = record {
           seen = seen_by these words false false;
           was_seen = seen_in these words false false before after random random' seen;

@@ -199,12 +199,12 @@ module _ (old : DeskState) (desk : IsDesk old) (k : ℕ) (below : k < SEATS) (ta
           inr (k, taken, names, state_says state like, subst (λ (x : List ℕ). Caused x taken (seat_at state k) line caused.given reply) (sym like.key_is) (caused.caused (seat_at state k) (like.like k)));
     }
 
+    same_seat : (i j : ℕ) → ◌≡◌ {A = Option ℕ} (Some i) (Some j) → i ≡ j
+    same_seat i j same = cc
+
     leaves_on : (reply : Reply) → LeavesSeat line reply (session_at old k) left random random' → (j : ℕ) → seat_of_line line ≡ Some j → LeavesSeat line reply (session_at old j) (session_at new j) random random'
     leaves_on reply leaves j is =
-        subst (λ i. LeavesSeat line reply (session_at old i) (session_at new i) random random') (same_some k j (sym names ∙ is)) (subst (λ (o : Option SessionState). LeavesSeat line reply (session_at old k) o random random') (sym here) leaves)
-      where
-        same_some : (i j : ℕ) → ◌≡◌ {A = Option ℕ} (Some i) (Some j) → i ≡ j
-        same_some i j e = cc
+        subst (λ i. LeavesSeat line reply (session_at old i) (session_at new i) random random') (same_seat k j (sym names ∙ is)) (subst (λ (o : Option SessionState). LeavesSeat line reply (session_at old k) o random random') (sym here) leaves)
 
     all_leaves : (r : Result Reply Memory) → WhereReplied r (λ reply. LeavesSeat line reply (session_at old k) left random random') → WhereReplied r (λ reply. (j : ℕ) → seat_of_line line ≡ Some j → LeavesSeat line reply (session_at old j) (session_at new j) random random')
     all_leaves (Ok reply) leaves = leaves_on reply leaves
@@ -225,7 +225,7 @@ module _ (old : DeskState) (desk : IsDesk old) (k : ℕ) (below : k < SEATS) (ta
       takes = wants.takes;
       told = wants.told;
       ends = ⊎_elim (λ idle. inl (nothing idle)) (λ breaks. inr (broken breaks.0 breaks.1 breaks.2)) wants.ends;
-      flushes = λ j session is_seat is. flushed j session (same_seat j (sym is_seat ∙ names)) is;
+      flushes = λ j session is_seat is. flushed j session (same_seat j k (sym is_seat ∙ names)) is;
     }
       where
         off : (j : ℕ) → j ≢ k → KeepsSession (session_at old j) (session_at new j)
@@ -240,9 +240,6 @@ module _ (old : DeskState) (desk : IsDesk old) (k : ℕ) (below : k < SEATS) (ta
           disk = idle.disk;
           words = idle.words;
         }
-
-        same_seat : (j : ℕ) → ◌≡◌ {A = Option ℕ} (Some j) (Some k) → j ≡ k
-        same_seat j is = cc
 
         flushed : (j : ℕ) (session : SessionState) → j ≡ k → session_at old j ≡ Some session → OnDisk before after (FlushesUnder line session)
         flushed j session same is =

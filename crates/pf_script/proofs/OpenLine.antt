@@ -37,7 +37,7 @@ use Rattle.pf_script.specs.BookSeats.{CoversNone, CoversMade, KeepsUnder}
 use Rattle.pf_script.specs.BookTurns.{of_book, Knows, LineUnder, SeatUnder, MadeBy}
 use Rattle.pf_script.specs.FileTurns.{stands_on, opening_answers, whole_file as whole_over, SeatFiles}
 use Rattle.pf_script.specs.Desk.{IsSeated, Shows, whole_file, seat_on}
-use Rattle.pf_script.specs.DeskSteps.{CountsFault, MaySeal, Unfolds, then_more, in_the_end, SomeSeatTurn, SeatTurns, SeatAsks, Concerns, CoversSome}
+use Rattle.pf_script.specs.DeskSteps.{CountsFault, MaySeal, Unfolds, then_more, in_the_end, SomeSeatTurn, SeatTurns, SeatAsks, Concerns, CoversSome, to_open}
 use Rattle.pf_script.specs.Rules.{IsFirst as IsFirstRule, NoneRefuses, opening_rules, rules}
 use Rattle.pf_script.specs.Script.{Seat, Empty, Own, sheets_of}
 use Rattle.pf_script.specs.SeatReplies.{open_reply}
@@ -110,7 +110,7 @@ module _ (key : List ℕ) (k : ℕ) (name : Name) (utf8 : IsUtf8 name) (before a
       → ((a : Honest) → before.honest ≡ Some a → IsFirstRule (opening_rules key name (opening_answers name (reading a.now name))) why) → Halves (Ok (replies.Refused why)) None
   refuses_to_open these why told calm first by_files =
       empty_idle key line name refl before after words words (replies.Refused why) these [] false false only (seen_of these false told calm) refl refl
-      (λ standing. refused why (seat_first (opening_rules key name these) why first) (record { host = refl; random = refl }) refl refl refl refl) (seat_first (opening_rules key name these) why first)
+      (λ standing. refused why (seat_first (opening_rules key name these) why first) (record { host = refl; random = refl }) refl refl refl refl) (seat_first (opening_rules key name these) why first) (refl, refl)
       (λ a is none_failed. refused why (seat_first (opening_rules key name (opening_answers name (reading a.now name))) why (by_files a is)) (record { host = refl; random = refl }) refl refl refl refl)
 
   -- so where the answers are those of the files
@@ -121,7 +121,7 @@ module _ (key : List ℕ) (k : ℕ) (name : Name) (utf8 : IsUtf8 name) (before a
   host_fails : (these : List Answer) → BothAre before.given after.given (IsMore these) → after.faults ≡ counted before.faults → NoneRefuses (opening_rules key name these) → Halves (Ok replies.HostFault) None
   host_fails these told rose none =
       empty_idle key line name refl before after words words replies.HostFault these [] true false only (seen_of these true told rose) refl refl
-      (λ standing. host_failed (seat_none (opening_rules key name these) none) (record { host = refl; random = refl }) (fails_to_open k name ByHost refl tt) refl) (seat_none (opening_rules key name these) none) (λ a is none_failed. absurd (no_host_fault none_failed))
+      (λ standing. host_failed (seat_none (opening_rules key name these) none) (record { host = refl; random = refl }) (fails_to_open k name ByHost refl tt) refl) (seat_none (opening_rules key name these) none) refl (λ a is none_failed. absurd (no_host_fault none_failed))
 
   -- node 0 is damaged
   is_damaged : (these : List Answer) (damage : Damage) → BothAre before.given after.given (IsMore these) → after.faults ≡ before.faults → NoneRefuses (opening_rules key name these) → BlamesOpening key name these (ByDamage damage) → AreOfFiles these
@@ -129,7 +129,7 @@ module _ (key : List ℕ) (k : ℕ) (name : Name) (utf8 : IsUtf8 name) (before a
   is_damaged these damage told calm none blames of_files =
       let turn : (standing : Standing) → SeatTurn standing key false Empty line (seen_by these [] false false) (replies.DamagedNode damage) [] Empty = λ standing.
       was_damaged damage (seat_none (opening_rules key name these) none) (record { host = refl; random = refl }) (fails_to_open k name (ByDamage damage) refl blames) refl in
-      empty_idle key line name refl before after words words (replies.DamagedNode damage) these [] false false only (seen_of these false told calm) refl refl turn (seat_none (opening_rules key name these) none, blames)
+      empty_idle key line name refl before after words words (replies.DamagedNode damage) these [] false false only (seen_of these false told calm) refl refl turn (seat_none (opening_rules key name these) none, blames) refl
       (λ a is none_failed. same_over key (reading a.now) false Empty line these [] (replies.DamagedNode damage) [] Empty (of_files a is) (turn (stands_on key (reading a.now))))
 
   wants_memory : after.faults ≡ before.faults → WhereTold before after (λ given. Unit {0}) → Halves (Err (record {})) None
@@ -306,6 +306,7 @@ module _ (key : List ℕ) (k : ℕ) (name : Name) (utf8 : IsUtf8 name) (before a
         asks = told_these (λ came. (sheets : List Sheet) → Unforged key sheets came → OnFirst sheets session came) (λ given. SeatAsks key false line (replies.Opened session.tree.size) None (Some session) given before after words words) came before after told first
             (λ on. record { seen = seen; was_seen = record { answers = refl; words = none_taken words; of_host = calm; of_words = refl }; turns = turns on });
         caused = record { given = came; told = told; caused = λ seat like. subst (λ (x : Seat). Caused key false x line came (replies.Opened session.tree.size)) (sym (like_none seat like)) none_here };
+        leaves = to_open k name session refl refl refl;
         books = both_weaker (KeepsUnder CoversNone (CoversMade {E = OpenFault} (Ok session)) (λ n. n ≡ name)) (KeepsUnder CoversNone (CoversSome (Some session)) (Concerns false line None)) before.honest after.honest
             (open_keeps key name before after (Ok session) goes either only)
             (λ a b keeps. keeps_more CoversNone (CoversSome (Some session)) (λ n. n ≡ name) (Concerns false line None) a b (concerns key line name refl) keeps);
