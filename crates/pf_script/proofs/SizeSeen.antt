@@ -170,22 +170,22 @@ module _ (key : List ℕ) (size : ℕ) (small : size ≤ 2 ^ 32) where
   last_seen written old new before after random random' seated few sets (set_changed flushed other said some seen) =
       let set_now = size_set written size old new before after random random' sets.whole sets.goes in
       record {
-    outcome = Went flushed;
-    reply_is = refl;
-    words = seen.words;
-    taken = seen.taken;
-    on_host = seen.on_host;
-    on_words = seen.on_words;
-    told = told_weaker (λ given. ChangeTold (Size size) old new given seen.words (Went flushed)) (λ given. SizeTold size old new given seen.words (Went flushed)) before after seen.told
-        (λ given told. told_change old new size given seen.words (Went flushed) (last_size few refl) some (λ f is. refl) told);
-    came = seen.came;
-    leaves = (set_now.whole, set_now.size_is);
-    breaks = λ is. absurd (cc);
-    seated_new = (set_seated size (Ok written) old new before after random random' seated sets).0;
-    name_is = (set_seated size (Ok written) old new before after random random' seated sets).1;
-    books = set_books size (Ok written) old new before after random random' seated sets;
-    aside = sets.aside;
-  }
+        outcome = Went flushed;
+        reply_is = refl;
+        words = seen.words;
+        taken = seen.taken;
+        on_host = seen.on_host;
+        on_words = seen.on_words;
+        told = told_weaker (λ given. ChangeTold (Size size) old new given seen.words (Went flushed)) (λ given. SizeTold size old new given seen.words (Went flushed)) before after seen.told
+            (λ given told. told_change old new size given seen.words (Went flushed) (last_size few refl) some (λ f is. refl) told);
+        came = seen.came;
+        leaves = (set_now.whole, set_now.size_is);
+        breaks = λ is. absurd (cc);
+        seated_new = (set_seated size (Ok written) old new before after random random' seated sets).0;
+        name_is = (set_seated size (Ok written) old new before after random random' seated sets).1;
+        books = set_books size (Ok written) old new before after random random' seated sets;
+        aside = sets.aside;
+      }
   last_seen written old new before after random random' seated few sets (set_broken outcome fault said reply stays other seen breaks) = absurd (cc)
 
   pub same_fault : (fault other : SizeFault) → ◌≡◌ {A = Result Written SizeFault} (Err fault) (Err other) → other ≡ fault
