@@ -34,7 +34,7 @@ use Rattle.pf_script.proofs.Flushed.{host_blamed, fault_of, length_now}
 use Rattle.pf_script.proofs.Liking.{like_some}
 use Rattle.pf_script.proofs.Refusing.{none_then}
 use Rattle.pf_script.proofs.SeatCalls.{seen_by, SheetTurns, whole_turns, host_reply, words_reply, goes_told, goes_wanting}
-use Rattle.pf_script.proofs.SizeSeen.{sized, size_result, never_refused, SizeLeft, SizeSeen, size_seen}
+use Rattle.pf_script.proofs.SizeSeen.{sized, size_result, never_refused, LeftBySize, SizeSeen, size_seen}
 use Rattle.pf_script.proofs.SizeTold.{SizeTold, size_ends}
 use Rattle.pf_script.proofs.StepTurns.{LineEnds}
 use Rattle.pf_script.proofs.WantFlushes.{Any, flushed_under, flushes_of, size_flushes}
@@ -122,8 +122,8 @@ module _ (key : List ℕ) (k size : ℕ) (small : size ≤ 2 ^ 32) (old new : Se
     came_as : (outcome : Outcome) → seen.outcome ≡ outcome → OutcomeCame old.name outcome before after
     came_as outcome is = subst (λ (o : Outcome). OutcomeCame old.name o before after) is seen.came
 
-    left_as : (outcome : Outcome) → seen.outcome ≡ outcome → SizeLeft size new outcome
-    left_as outcome is = subst (λ (o : Outcome). SizeLeft size new o) is seen.leaves
+    left_as : (outcome : Outcome) → seen.outcome ≡ outcome → LeftBySize size new outcome
+    left_as outcome is = subst (λ (o : Outcome). LeftBySize size new o) is seen.leaves
 
     by_outcome : (outcome : Outcome) → seen.outcome ≡ outcome → SeatGoes key false (lines.Size k size) (outcome_reply (sized size) outcome) (Some old) (Some new) before after random random'
     by_outcome (Went flushed) is =

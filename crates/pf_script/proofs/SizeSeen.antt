@@ -91,13 +91,13 @@ unflushed_wants (faults.Damaged damage) is = absurd (cc)
 unflushed_wants faults.Host is = absurd (cc)
 
 -- what is left of the session
-abbrev pub SizeLeft : ℕ → SessionState → Outcome → Type 0
-SizeLeft size new (Went flushed) = (new.broken ≡ false) × (new.tree.size ≡ size)
-SizeLeft size new (Broke blame) = new.broken ≡ true
-SizeLeft size new Lacked = new.broken ≡ false
-SizeLeft size new Wanted = Unit {0}
+abbrev pub LeftBySize : ℕ → SessionState → Outcome → Type 0
+LeftBySize size new (Went flushed) = (new.broken ≡ false) × (new.tree.size ≡ size)
+LeftBySize size new (Broke blame) = new.broken ≡ true
+LeftBySize size new Lacked = new.broken ≡ false
+LeftBySize size new Wanted = Unit {0}
 
-failed_leaves : (size : ℕ) (old new : SessionState) → old.broken ≡ false → (outcome : Outcome) → ((flushed : Bool) → ¬ (outcome ≡ Went flushed)) → LeftBy old new outcome → SizeLeft size new outcome
+failed_leaves : (size : ℕ) (old new : SessionState) → old.broken ≡ false → (outcome : Outcome) → ((flushed : Bool) → ¬ (outcome ≡ Went flushed)) → LeftBy old new outcome → LeftBySize size new outcome
 failed_leaves size old new whole (Went flushed) stays left = absurd (stays flushed refl)
 failed_leaves size old new whole (Broke blame) stays left = left
 failed_leaves size old new whole Lacked stays left = ap (λ (s : SessionState). s.broken) left ∙ whole
@@ -134,7 +134,7 @@ module _ (key : List ℕ) (size : ℕ) (small : size ≤ 2 ^ 32) where
     pub on_words : CountsFault (words_in outcome) random.faults random'.faults
     pub told : WhereTold before after (λ given. SizeTold size old new given words outcome)
     pub came : OutcomeCame old.name outcome before after
-    pub leaves : SizeLeft size new outcome
+    pub leaves : LeftBySize size new outcome
     pub breaks : outcome ≡ Wanted → new.broken ≡ true
     pub seated_new : IsSeated key new
     pub name_is : new.name ≡ old.name
