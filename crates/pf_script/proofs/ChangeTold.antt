@@ -1,5 +1,5 @@
 -- What is told of a change of a session, and how a line goes on by it.
-use Rattle.std.proofs.Common.{◌≡◌, ◌⊎◌, inl, inr, Bool, true, false, List, [], ◌∷◌, ◌++◌, ℕ, ◌*◌, refl, sym, ap, subst, None, Result, Ok, Err}
+use Rattle.std.proofs.Common.{◌≡◌, ◌⊎◌, inl, inr, Bool, true, false, List, [], ◌∷◌, ◌++◌, ℕ, ◌*◌, refl, sym, ◌∙◌, ap, subst, None, Result, Ok, Err}
 use Rattle.std.proofs.lemmas.List.Elements.{Contains-append_left, Contains-append_right}
 use Rattle.node_layout.specs.declared.damage.Damage.{Damage}
 use Rattle.node_tree.specs.Applying.{Step}
@@ -72,6 +72,13 @@ pub record OutcomeCame (name : Name) (outcome : Outcome) (before after : HostSta
   pub told : Both before.given after.given (IsMore these)
   pub comes : Comes name these outcome
 
+-- what it leaves of the session
+abbrev pub LeftBy : SessionState → SessionState → Outcome → Type 0
+LeftBy old new (Went flushed) = new.broken ≡ old.broken
+LeftBy old new (Broke blame) = new.broken ≡ true
+LeftBy old new Lacked = new ≡ old
+LeftBy old new Wanted = Unit {0}
+
 -- what is seen of it
 pub record ChangeSeen (step : Step) (old new : SessionState) (outcome : Outcome) (before after : HostState) (random random' : WordsState) : Type 0 where
   pub words : List (List ℕ)
@@ -80,6 +87,7 @@ pub record ChangeSeen (step : Step) (old new : SessionState) (outcome : Outcome)
   pub on_words : CountsFault (words_in outcome) random.faults random'.faults
   pub told : WhereTold before after (λ given. ChangeTold step old new given words outcome)
   pub came : OutcomeCame old.name outcome before after
+  pub leaves : LeftBy old new outcome
 
 pub host_same : (flushed : Bool) (one : Result (Unit {0}) TreeFault) → host_of one ≡ host_in (outcome_of flushed one)
 host_same flushed (Ok ok) = refl
@@ -142,6 +150,12 @@ step_came old mine new one step before after goes flushed (Err (trees.Damaged da
 step_came old mine new one step before after goes flushed (Err trees.Host) is = record { these = goes.steps.these; told = goes.steps.answered.told; comes = tt }
 step_came old mine new one step before after goes flushed (Err trees.Memory) is = record { these = goes.steps.these; told = goes.steps.answered.told; comes = tt }
 
+step_leaves : (flushed : Bool) (one : Result (Unit {0}) TreeFault) (old mid new : SessionState) → mid.broken ≡ old.broken → StepState one mid new → LeftBy old new (outcome_of flushed one)
+step_leaves flushed (Ok ok) old mid new same state = ap (λ (s : SessionState). s.broken) state ∙ same
+step_leaves flushed (Err (trees.Damaged damage)) old mid new same state = ap (λ (s : SessionState). s.broken) state
+step_leaves flushed (Err trees.Host) old mid new same state = ap (λ (s : SessionState). s.broken) state
+step_leaves flushed (Err trees.Memory) old mid new same state = tt
+
 -- of a flush that failed
 flush_comes : (name : Name) (these : List Answer) (blame : Blame) → BlamesFlush name these blame → Comes name these (Broke blame)
 flush_comes name these ByHost blames = tt
@@ -156,6 +170,7 @@ module _ (old : SessionState) (mine : IsOfScript old) (step : Step) (before afte
     on_words = subst (λ b. CountsFault b random.faults random'.faults) (sym (calm_words false one)) (ap (λ (w : WordsState). w.faults) same);
     told = told_weaker (StepFacts one step old new) (λ given. ChangeTold step old new given [] (outcome_of false one)) before after (step_told old mine new one step before after goes one refl) (λ given facts. told_once one roomy refl facts goes.state);
     came = step_came old mine new one step before after goes false one refl;
+    leaves = step_leaves false one old old new refl goes.state;
   }
 
   pub seen_unflushed : (new : SessionState) (fault : FlushFault) → IsFlushedFirst step old.tree → FlushCase (Err fault) old new before after random random' → ChangeSeen step old new (flush_outcome fault) before after random random'
@@ -168,6 +183,7 @@ module _ (old : SessionState) (mine : IsOfScript old) (step : Step) (before afte
         on_words = seen.on_words;
         told = told_by (λ given. ChangeTold step old new given words Lacked) [] before after seen.told (told_lacked first fewer same);
         came = record { these = []; told = seen.told; comes = tt };
+        leaves = same;
       })
   seen_unflushed new fault first (failed blame these words seen blames seals key_is name_is broken said) =
       subst (λ (f : FlushFault). ChangeSeen step old new (flush_outcome f) before after random random') (same_fault fault (fault_of blame) said)
@@ -179,6 +195,7 @@ module _ (old : SessionState) (mine : IsOfScript old) (step : Step) (before afte
         on_words = seen.on_words;
         told = told_by (λ given. ChangeTold step old new given words (Broke blame)) these before after seen.told (told_unflushed blame first blames seals key_is name_is broken);
         came = record { these = these; told = seen.told; comes = flush_comes old.name these blame blames };
+        leaves = broken;
       }))
   seen_unflushed new fault first (done these words seen seals same dirty said) = absurd (cc)
 
@@ -195,6 +212,7 @@ module _ (old : SessionState) (mine : IsOfScript old) (step : Step) (before afte
         (told_by (λ given. given ≡ these) these before between seen.told refl) (step_told mid of_mid new one step between after goes one refl)
         (λ first_ones those is facts. told_after mid one these those (ap (λ (l : List Answer). l ++ those) is) first seals same dirty facts goes.state);
     came = came_after old.name mid.name these (outcome_of true one) before between after (ap (λ (s : SessionState). s.name) same) seen.told (step_came mid of_mid new one step between after goes true one refl);
+    leaves = step_leaves true one old mid new (ap (λ (s : SessionState). s.broken) same) goes.state;
   }
 
 -- the sheets after a change: one more, where it flushed

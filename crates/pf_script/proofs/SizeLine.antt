@@ -18,7 +18,7 @@ use Rattle.pf_session.specs.declared.fault.SizeFault.{SizeFault}
 use Rattle.pf_session.specs.declared.fault.SizeFault.TheVariants as sizes
 use Rattle.pf_session.specs.declared.fault.Written.{Written}
 use Rattle.pf_script.specs.Desk.{IsSeated, seat_on, IsLikeOwn}
-use Rattle.pf_script.specs.DeskSteps.{CountsFault, SeatAsks, FlushesUnder, Admits, SeatGoes}
+use Rattle.pf_script.specs.DeskSteps.{CountsFault, SeatAsks, FlushesUnder, Admits, SeatGoes, to_size}
 use Rattle.pf_script.specs.Rules.{NoneRefuses, rules, refuses}
 use Rattle.pf_script.specs.Script.{OwnSeat, Seat, Own}
 use Rattle.pf_script.specs.SeatReplies.{flush_reply, size_reply, IsNoLimit, IsNextSize, SizesGo, set_last, set_failed, set_piece}
@@ -28,13 +28,13 @@ use Rattle.pf_script.specs.declared.line.ScriptLine.TheVariants as lines
 use Rattle.pf_script.specs.declared.reply.Reply.{Reply}
 use Rattle.pf_script.specs.declared.reply.Reply.TheVariants as replies
 use Rattle.pf_script.specs.declared.reply.Why.TheVariants as whys
-use Rattle.pf_script.proofs.ChangeLine.{outcome_reply, none_made, passed_cause, broken_cause}
+use Rattle.pf_script.proofs.ChangeLine.{outcome_reply, none_made, broken_leaves, passed_cause, broken_cause}
 use Rattle.pf_script.proofs.ChangeTold.{Outcome, Went, Broke, Lacked, Wanted, host_in, words_in, OutcomeCame}
 use Rattle.pf_script.proofs.Flushed.{host_blamed, fault_of, length_now}
 use Rattle.pf_script.proofs.Liking.{like_some}
 use Rattle.pf_script.proofs.Refusing.{none_then}
 use Rattle.pf_script.proofs.SeatCalls.{seen_by, SheetTurns, whole_turns, host_reply, words_reply, goes_told, goes_wanting}
-use Rattle.pf_script.proofs.SizeSeen.{sized, size_result, never_refused, SizeSeen, size_seen}
+use Rattle.pf_script.proofs.SizeSeen.{sized, size_result, never_refused, LeftBySize, SizeSeen, size_seen}
 use Rattle.pf_script.proofs.SizeTold.{SizeTold, size_ends}
 use Rattle.pf_script.proofs.StepTurns.{LineEnds}
 use Rattle.pf_script.proofs.WantFlushes.{Any, flushed_under, flushes_of, size_flushes}
@@ -122,6 +122,9 @@ module _ (key : List ℕ) (k size : ℕ) (small : size ≤ 2 ^ 32) (old new : Se
     came_as : (outcome : Outcome) → seen.outcome ≡ outcome → OutcomeCame old.name outcome before after
     came_as outcome is = subst (λ (o : Outcome). OutcomeCame old.name o before after) is seen.came
 
+    left_as : (outcome : Outcome) → seen.outcome ≡ outcome → LeftBySize size new outcome
+    left_as outcome is = subst (λ (o : Outcome). LeftBySize size new o) is seen.leaves
+
     by_outcome : (outcome : Outcome) → seen.outcome ≡ outcome → SeatGoes key false (lines.Size k size) (outcome_reply (sized size) outcome) (Some old) (Some new) before after random random'
     by_outcome (Went flushed) is =
         goes_told key false (lines.Size k size) old before after random random' seen.aside (replies.Sized size)
@@ -137,7 +140,7 @@ module _ (key : List ℕ) (k size : ℕ) (small : size ≤ 2 ^ 32) (old new : Se
           };
           turns = whole_turns key false (lines.Size k size) (seen_by given seen.words false false) (replies.Sized size) old (Some new) given whole
               (went_turns given seen.words flushed (subst (λ (o : Outcome). SizeTold size old new given seen.words o) is told));
-        })) (passed_cause key (lines.Size k size) old like_passes before after (replies.Sized size) (λ seat given free. free) (Went flushed) (came_as (Went flushed) is)) seen.books seen.seated_new seen.name_is
+        })) (passed_cause key (lines.Size k size) old like_passes before after (replies.Sized size) (λ seat given free. free) (Went flushed) (came_as (Went flushed) is)) (to_size k size old new (left_as (Went flushed) is).0 (left_as (Went flushed) is).1) seen.books seen.seated_new seen.name_is
     by_outcome (Broke blame) is =
         goes_told key false (lines.Size k size) old before after random random' seen.aside (flush_reply (fault_of blame)) (
           subst (λ b. CountsFault b before.faults after.faults) (sym (host_reply blame)) (subst (λ (o : Outcome). CountsFault (host_in o) before.faults after.faults) is seen.on_host),
@@ -154,7 +157,7 @@ module _ (key : List ℕ) (k size : ℕ) (small : size ≤ 2 ^ 32) (old new : Se
           };
           turns = whole_turns key false (lines.Size k size) (seen_by given seen.words (host_blamed blame) false) (flush_reply (fault_of blame)) old (Some new) given whole
               (broke_turns given seen.words blame (subst (λ (o : Outcome). SizeTold size old new given seen.words o) is told));
-        })) (broken_cause key (lines.Size k size) old like_passes before after tt blame (came_as (Broke blame) is)) seen.books seen.seated_new seen.name_is
+        })) (broken_cause key (lines.Size k size) old like_passes before after tt blame (came_as (Broke blame) is)) (broken_leaves old new random random' (lines.Size k size) tt blame (left_as (Broke blame) is)) seen.books seen.seated_new seen.name_is
     by_outcome Lacked is =
         goes_told key false (lines.Size k size) old before after random random' seen.aside replies.WordsFault
         (subst (λ (o : Outcome). CountsFault (host_in o) before.faults after.faults) is seen.on_host, subst (λ (o : Outcome). CountsFault (words_in o) random.faults random'.faults) is seen.on_words) new
@@ -169,7 +172,7 @@ module _ (key : List ℕ) (k size : ℕ) (small : size ≤ 2 ^ 32) (old new : Se
           };
           turns = whole_turns key false (lines.Size k size) (seen_by given seen.words false true) replies.WordsFault old (Some new) given whole
               (lacked_turns given seen.words (subst (λ (o : Outcome). SizeTold size old new given seen.words o) is told));
-        })) (passed_cause key (lines.Size k size) old like_passes before after replies.WordsFault (λ seat given free. free) Lacked (came_as Lacked is)) seen.books seen.seated_new seen.name_is
+        })) (passed_cause key (lines.Size k size) old like_passes before after replies.WordsFault (λ seat given free. free) Lacked (came_as Lacked is)) (left_as Lacked is) seen.books seen.seated_new seen.name_is
     by_outcome Wanted is =
         goes_wanting key false (lines.Size k size) old before after random random' seen.aside (record {}) new
         (record {

@@ -29,7 +29,7 @@ use Rattle.pf_script.specs.declared.reply.Reply.{Reply}
 use Rattle.pf_script.specs.declared.reply.Reply.TheVariants as replies
 use Rattle.pf_script.proofs.ChangeKeeping.{change_keeps}
 use Rattle.pf_script.proofs.ChangeLine.{outcome_reply, change_seated}
-use Rattle.pf_script.proofs.ChangeTold.{Outcome, Went, Wanted, outcome_of, flush_outcome, host_in, words_in, ChangeTold, OutcomeCame, came_after, ChangeSeen, seen_once, seen_unflushed, seen_after}
+use Rattle.pf_script.proofs.ChangeTold.{Outcome, Went, Broke, Lacked, Wanted, outcome_of, flush_outcome, host_in, words_in, ChangeTold, OutcomeCame, came_after, LeftBy, ChangeSeen, seen_once, seen_unflushed, seen_after}
 use Rattle.pf_script.proofs.Flushed.{flush_case}
 use Rattle.pf_script.proofs.OfScript.{of_flushed}
 use Rattle.pf_script.proofs.Refusing.{none_taken}
@@ -90,6 +90,19 @@ unflushed_wants faults.Words is = absurd (cc)
 unflushed_wants (faults.Damaged damage) is = absurd (cc)
 unflushed_wants faults.Host is = absurd (cc)
 
+-- what is left of the session
+abbrev pub LeftBySize : ℕ → SessionState → Outcome → Type 0
+LeftBySize size new (Went flushed) = (new.broken ≡ false) × (new.tree.size ≡ size)
+LeftBySize size new (Broke blame) = new.broken ≡ true
+LeftBySize size new Lacked = new.broken ≡ false
+LeftBySize size new Wanted = Unit {0}
+
+failed_leaves : (size : ℕ) (old new : SessionState) → old.broken ≡ false → (outcome : Outcome) → ((flushed : Bool) → ¬ (outcome ≡ Went flushed)) → LeftBy old new outcome → LeftBySize size new outcome
+failed_leaves size old new whole (Went flushed) stays left = absurd (stays flushed refl)
+failed_leaves size old new whole (Broke blame) stays left = left
+failed_leaves size old new whole Lacked stays left = ap (λ (s : SessionState). s.broken) left ∙ whole
+failed_leaves size old new whole Wanted stays left = tt
+
 module _ (key : List ℕ) (size : ℕ) (small : size ≤ 2 ^ 32) where
   module _ (n : ℕ) (result : Result Written SizeFault) (old new : SessionState) (before after : HostState) (random random' : WordsState) (seated : IsSeated key old) (next : IsNextSize size old.tree.size n) where
     -- a step, by how it ended
@@ -121,6 +134,7 @@ module _ (key : List ℕ) (size : ℕ) (small : size ≤ 2 ^ 32) where
     pub on_words : CountsFault (words_in outcome) random.faults random'.faults
     pub told : WhereTold before after (λ given. SizeTold size old new given words outcome)
     pub came : OutcomeCame old.name outcome before after
+    pub leaves : LeftBySize size new outcome
     pub breaks : outcome ≡ Wanted → new.broken ≡ true
     pub seated_new : IsSeated key new
     pub name_is : new.name ≡ old.name
@@ -146,28 +160,32 @@ module _ (key : List ℕ) (size : ℕ) (small : size ≤ 2 ^ 32) where
     on_words = ap (λ (w : WordsState). w.faults) words;
     told = told_by (λ given. SizeTold size old new given [] (Went false)) [] before after (told_none before after (ap (λ (h : HostState). h.given) stays)) (told_same old new none same);
     came = record { these = []; told = told_none before after (ap (λ (h : HostState). h.given) stays); comes = tt };
+    leaves = (ap (λ (s : SessionState). s.broken) same ∙ sets.whole, ap (λ (s : SessionState). s.tree.size) same ∙ sym none);
     breaks = λ is. absurd (cc);
     seated_new = (set_seated size (Ok written) old new before after random random' seated sets).0;
     name_is = (set_seated size (Ok written) old new before after random random' seated sets).1;
     books = set_books size (Ok written) old new before after random random' seated sets;
     aside = sets.aside;
   }
-  last_seen written old new before after random random' seated few sets (set_changed flushed other said some seen) = record {
-    outcome = Went flushed;
-    reply_is = refl;
-    words = seen.words;
-    taken = seen.taken;
-    on_host = seen.on_host;
-    on_words = seen.on_words;
-    told = told_weaker (λ given. ChangeTold (Size size) old new given seen.words (Went flushed)) (λ given. SizeTold size old new given seen.words (Went flushed)) before after seen.told
-        (λ given told. told_change old new size given seen.words (Went flushed) (last_size few refl) some (λ f is. refl) told);
-    came = seen.came;
-    breaks = λ is. absurd (cc);
-    seated_new = (set_seated size (Ok written) old new before after random random' seated sets).0;
-    name_is = (set_seated size (Ok written) old new before after random random' seated sets).1;
-    books = set_books size (Ok written) old new before after random random' seated sets;
-    aside = sets.aside;
-  }
+  last_seen written old new before after random random' seated few sets (set_changed flushed other said some seen) =
+      let set_now = size_set written size old new before after random random' sets.whole sets.goes in
+      record {
+        outcome = Went flushed;
+        reply_is = refl;
+        words = seen.words;
+        taken = seen.taken;
+        on_host = seen.on_host;
+        on_words = seen.on_words;
+        told = told_weaker (λ given. ChangeTold (Size size) old new given seen.words (Went flushed)) (λ given. SizeTold size old new given seen.words (Went flushed)) before after seen.told
+            (λ given told. told_change old new size given seen.words (Went flushed) (last_size few refl) some (λ f is. refl) told);
+        came = seen.came;
+        leaves = (set_now.whole, set_now.size_is);
+        breaks = λ is. absurd (cc);
+        seated_new = (set_seated size (Ok written) old new before after random random' seated sets).0;
+        name_is = (set_seated size (Ok written) old new before after random random' seated sets).1;
+        books = set_books size (Ok written) old new before after random random' seated sets;
+        aside = sets.aside;
+      }
   last_seen written old new before after random random' seated few sets (set_broken outcome fault said reply stays other seen breaks) = absurd (cc)
 
   pub same_fault : (fault other : SizeFault) → ◌≡◌ {A = Result Written SizeFault} (Err fault) (Err other) → other ≡ fault
@@ -188,6 +206,7 @@ module _ (key : List ℕ) (size : ℕ) (small : size ≤ 2 ^ 32) where
     told = told_weaker (λ given. ChangeTold (Size n) old new given seen.words outcome) (λ given. SizeTold size old new given seen.words outcome) before after seen.told
         (λ given told. told_change old new n given seen.words outcome next some (λ f is. absurd (stays f is)) told);
     came = seen.came;
+    leaves = failed_leaves size old new sets.whole outcome stays seen.leaves;
     breaks = breaks;
     seated_new = (set_seated n (Err fault) old new before after random random' seated sets).0;
     name_is = (set_seated n (Err fault) old new before after random random' seated sets).1;
@@ -239,6 +258,7 @@ module _ (key : List ℕ) (size : ℕ) (small : size ≤ 2 ^ 32) where
           told = told_then (λ given. ChangeTold (Size (old.tree.size + 32768)) old mid given seen.words (Went flushed)) (λ given. SizeTold size mid new given rest.words rest.outcome) (λ given. SizeTold size old new given (seen.words ++ rest.words) rest.outcome)
               before between after seen.told rest.told (λ these those told more. told_piece old mid new these those seen.words rest.words flushed rest.outcome far is.size_is told more);
           came = came_after old.name mid.name seen.came.these rest.outcome before between after mid_name seen.came.told rest.came;
+          leaves = rest.leaves;
           breaks = rest.breaks;
           seated_new = rest.seated_new;
           name_is = rest.name_is ∙ mid_name;

@@ -22,7 +22,7 @@ use Rattle.pf_session.specs.declared.fault.WriteFault.TheVariants as writes
 use Rattle.pf_session.specs.declared.fault.Written.{Written}
 use Rattle.pf_script.specs.BookSeats.{Covers, KeepsUnder}
 use Rattle.pf_script.specs.Desk.{IsSeated, seat_on, IsLikeOwn}
-use Rattle.pf_script.specs.DeskSteps.{IsChange, TakesNone, FlushesUnder, Admits, SeatGoes}
+use Rattle.pf_script.specs.DeskSteps.{IsChange, TakesNone, FlushesUnder, Admits, IsAcceptance, SeatGoes, to_write as accepts_write, to_fill as accepts_fill}
 use Rattle.pf_script.specs.Rules.{IsFirst, NoneRefuses, rules, seated_rules, writing_rules}
 use Rattle.pf_script.specs.Script.{OwnSeat, Seat, Own}
 use Rattle.pf_script.specs.SeatReplies.{write_reply}
@@ -62,6 +62,10 @@ module _ (at : ℕ) (bytes : List ℕ) where
   pub write_replies : (line : ScriptLine) (count : ℕ) → IsWriteLine at bytes line count → (sheets : List Sheet) → IsChangeReply sheets line (replies.Written count (some_sheet sheets))
   write_replies _ _ (plain k) sheets = to_write k at bytes
   write_replies _ _ (copies k count byte same) sheets = to_fill k at count byte
+
+  pub write_accepts : (line : ScriptLine) (count : ℕ) → IsWriteLine at bytes line count → (flushed : Bool) (old new : SessionState) → new.broken ≡ false → IsAcceptance (Some old) line (replies.Written count flushed) (Some new)
+  write_accepts _ _ (plain k) flushed old new whole = accepts_write k at bytes flushed old new whole
+  write_accepts _ _ (copies k count byte same) flushed old new whole = accepts_fill k at count byte flushed old new whole
 
   pub write_first : (line : ScriptLine) (count : ℕ) → IsWriteLine at bytes line count → (key : List ℕ) (seat : Seat) (given : List Answer) (why : Why) → IsFirst (seated_rules seat ++ writing_rules seat at count) why → IsFirst (rules key false seat line given) why
   write_first _ _ (plain k) key seat given why first = first
@@ -210,7 +214,7 @@ module _ (key : List ℕ) (at : ℕ) (bytes : List ℕ) (line : ScriptLine) (cou
         (λ sealed base among linked kept.
         at_last [] (inl refl) (λ unforged. all_made key sealed (seat_on base old) line [] old [] [] [] base (none_made sealed base old among linked kept whole)
         (write_asks at bytes line count is_line (length (now base old.tree)) [] (nothing none refl)) (replies.Written count false) (write_replies at bytes line count is_line []) (passes base))))
-        (admits.none key false)
+        (admits.none key false) (write_accepts at bytes line count is_line false old old whole)
         (both_same (KeepsUnder (Covers old) (Covers old) (λ name. name ≡ old.name)) host.honest host.honest refl (same_keeps (Covers old) (λ name. name ≡ old.name))) seated refl
 
     -- a write of some bytes
@@ -218,7 +222,7 @@ module _ (key : List ℕ) (at : ℕ) (bytes : List ℕ) (line : ScriptLine) (cou
         → (outcome : Outcome) → ChangeSeen (Write at bytes) old new outcome before after random random' → (outcome ≡ Wanted → (new.broken ≡ true) × OnDisk before after (FlushesUnder line old)) → SeatGoes key false line (outcome_reply (written count) outcome) (Some old) (Some new) before after random random'
     some_goes some new before after random random' aside books seated_new name_is =
         line_goes key line old new whole (Write at bytes) (written count) (λ size. write_asks at bytes line count is_line size (Write at bytes ∷ []) (at_place some refl)) replied like_passes before after random random' aside books seated_new name_is
-        (write_takes at bytes line count is_line) (write_changes at bytes line count is_line) admits (λ flushed. (refl, refl)) (λ flushed seat given passed. passed)
+        (write_takes at bytes line count is_line) (write_changes at bytes line count is_line) admits (λ flushed. (refl, refl)) (λ flushed seat given passed. passed) (λ flushed whole_new. write_accepts at bytes line count is_line flushed old new whole_new)
       where
         replied : (flushed : Bool) (sheets : List Sheet) → Grew flushed [] sheets → IsChangeReply sheets line (replies.Written count flushed)
         replied false sheets grew = subst (λ (s : List Sheet). IsChangeReply s line (replies.Written count false)) (sym grew) (write_replies at bytes line count is_line [])
