@@ -13,7 +13,7 @@ LONGEST = 131072
 PIECE = 32768
 
 # the calls by which the program may change a disk
-CHANGES = ("openat", "pwrite64", "write", "ftruncate", "fsync", "renameat", "unlinkat")
+CHANGES = ("openat", "pwrite64", "write", "ftruncate", "fsync", "fchmod", "fchown", "link", "rename", "unlink")
 
 
 def led(script, **how):
