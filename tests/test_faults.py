@@ -7,12 +7,15 @@ from harness import PROGRAM, decrypt, encrypt, got, holds, of_program, put, same
 CALLS = "openat statx fstat read pread64 pwrite64 write fsync ftruncate flock link rename unlink fchmod close getrandom".split()
 
 
-def failing(words, **how):
-    """Runs of a command, each with another one of its calls failing, and what to say of each."""
+def failing(words, prepare=lambda: None, **how):
+    """Runs of a command, each with another one of its calls failing, and what to say of each; but for calls of the system's loader."""
     _, lines = traced(words, **how)
     for call in CALLS:
         for at in range(1, of_program(lines, call) + 1):
-            yield lambda call=call, at=at: traced(words, "-e", f"inject={call}:error=EIO:when={at}", **how)[0], f"error {at} of {call}"
+            prepare()
+            ran, _ = traced(words, "-e", f"inject={call}:error=EIO:when={at}", **how)
+            if ran.status != 127:
+                yield ran, f"error {at} of {call}"
 
 
 def each_fault(words, out, made=None):
@@ -21,10 +24,7 @@ def each_fault(words, out, made=None):
     same((ran.status, ran.out, ran.log), (0, out, ""), str(ran))
     whole = got(made) if made else None
     ends = set()
-    for fails, about in failing(words):
-        if made:
-            os.remove(made)
-        ran = fails()
+    for ran, about in failing(words, lambda: os.remove(made) if made and os.path.exists(made) else None):
         there = got(made) if made and os.path.exists(made) else None
         ends.add(ran.status)
         if ran.status == 0:
@@ -32,8 +32,6 @@ def each_fault(words, out, made=None):
             continue
         same((ran.status in (4, 6, 7), out.startswith(ran.out), there in (None, whole)), (True, True, True), f"{about}: {ran}")
         same(ran.log in ("", {4: "host fault\n", 6: "random fault\n", 7: "stream fault\n"}[ran.status]), True, f"{about}: {ran}")
-        if made and there is None:
-            put(made, whole)
     same(ends >= {4, 7}, True, f"statuses {ends}")
 
 
@@ -49,11 +47,9 @@ def test_each_call_of_manifest_may_fail():
     each_fault([PROGRAM, "manifest", "-D", "x=1", "t"], text)
     words = [PROGRAM, "manifest", "-D", "x=1", "t", "m"]
     same(traced(words)[0].status, 0, "to a file")
-    for fails, about in failing(words):
-        os.remove("m")
-        ran = fails()
-        same((os.path.exists("m") or ran.status in (4, 7), ran.status != 0 or got("m") == text), (True, True), f"{about}: {ran}")
-        put("m", text)
+    for ran, about in failing(words, lambda: os.remove("m") if os.path.exists("m") else None):
+        there = got("m") if os.path.exists("m") else None
+        same((there in (None, text), ran.status in (4, 7) or ran.status == 0 and there == text), (True, True), f"{about}: {ran}")
 
 
 def test_each_call_of_sums_may_fail():
@@ -80,11 +76,13 @@ def test_each_call_of_a_session_may_fail():
     sealed = got("a.pf")
     script = f"open 0 a.pf\nwrite 0 0 {new.hex()}\nflush 0\nmove 0 b.pf\ncreate 1 c.pf\nwrite 1 0 {other.hex()}\nflush 1\nclose 0\nclose 1\n".encode()
     words = [PROGRAM, "session", "-w", "key"]
-    for fails, about in failing(words, stdin=None, input=script):
+
+    def prepare():
         for name in {"a.pf", "b.pf", "c.pf"} & set(os.listdir(".")):
             os.remove(name)
         put("a.pf", sealed)
-        ran = fails()
+
+    for ran, about in failing(words, prepare, stdin=None, input=script):
         replies = ran.out.splitlines()
         there = {name: decrypt(name) for name in ("a.pf", "b.pf") if os.path.exists(name)}
         same(there != {}, True, f"{about}: {ran}")
