@@ -9,7 +9,7 @@ use Rattle.pf_io.specs.Unchanged.{KeepsDisk}
 use Rattle.pf_io.specs.Replay.{set_at}
 use Rattle.node_tree.specs.Sheet.{Sheet}
 use Rattle.pf_session.specs.Keeping.{EachEither, StandsOnEither, OpensEither}
-use Rattle.pf_session.specs.Opening.{Opens, by_answers, length_failed, read_failed, no_names, no_tree, misnamed, absent, block_refused, secret_refused, accepted, opened_session}
+use Rattle.pf_session.specs.Opening.{Opens, by_answers, length_failed, read_failed, no_names, misnamed, absent, block_refused, secret_refused, accepted, opened_session}
 use Rattle.pf_session.specs.Reopening.{EachReopens, Stood}
 use Rattle.pf_session.specs.State.{SessionState}
 use Rattle.pf_session.specs.declared.open_fault.OpenFault.{OpenFault}
@@ -69,7 +69,6 @@ was_opened key name before after session (by_answers these asked (accepted size 
 was_opened key name before after session (length_failed good asked said) = absurd (cc)
 was_opened key name before after session (read_failed size good asked said) = absurd (cc)
 was_opened key name before after session (no_names good stays said) = absurd (cc)
-was_opened key name before after session (no_tree size block secret good asked openable is said) = absurd (cc)
 
 module _ (key : List ℕ) (name : Name) (session : SessionState) (was_one : WasOpened key name session) (a b : Honest) (either : OpensEither session a b) (only : Unchanged a b) where
   there_now : a.now name ≢ None

@@ -24,7 +24,7 @@ use Rattle.pf_io.proofs.Telling.{told_by, told_none, both_weaker}
 use Rattle.pf_session.specs.Backing.{StandsOn}
 use Rattle.pf_session.specs.Carries.{OnFirst, OpensOnFirst}
 use Rattle.pf_session.specs.Keeping.{OpensEither}
-use Rattle.pf_session.specs.Opening.{AreGood, Opens, by_answers, length_failed, read_failed, no_names, no_tree, misnamed, absent, block_refused, secret_refused, accepted, IsOpenable, IsAccepted, BlockRefused, not_protected, node_short, update_pending, other_version, SecretRefused, not_opened, other_path, node_answers, opened_session}
+use Rattle.pf_session.specs.Opening.{AreGood, Opens, by_answers, length_failed, read_failed, no_names, misnamed, absent, block_refused, secret_refused, accepted, IsOpenable, IsAccepted, BlockRefused, not_protected, node_short, update_pending, other_version, SecretRefused, not_opened, other_path, node_answers, opened_session}
 use Rattle.pf_session.specs.Reopening.{ReopensAs, Stood}
 use Rattle.pf_session.specs.State.{SessionState}
 use Rattle.pf_session.specs.declared.open_fault.OpenFault.{OpenFault}
@@ -349,7 +349,6 @@ module _ (key : List ℕ) (k : ℕ) (name : Name) (utf8 : IsUtf8 name) (before a
   by_case key_length result first either (no_names good stays said) =
       subst (λ (r : Result SessionState OpenFault). Halves (open_result name r) (made_seat r)) (sym said)
       (wants_memory (ap (λ (h : HostState). h.faults) stays) (told_by (λ given. Unit {0}) [] before after (told_none before after (ap (λ (h : HostState). h.given) stays)) tt))
-  by_case key_length result first either (no_tree size block secret good asked openable is said) = subst (λ (r : Result SessionState OpenFault). Halves (open_result name r) (made_seat r)) (sym said) (wants_memory asked.asked.faults (told_by (λ given. Unit {0}) _ before after asked.asked.told tt))
 
 pub open_line : (key : List ℕ) (k : ℕ) (name : Name) (result : Result SessionState OpenFault) (before after : HostState) (words : WordsState) → IsUtf8 name → length key ≡ 16 → Opens key name (Some name) before after result → KeepsDisk before after
     → IfOk result (λ session. OpensOnFirst session before after) → IfOk result (λ session. OnDisk before after (OpensEither session)) → BothHalves key (lines.Open k name) (open_result name result) (made_seat result) before after words words

@@ -12,7 +12,7 @@ use Rattle.node_tree.proofs.Standing.{meta_is_text}
 use Rattle.pf_io.specs.Host.{Name, Answer, Gave, HostState}
 use Rattle.pf_io.proofs.Telling.{told_by, told_none}
 use Rattle.pf_session.specs.State.{SessionState}
-use Rattle.pf_session.specs.Opening.{node_answers, IsOpenable, BlockRefused, not_protected, node_short, update_pending, other_version, SecretRefused, not_opened, other_path, damaged_zero, OpenEnds, misnamed, absent, block_refused, secret_refused, accepted, Opens, by_answers, length_failed, read_failed, no_names, no_tree}
+use Rattle.pf_session.specs.Opening.{node_answers, IsOpenable, BlockRefused, not_protected, node_short, update_pending, other_version, SecretRefused, not_opened, other_path, damaged_zero, OpenEnds, misnamed, absent, block_refused, secret_refused, accepted, Opens, by_answers, length_failed, read_failed, no_names}
 use Rattle.pf_session.specs.Carries.{IsNoText, OpensNoText}
 use Rattle.pf_session.specs.declared.open_fault.OpenFault.{OpenFault}
 use Rattle.pf_session.specs.declared.open_fault.OpenFault.TheVariants as faults
@@ -66,4 +66,3 @@ module _ (key : List ℕ) (name : Name) (path : Option (List ℕ)) (before after
   no_text (length_failed good asked is) = told_by Holds _ before after asked.answered.told (λ sheets unforged. no_text_by result faults.Host is tt)
   no_text (read_failed size good asked is) = told_by Holds _ before after asked.answered.told (λ sheets unforged. no_text_by result faults.Host is tt)
   no_text (no_names good still is) = told_by Holds [] before after (told_none before after (ap (λ (s : HostState). s.given) still)) (λ sheets unforged. no_text_by result faults.Memory is tt)
-  no_text (no_tree size block secret good asked openable is_accepted is) = told_by Holds _ before after asked.answered.told (λ sheets unforged. no_text_by result faults.Memory is tt)

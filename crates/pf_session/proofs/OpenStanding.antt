@@ -37,7 +37,6 @@ use Rattle.pf_session.specs.Opening.{
   length_failed,
   read_failed,
   no_names,
-  no_tree,
   NodeRefused,
   node_absent,
   node_refused,
@@ -161,4 +160,3 @@ opens_standing key name path before after result key_length (by_answers these as
 opens_standing key name path before after result key_length (length_failed good asked same) = not_standing key name path faults.Host result (files_of before) same (inl refl)
 opens_standing key name path before after result key_length (read_failed size good asked same) = not_standing key name path faults.Host result (files_of before) same (inl refl)
 opens_standing key name path before after result key_length (no_names good still same) = not_standing key name path faults.Memory result (files_of before) same (inr refl)
-opens_standing key name path before after result key_length (no_tree size block secret good asked openable is_accepted same) = not_standing key name path faults.Memory result (files_of before) same (inr refl)

@@ -66,14 +66,12 @@ pub data OpenEnds (key : List ℕ) (name : Name) (path : Option (List ℕ)) (the
   accepted : (size : ℕ) (block : List ℕ) (secret : MetaSecret) → AreGood name path → these ≡ node_answers name size block → IsOpenable block → IsAccepted key path block secret
       → result ≡ Ok (opened_session key name block secret) → OpenEnds key name path these result
 
--- An opening ends by its answers; or a call of the host failed, of the length or of node 0; or there was no memory, before the first call or for the tree of a node 0 that is accepted.
+-- An opening ends by its answers; or a call of the host failed, of the length or of node 0; or there was no memory, before the first call.
 pub data Opens (key : List ℕ) (name : Name) (path : Option (List ℕ)) (before after : HostState) (result : Result SessionState OpenFault) : Type 0 where
   by_answers : (these : List Answer) → OnlyAsked these NoCall before after → OpenEnds key name path these result → Opens key name path before after result
   length_failed : AreGood name path → OnlyAsked [] AnotherCall before after → result ≡ Err faults.Host → Opens key name path before after result
   read_failed : (size : ℕ) → AreGood name path → OnlyAsked (LengthWas name (Some size) ∷ []) AReading before after → result ≡ Err faults.Host → Opens key name path before after result
   no_names : AreGood name path → after ≡ before → result ≡ Err faults.Memory → Opens key name path before after result
-  no_tree : (size : ℕ) (block : List ℕ) (secret : MetaSecret) → AreGood name path → OnlyAsked (node_answers name size block) NoCall before after → IsOpenable block → IsAccepted key path block secret → result ≡ Err faults.Memory
-      → Opens key name path before after result
 
 -- The same answers lead to one end.
 abbrev pub OneOpening : Type 0

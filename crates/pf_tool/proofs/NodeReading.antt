@@ -24,7 +24,7 @@ use Rattle.node_layout.specs.declared.damage.Kind.TheVariants.{Short}
 use Rattle.pf_io.specs.Counts.{counted_times}
 use Rattle.pf_session.specs.Asking.{NoCall, reads_in, writes_in}
 use Rattle.pf_session.specs.Opening as openings
-use Rattle.pf_session.specs.Opening.{IsOpenable, node_answers, BlockRefused, update_pending, other_version, SecretRefused, other_path, OpenEnds, misnamed, absent, block_refused, secret_refused, accepted, opened_session, Opens, by_answers, length_failed, read_failed, no_names, no_tree}
+use Rattle.pf_session.specs.Opening.{IsOpenable, node_answers, BlockRefused, update_pending, other_version, SecretRefused, other_path, OpenEnds, misnamed, absent, block_refused, secret_refused, accepted, opened_session, Opens, by_answers, length_failed, read_failed, no_names}
 use Rattle.pf_session.specs.Questions.{OnlyAsked}
 use Rattle.pf_session.specs.State.{SessionState}
 use Rattle.pf_session.specs.declared.open_fault.OpenFault.{OpenFault}
@@ -149,24 +149,17 @@ module _ (user : List ℕ) (input : Name) (s0 s1 : HostState) (kept : KeepsDisk 
   by_these these asked (accepted size block secret good are openable is_accepted is) = absurd (accepted_apart fault _ is)
 
   -- the file was not opened
-  pub opening_falls : (fault ≡ opens.Memory → s1 ≡ s0) → Opens user input None s0 s1 (Err fault) → Fallen
-  opening_falls early (by_answers these asked ends) = by_these these asked ends
-  opening_falls early (length_failed good asked is) =
+  pub opening_falls : Opens user input None s0 s1 (Err fault) → Fallen
+  opening_falls (by_answers these asked ends) = by_these these asked ends
+  opening_falls (length_failed good asked is) =
       no_length user input world s0 said s1 good.target (subst (λ (f : OpenFault). SaysOpening input f said) (same_fault fault opens.Host is) says)
       (record { told = same_given s0.given s1.given asked.asked.told; once = asked.asked.faults; reads = asked.asked.reads; writes = asked.asked.writes }) kept
-  opening_falls early (read_failed size good asked is) =
+  opening_falls (read_failed size good asked is) =
       let mid : HostState = record { faults = s0.faults; reads = s0.reads; writes = s0.writes; widest = s1.widest; given = s1.given; honest = s1.honest } in
       let first : HostPassed (LengthWas input (Some size) ∷ []) s0 mid = record { told = asked.answered.told; calm = refl; reads = refl; writes = refl; untouched = λ none. absurd (cc); honest = asked.answered.honest } in
       no_node user input world s0 said size (Some size) mid s1 good.target (subst (λ (f : OpenFault). SaysOpening input f said) (same_fault fault opens.Host is) says) refl first
       (record { told = refl; once = asked.asked.faults; reads = asked.asked.reads; writes = asked.asked.writes }) kept
-  opening_falls early (no_names good same is) = no_room user input world s0 said s1 good.target (subst (λ (f : OpenFault). SaysOpening input f said) (same_fault fault opens.Memory is) says) same
-  opening_falls early (no_tree size block secret good asked openable is_accepted is) =
-      let memory = same_fault fault opens.Memory is in
-      no_room user input world s0 said s1 good.target (subst (λ (f : OpenFault). SaysOpening input f said) memory says) (early memory)
-
--- the fault as a result
-pub as_result : (fault other : OpenFault) → fault ≡ other → ◌≡◌ {A = Result SessionState OpenFault} (Err fault) (Err other)
-as_result fault other same = ap (λ (f : OpenFault). let r : Result SessionState OpenFault = Err f in r) same
+  opening_falls (no_names good same is) = no_room user input world s0 said s1 good.target (subst (λ (f : OpenFault). SaysOpening input f said) (same_fault fault opens.Memory is) says) same
 
 files_at : (o p : Option Honest) → Both o p (Ran IsImage Stays) → option_map (λ (h : Honest). reading h.now) p ≡ option_map (λ (h : Honest). reading h.now) o
 files_at (Some a) (Some b) ran = ap (λ (d : Disk). Some (reading d)) ran.ends
@@ -217,7 +210,6 @@ no_wrong_path user input s0 s1 fault goes = by fault (λ stored is. wrong stored
   wrong_so stored (length_failed good asked is) = absurd (cc)
   wrong_so stored (read_failed size good asked is) = absurd (cc)
   wrong_so stored (no_names good same is) = absurd (cc)
-  wrong_so stored (no_tree size block secret good asked openable is_accepted is) = absurd (cc)
 
   wrong : (stored : List ℕ) → fault ≡ opens.WrongPath stored → Opens user input None s0 s1 (Err fault) → ⊥
   wrong stored is goes = wrong_so stored (subst (λ (f : OpenFault). Opens user input None s0 s1 (Err f)) is goes)
@@ -250,7 +242,6 @@ module _ (user : List ℕ) (input : Name) (s0 s1 : HostState) (session : Session
   opening_done (length_failed good asked is) = absurd (no_other session _ is)
   opening_done (read_failed size good asked is) = absurd (no_other session _ is)
   opening_done (no_names good same is) = absurd (no_other session _ is)
-  opening_done (no_tree size block secret good asked openable is_accepted is) = absurd (no_other session _ is)
 
 -- the pieces of a file that was opened are those of the command
 pub unseals_pieces : (user : List ℕ) (input : Name) (size : ℕ) (node : List ℕ) (secret : MetaSecret) → IsTarget input → IsOpenable node → OpensTo user node secret → (es : List Event) (ending : Ending) → PiecesLead input node secret es ending

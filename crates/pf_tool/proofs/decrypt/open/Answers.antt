@@ -1,5 +1,4 @@
-use Rattle.pf_session.specs.declared.open_fault.OpenFault.TheVariants as opens
-use Rattle.pf_tool.proofs.NodeReading.{opening_falls, no_wrong_path, opening_done, as_result, kept_files}
+use Rattle.pf_tool.proofs.NodeReading.{opening_falls, no_wrong_path, opening_done, kept_files}
 use Rattle.pf_tool.proofs.decrypt.open.Goals as goal
 
 pub returns-in-Ok-clause-opened : goal.returns-in-Ok-clause-opened
@@ -12,8 +11,7 @@ opening_fault-requires g c =
 
 pub returns-in-Err-clause-refused : goal.returns-in-Err-clause-refused
 returns-in-Err-clause-refused g c world =
-    opening_falls c.args.user.now c.args.name.now (g.H.Host.state c.args.host.now) (g.H.Host.state c.open.new.host) c.open.ensures.disk c.in-Err.fault c.opening_fault.result c.opening_fault.ensures world
-    (λ is. c.in-Err.ensures.early (as_result c.in-Err.fault opens.Memory is)) c.in-Err.ensures.opens
+    opening_falls c.args.user.now c.args.name.now (g.H.Host.state c.args.host.now) (g.H.Host.state c.open.new.host) c.open.ensures.disk c.in-Err.fault c.opening_fault.result c.opening_fault.ensures world c.in-Err.ensures.opens
 
 pub returns-in-Ok-clause-files : goal.returns-in-Ok-clause-files
 returns-in-Ok-clause-files g c = kept_files (g.H.Host.state c.args.host.now) (g.H.Host.state c.open.new.host) c.open.ensures.disk

@@ -6,7 +6,7 @@ use Rattle.node_tree.proofs.Fresh.{fresh_of_file}
 use Rattle.pf_io.specs.Host.{OnDisk}
 use Rattle.pf_session.specs.Keeping.{OpensEither}
 use Rattle.pf_session.specs.State.{SessionState, unread}
-use Rattle.pf_session.specs.Opening.{AreGood, by_answers, misnamed, accepted, secret_refused, no_names, no_tree, opened_session}
+use Rattle.pf_session.specs.Opening.{AreGood, by_answers, misnamed, accepted, secret_refused, no_names, opened_session}
 use Rattle.pf_session.specs.declared.open_fault.OpenFault.{OpenFault}
 use Rattle.pf_session.proofs.Questions.{none_asked}
 use Rattle.pf_session.proofs.Backed.{on_carried, on_first}
@@ -55,16 +55,6 @@ pub returns-in_err-secret-clause-standing : goal.returns-in_err-secret-clause-st
 returns-in_err-secret-clause-standing g c =
     opens_standing _ _ _ (g.H.Host.state c.args.host.now) (g.H.Host.state c.read_node_zero.new.host) _ c.told-key (returns-in_err-secret-clause-opens g c)
 
-pub returns-in_err-make-clause-opens : goal.returns-in_err-make-clause-opens
-returns-in_err-make-clause-opens g c =
-    let p = err_from_is_err_and c.from_residual-in_err-make.result c.from_residual-in_err-make.ensures.1 in
-    let good : AreGood c.args.name.now (option_map (λ p. p.now) c.args.path) = search rules in
-    let has = c.in_ok-node.ensures.read in
-    no_tree has.size c.in_ok-node.node c.in_ok-secret.secret good has.asked has.openable c.in_ok-secret.ensures.accepted (p.1 ∙ ap failed p.2)
-
-pub returns-in_err-make-clause-keeps : goal.returns-in_err-make-clause-keeps
-returns-in_err-make-clause-keeps g c = keeps_either _ (g.H.Host.state c.args.host.now) (g.H.Host.state c.read_node_zero.new.host) c.read_node_zero.ensures.disk
-
 pub returns-clause-opens : goal.returns-clause-opens
 returns-clause-opens g c =
     let good : AreGood c.args.name.now (option_map (λ p. p.now) c.args.path) = search rules in
@@ -106,9 +96,6 @@ returns-in_err-node-clause-aside g c = kept_aside _ (g.H.Host.state c.args.host.
 pub returns-in_err-secret-clause-aside : goal.returns-in_err-secret-clause-aside
 returns-in_err-secret-clause-aside g c = kept_aside _ (g.H.Host.state c.args.host.now) (g.H.Host.state c.read_node_zero.new.host) c.read_node_zero.ensures.disk
 
-pub returns-in_err-make-clause-aside : goal.returns-in_err-make-clause-aside
-returns-in_err-make-clause-aside g c = kept_aside _ (g.H.Host.state c.args.host.now) (g.H.Host.state c.read_node_zero.new.host) c.read_node_zero.ensures.disk
-
 pub returns-clause-aside : goal.returns-clause-aside
 returns-clause-aside g c = kept_aside _ (g.H.Host.state c.args.host.now) (g.H.Host.state c.read_node_zero.new.host) c.read_node_zero.ensures.disk
 
@@ -130,9 +117,6 @@ returns-in_err-node-clause-never_text g c = no_text _ _ _ (g.H.Host.state c.args
 
 pub returns-in_err-secret-clause-never_text : goal.returns-in_err-secret-clause-never_text
 returns-in_err-secret-clause-never_text g c = no_text _ _ _ (g.H.Host.state c.args.host.now) (g.H.Host.state c.read_node_zero.new.host) _ (returns-in_err-secret-clause-opens g c)
-
-pub returns-in_err-make-clause-never_text : goal.returns-in_err-make-clause-never_text
-returns-in_err-make-clause-never_text g c = no_text _ _ _ (g.H.Host.state c.args.host.now) (g.H.Host.state c.read_node_zero.new.host) _ (returns-in_err-make-clause-opens g c)
 
 pub returns-clause-never_text : goal.returns-clause-never_text
 returns-clause-never_text g c = no_text _ _ _ (g.H.Host.state c.args.host.now) (g.H.Host.state c.read_node_zero.new.host) _ (returns-clause-opens g c)
