@@ -16,7 +16,7 @@ use Rattle.pf_script.specs.Book.{Book, Seal}
 use Rattle.pf_script.specs.BookActs.{Act}
 use Rattle.pf_script.specs.BookSeats.{Covers, CoversEach, CoversBoth, KeepsUnder}
 use Rattle.pf_script.specs.Desk.{DeskState, session_at, IsSeated, IsSeatOf, IsLikeDesk, IsDesk, Shows, IsStateOf}
-use Rattle.pf_script.specs.DeskSteps.{MaySeal, Unfolds, in_the_end, then_more, SomeSeatTurn, SomeTurn, SeatAsks, SeatCaused, DeskCaused, LeavesSeat, Asks, IsChange, Admits, HasItsName, OtherHas, Concerns, ConcernsDesk, CoversSome, CoversDesk, KeepsNames, KeepsSession, NothingDone, IsBrokenSession, BreaksSeat, SeatIdle, FlushesUnder, SeatWants, Wants, WhereWanting, WhereReplied, SeatGoes, DeskGoes}
+use Rattle.pf_script.specs.DeskSteps.{MaySeal, Unfolds, in_the_end, then_more, SomeSeatTurn, SomeTurn, TurnsTo, SeatAsks, SeatCaused, DeskCaused, LeavesSeat, Asks, IsChange, Admits, HasItsName, OtherHas, Concerns, ConcernsDesk, CoversSome, CoversDesk, KeepsNames, KeepsSession, NothingDone, IsBrokenSession, BreaksSeat, SeatIdle, FlushesUnder, SeatWants, Wants, WhereWanting, WhereReplied, SeatGoes, DeskGoes}
 use Rattle.pf_script.specs.Script.{Seat, Empty, ScriptState, seat_at, IsTaken, state_with, seat_of_line, name_of_line}
 use Rattle.pf_script.specs.Turns.{Seen, SeatTurn, Caused, Turn, on_seat, on_carried, SaysTaken}
 use Rattle.pf_script.specs.Words.{SEATS}
@@ -163,10 +163,10 @@ module _ (old : DeskState) (desk : IsDesk old) (k : ℕ) (below : k < SEATS) (ta
 
     -- a turn of the seat is one of the script
     turn_on : (state : ScriptState) → IsStateOf state old → (seen : Seen) (reply : Reply) (acts : List Act) (seat : Seat) → SeatTurn (on_carried old.key state.sealed) old.key taken (seat_at state k) line seen reply acts seat
-        → Turn (on_carried old.key state.sealed) state line seen reply acts (state_with state k seat acts)
+        → Turn (on_carried state.key state.sealed) state line seen reply acts (state_with state k seat acts)
     turn_on state is_state seen reply acts seat turn =
         on_seat k taken seat names (state_says state (like_state state old is_state))
-        (subst (λ (x : List ℕ). SeatTurn (on_carried old.key state.sealed) x taken (seat_at state k) line seen reply acts seat) (sym is_state.key_is) turn) refl
+        (subst (λ (x : List ℕ). SeatTurn (on_carried x state.sealed) x taken (seat_at state k) line seen reply acts seat) (sym is_state.key_is) turn) refl
 
     may_on : (state : ScriptState) → IsStateOf state old → (seen : Seen) (acts : List Act) → MaySeal (SomeSeatTurn old.key state.sealed taken (seat_at state k) line) seen acts → MaySeal (SomeTurn state line) seen acts
     may_on state is_state seen acts may = record {
@@ -176,8 +176,7 @@ module _ (old : DeskState) (desk : IsDesk old) (k : ℕ) (below : k < SEATS) (ta
       in_order = may.in_order;
       goes = (
         state_with state k may.goes.0 may.failed,
-        subst (λ (x : List ℕ). Turn (on_carried x state.sealed) state line (record { given = seen.given; words = may.front; host_failed = true; words_failed = false }) replies.HostFault may.failed (state_with state k may.goes.0 may.failed)) (sym is_state.key_is)
-            (turn_on state is_state (record { given = seen.given; words = may.front; host_failed = true; words_failed = false }) replies.HostFault may.failed may.goes.0 may.goes.1),
+        turn_on state is_state (record { given = seen.given; words = may.front; host_failed = true; words_failed = false }) replies.HostFault may.failed may.goes.0 may.goes.1,
       );
       sheets = may.sheets;
     }
@@ -187,8 +186,9 @@ module _ (old : DeskState) (desk : IsDesk old) (k : ℕ) (below : k < SEATS) (ta
       seen = asks.seen;
       was_seen = asks.was_seen;
       turns = λ state is_state.
-          unfolds_as [] (unfolds_where [] (asks.turns state.sealed (seat_at state k) (is_state.shows k)) (may_on state is_state asks.seen))
-          (λ acts ends. (state_with state k ends.0 acts, turn_on state is_state asks.seen reply acts ends.0 ends.1, state_after state is_state ends.0 acts ends.2));
+          subst (λ (x : List ℕ). Unfolds x state.sealed (MaySeal (SomeTurn state line) asks.seen) (TurnsTo state new line asks.seen reply) given []) (sym is_state.key_is)
+          (unfolds_as [] (unfolds_where [] (asks.turns state.sealed (seat_at state k) (is_state.shows k)) (may_on state is_state asks.seen))
+          (λ acts ends. (state_with state k ends.0 acts, turn_on state is_state asks.seen reply acts ends.0 ends.1, state_after state is_state ends.0 acts ends.2)));
     }
 
     caused_on : (reply : Reply) → SeatCaused old.key taken line reply (session_at old k) before after → DeskCaused line reply old before after

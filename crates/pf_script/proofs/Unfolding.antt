@@ -1,16 +1,18 @@
 -- What unfolds in a step holds in the end.
-use Rattle.std.proofs.Common.{◌≡◌, ◌⊎◌, inl, inr, Bool, List, [], ◌∷◌, ◌++◌, ℕ, length, refl, sym, ◌∙◌, ap, subst, append_assoc}
+use Rattle.std.proofs.Common.{◌≡◌, ◌⊎◌, inl, inr, ⊎_elim, Bool, List, [], ◌∷◌, ◌++◌, ℕ, length, refl, sym, ◌∙◌, ap, subst, append_assoc, Option}
 use Rattle.std.proofs.lemmas.List.{append-nil}
 use Rattle.std.proofs.lemmas.List.Elements.{Contains-append_left}
 use Rattle.node_tree.specs.Applying.{Step}
 use Rattle.node_tree.specs.Sheet.{Sheet}
 use Rattle.node_tree.specs.Unforged.{WasGiven, Unforged}
 use Rattle.pf_io.specs.Host.{Answer, Gave}
+use Rattle.pf_session.specs.State.{SessionState}
 use Rattle.pf_script.specs.BookActs.{Act}
-use Rattle.pf_script.specs.DeskSteps.{MaySeal, Unfolds, in_the_end, then_more, SomeSeatTurn, SomeTurn}
+use Rattle.pf_script.specs.Desk.{DeskState}
+use Rattle.pf_script.specs.DeskSteps.{MaySeal, Unfolds, in_the_end, then_more, SomeSeatTurn, SeatTurnsTo, SomeTurn, TurnsTo}
 use Rattle.pf_script.specs.Script.{Seat, ScriptState, seat_at, sheet_of, sheets_of}
 use Rattle.pf_script.specs.SeatSteps.{AsksFor}
-use Rattle.pf_script.specs.TurnLaws.{SealsNothing, HoldsInTheEnd, UnforgedWithAll}
+use Rattle.pf_script.specs.TurnLaws.{SealsNothing, ComesTrue, HoldsInTheEnd, UnforgedWithAll}
 use Rattle.pf_script.specs.Turns.{Seen, Standing, Accepts, created, opened, read, changed, flushed, moved, drawn_again, drawn_now, let_go, flushed_last, Blame, of_flush, of_close, Fails, not_asked, not_created, not_opened, not_read, not_fetched, not_fetched_after, not_flushed_before, not_sealed, not_looked_up, not_flushed_to_move, not_moved, Loses, no_creation, no_flush, no_move, no_nonce, no_last_flush, no_flush_before, SeatTurn, refused, accepted, host_failed, was_damaged, words_failed, Turn, silent, on_seat, on_carried}
 use Rattle.pf_script.specs.declared.line.ScriptLine.{ScriptLine}
 use Rattle.pf_script.specs.declared.line.ScriptLine.TheVariants as lines
@@ -41,22 +43,27 @@ module _ (key : List ℕ) (sealed : List Sheet) (May : List Act → Type 0) (giv
       subst (λ (l : List Sheet). Unforged key (sealed ++ l) given) (sym same) unforged
   unforged_then acts more (inr some) unforged = all (acts ++ more) some
 
-  never_empty : (acts : List Act) → Unforged key (sealed ++ sheets_of acts) given → Unfolds key sealed May (λ acts. ⊥) given acts → ⊥
-  never_empty _ unforged (in_the_end acts ends) = ends unforged
-  never_empty _ unforged (then_more acts more these rest split may on) =
-      never_empty (acts ++ more) (unforged_then acts more may unforged)
+  some_acts : (P : List Act → Type 0) (acts : List Act) → Unforged key (sealed ++ sheets_of acts) given → Unfolds key sealed May P given acts → (done : List Act) × P done
+  some_acts P _ unforged (in_the_end acts ends) = (acts, ends unforged)
+  some_acts P _ unforged (then_more acts more these rest split may on) =
+      some_acts P (acts ++ more) (unforged_then acts more may unforged)
       (on (unforged_front key (sealed ++ sheets_of acts) these rest (subst (λ (l : List Answer). Unforged key (sealed ++ sheets_of acts) l) split unforged)))
 
 unforged_nil : (key : List ℕ) (sealed sheets : List Sheet) (given : List Answer) → sheets ≡ [] → Unforged key sealed given → Unforged key (sealed ++ sheets) given
 unforged_nil key sealed sheets given none unforged = subst (λ (l : List Sheet). Unforged key l given) (sym (ap (λ (l : List Sheet). sealed ++ l) none ∙ append-nil sealed)) unforged
 
+comes_true : (key : List ℕ) (sealed : List Sheet) (Goes : Seen → Reply → List Act → Type 0) (seen : Seen) → Unforged key sealed seen.given → UnforgedWithAll key sealed Goes seen → (P : List Act → Type 0) → ComesTrue key sealed Goes seen P
+comes_true key sealed Goes seen unforged all P unfolds = some_acts key sealed (MaySeal Goes seen) seen.given all P [] (unforged_nil key sealed [] seen.given refl unforged) unfolds
+
 pub holds_with_all : (key : List ℕ) (sealed : List Sheet) (Goes : Seen → Reply → List Act → Type 0) (seen : Seen) → Unforged key sealed seen.given → UnforgedWithAll key sealed Goes seen → HoldsInTheEnd key sealed Goes seen
-holds_with_all key sealed Goes seen unforged all empty = never_empty key sealed (MaySeal Goes seen) seen.given all [] (unforged_nil key sealed [] seen.given refl unforged) empty
+holds_with_all key sealed Goes seen unforged all = record {
+  turns = λ reply. comes_true key sealed Goes seen unforged all (Goes seen reply);
+  never = λ empty. (comes_true key sealed Goes seen unforged all (λ acts. ⊥) empty).1;
+}
 
 -- turns that seal nothing
-holds_where_none : (key : List ℕ) (sealed : List Sheet) (Goes : Seen → Reply → List Act → Type 0) (seen : Seen) → ((saw : Seen) (reply : Reply) (acts : List Act) → Goes saw reply acts → sheets_of acts ≡ []) → Unforged key sealed seen.given → HoldsInTheEnd key sealed Goes seen
-holds_where_none key sealed Goes seen none unforged =
-    holds_with_all key sealed Goes seen unforged (λ acts may. unforged_nil key sealed (sheets_of acts) seen.given (may.sheets ∙ none _ _ may.failed may.goes) unforged)
+all_where_none : (key : List ℕ) (sealed : List Sheet) (Goes : Seen → Reply → List Act → Type 0) (seen : Seen) → ((saw : Seen) (reply : Reply) (acts : List Act) → Goes saw reply acts → sheets_of acts ≡ []) → Unforged key sealed seen.given → UnforgedWithAll key sealed Goes seen
+all_where_none key sealed Goes seen none unforged acts may = unforged_nil key sealed (sheets_of acts) seen.given (may.sheets ∙ none _ _ may.failed may.goes) unforged
 
 -- a line that seals nothing asks for no steps
 no_steps : (line : ScriptLine) (size : ℕ) (steps : List Step) → SealsNothing line → AsksFor line size steps → ⊥
@@ -121,10 +128,26 @@ turn_seals_none : (standing : Standing) (state after : ScriptState) (line : Scri
 turn_seals_none standing state after line seen reply acts nothing (silent blank idle said no_act same) = ap (λ (l : List Act). sheets_of l) no_act
 turn_seals_none standing state after line seen reply acts nothing (on_seat k taken seat names says turn same) = seat_seals_none standing state.key taken (seat_at state k) seat line seen reply acts nothing turn
 
-pub seat_holds : (key : List ℕ) (sealed : List Sheet) (taken : Bool) (seat : Seat) (line : ScriptLine) (seen : Seen) → SealsNothing line → Unforged key sealed seen.given → HoldsInTheEnd key sealed (SomeSeatTurn key sealed taken seat line) seen
-seat_holds key sealed taken seat line seen nothing =
-    holds_where_none key sealed (SomeSeatTurn key sealed taken seat line) seen (λ saw reply acts goes. seat_seals_none (on_carried key sealed) key taken seat goes.0 line saw reply acts nothing goes.1)
+-- so nothing is forged for a line that seals nothing
+module _ (key : List ℕ) (sealed : List Sheet) (taken : Bool) (seat : Seat) (line : ScriptLine) (seen : Seen) (unforged : Unforged key sealed seen.given) where
+  seat_all : SealsNothing line → UnforgedWithAll key sealed (SomeSeatTurn key sealed taken seat line) seen
+  seat_all nothing =
+      all_where_none key sealed (SomeSeatTurn key sealed taken seat line) seen (λ saw reply acts goes. seat_seals_none (on_carried key sealed) key taken seat goes.0 line saw reply acts nothing goes.1) unforged
 
-pub state_holds : (state : ScriptState) (line : ScriptLine) (seen : Seen) → SealsNothing line → Unforged state.key state.sealed seen.given → HoldsInTheEnd state.key state.sealed (SomeTurn state line) seen
-state_holds state line seen nothing =
-    holds_where_none state.key state.sealed (SomeTurn state line) seen (λ saw reply acts goes. turn_seals_none (on_carried state.key state.sealed) state goes.0 line saw reply acts nothing goes.1)
+  pub seat_holds : SealsNothing line → HoldsInTheEnd key sealed (SomeSeatTurn key sealed taken seat line) seen
+  seat_holds nothing = holds_with_all key sealed (SomeSeatTurn key sealed taken seat line) seen unforged (seat_all nothing)
+
+  pub seat_steps : SealsNothing line ⊎ UnforgedWithAll key sealed (SomeSeatTurn key sealed taken seat line) seen → (new : Option SessionState) (reply : Reply)
+      → ComesTrue key sealed (SomeSeatTurn key sealed taken seat line) seen (SeatTurnsTo key sealed taken seat new line seen reply)
+  seat_steps all new reply = comes_true key sealed (SomeSeatTurn key sealed taken seat line) seen unforged (⊎_elim seat_all (λ with_all. with_all) all) (SeatTurnsTo key sealed taken seat new line seen reply)
+
+module _ (state : ScriptState) (line : ScriptLine) (seen : Seen) (unforged : Unforged state.key state.sealed seen.given) where
+  state_all : SealsNothing line → UnforgedWithAll state.key state.sealed (SomeTurn state line) seen
+  state_all nothing =
+      all_where_none state.key state.sealed (SomeTurn state line) seen (λ saw reply acts goes. turn_seals_none (on_carried state.key state.sealed) state goes.0 line saw reply acts nothing goes.1) unforged
+
+  pub state_holds : SealsNothing line → HoldsInTheEnd state.key state.sealed (SomeTurn state line) seen
+  state_holds nothing = holds_with_all state.key state.sealed (SomeTurn state line) seen unforged (state_all nothing)
+
+  pub state_steps : SealsNothing line ⊎ UnforgedWithAll state.key state.sealed (SomeTurn state line) seen → (new : DeskState) (reply : Reply) → ComesTrue state.key state.sealed (SomeTurn state line) seen (TurnsTo state new line seen reply)
+  state_steps all new reply = comes_true state.key state.sealed (SomeTurn state line) seen unforged (⊎_elim state_all (λ with_all. with_all) all) (TurnsTo state new line seen reply)

@@ -60,11 +60,15 @@ pub data Unfolds (key : List ℕ) (sealed : List Sheet) (May P : List Act → Ty
 abbrev pub SomeSeatTurn : List ℕ → List Sheet → Bool → Seat → ScriptLine → Seen → Reply → List Act → Type 0
 SomeSeatTurn key sealed taken seat line seen reply acts = (left : Seat) × SeatTurn (on_carried key sealed) key taken seat line seen reply acts left
 
+-- such a turn, which leaves a seat that shows this session
+abbrev pub SeatTurnsTo : List ℕ → List Sheet → Bool → Seat → Option SessionState → ScriptLine → Seen → Reply → List Act → Type 0
+SeatTurnsTo key sealed taken seat new line seen reply acts = (left : Seat) × SeatTurn (on_carried key sealed) key taken seat line seen reply acts left × Shows (sealed ++ sheets_of acts) left new
+
 -- Whatever the seat shows, and whatever was sealed before: the line is answered on the seat as it may be.
 abbrev pub SeatTurns : List ℕ → Bool → ScriptLine → Seen → Reply → Option SessionState → Option SessionState → List Answer → Type 0
 SeatTurns key taken line seen reply old new given =
     (sealed : List Sheet) (seat : Seat) → Shows sealed seat old
-    → Unfolds key sealed (MaySeal (SomeSeatTurn key sealed taken seat line) seen) (λ acts. (left : Seat) × SeatTurn (on_carried key sealed) key taken seat line seen reply acts left × Shows (sealed ++ sheets_of acts) left new) given []
+    → Unfolds key sealed (MaySeal (SomeSeatTurn key sealed taken seat line) seen) (SeatTurnsTo key sealed taken seat new line seen reply) given []
 
 pub record SeatAsks (key : List ℕ) (taken : Bool) (line : ScriptLine) (reply : Reply) (old new : Option SessionState) (given : List Answer) (before after : HostState) (random random' : WordsState) : Type 0 where
   pub seen : Seen
@@ -109,6 +113,10 @@ KeepsNames line old new =
 abbrev pub SomeTurn : ScriptState → ScriptLine → Seen → Reply → List Act → Type 0
 SomeTurn state line seen reply acts = (left : ScriptState) × Turn (on_carried state.key state.sealed) state line seen reply acts left
 
+-- such a turn, which leaves the state of this desk
+abbrev pub TurnsTo : ScriptState → DeskState → ScriptLine → Seen → Reply → List Act → Type 0
+TurnsTo state new line seen reply acts = (left : ScriptState) × Turn (on_carried state.key state.sealed) state line seen reply acts left × IsStateOf left new
+
 -- The cause of a reply, also where something is forged: by some answers that came in the step, which are those that were told, where the host tells them.
 pub record SeatCaused (key : List ℕ) (taken : Bool) (line : ScriptLine) (reply : Reply) (old : Option SessionState) (before after : HostState) : Type 0 where
   pub given : List Answer
@@ -126,7 +134,7 @@ pub record Asks (line : ScriptLine) (reply : Reply) (old new : DeskState) (given
   pub seen : Seen
   pub was_seen : WasSeen seen given before after random random'
   pub turns : (state : ScriptState) → IsStateOf state old
-      → Unfolds old.key state.sealed (MaySeal (SomeTurn state line) seen) (λ acts. (left : ScriptState) × Turn (on_carried old.key state.sealed) state line seen reply acts left × IsStateOf left new) given []
+      → Unfolds state.key state.sealed (MaySeal (SomeTurn state line) seen) (TurnsTo state new line seen reply) given []
 
 -- where the book speaks of the name of a seat's session, it is covered
 abbrev pub CoversSome : Option SessionState → Covering

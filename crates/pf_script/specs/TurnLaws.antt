@@ -19,9 +19,14 @@ SealsNothing (lines.Read seat at count) = ⊤
 SealsNothing (lines.Draw seat) = ⊤
 SealsNothing other = ⊥
 
--- By these turns nothing unfolds to what never holds.
-abbrev pub HoldsInTheEnd : List ℕ → List Sheet → (Seen → Reply → List Act → Type 0) → Seen → Type 0
-HoldsInTheEnd key sealed Goes seen = ¬ (Unfolds key sealed (MaySeal Goes seen) (λ acts. ⊥) seen.given [])
+-- what unfolds by these turns holds of some acts
+abbrev pub ComesTrue : List ℕ → List Sheet → (Seen → Reply → List Act → Type 0) → Seen → (List Act → Type 0) → Type 0
+ComesTrue key sealed Goes seen P = Unfolds key sealed (MaySeal Goes seen) P seen.given [] → (acts : List Act) × P acts
+
+-- What unfolds by these turns is such a turn in the end, and nothing unfolds to what never holds.
+pub record HoldsInTheEnd (key : List ℕ) (sealed : List Sheet) (Goes : Seen → Reply → List Act → Type 0) (seen : Seen) : Type 0 where
+  pub turns : (reply : Reply) → ComesTrue key sealed Goes seen (Goes seen reply)
+  pub never : ¬ (Unfolds key sealed (MaySeal Goes seen) (λ acts. ⊥) seen.given [])
 
 -- whatever was sealed by these turns, nothing that was given is forged
 abbrev pub UnforgedWithAll : List ℕ → List Sheet → (Seen → Reply → List Act → Type 0) → Seen → Type 0

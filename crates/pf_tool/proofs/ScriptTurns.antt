@@ -3,10 +3,9 @@ use Rattle.std.proofs.Common.{◌≡◌, inl, inr, ℕ, zero, suc, ◌+◌, List
 use Rattle.pf_io.specs.Host.{Answer, HostState}
 use Rattle.pf_io.specs.Words.{WordsState}
 use Rattle.pf_script.specs.Desk.{DeskState, IsStateOf}
-use Rattle.pf_script.specs.DeskSteps.{MaySeal, Unfolds, SomeTurn, Asks}
+use Rattle.pf_script.specs.DeskSteps.{MaySeal, Unfolds, SomeTurn, TurnsTo, Asks}
 use Rattle.pf_script.specs.Script.{ScriptState}
 use Rattle.pf_script.specs.ScriptRuns.{Exchange, Follows}
-use Rattle.pf_script.specs.Turns.{Turn, on_carried}
 use Rattle.pf_script.specs.declared.line.ScriptLine.{ScriptLine}
 use Rattle.pf_script.specs.declared.reply.Reply.{Reply}
 use Rattle.pf_script.proofs.Desking.{unfolds_as}
@@ -43,5 +42,4 @@ module _ (line : ScriptLine) (reply : Reply) (old new : DeskState) (given : List
 
   pub turn_follows : (state : ScriptState) → IsStateOf state old → Follows state (exchange ∷ []) (λ left. IsStateOf left new)
   turn_follows state is =
-      subst (λ (k : List ℕ). Unfolds k state.sealed (MaySeal (SomeTurn state line) asks.seen) (λ acts. (left : ScriptState) × Turn (on_carried k state.sealed) state line asks.seen reply acts left × IsStateOf left new) asks.seen.given []) (sym is.key_is)
-      (subst (λ (g : List Answer). Unfolds old.key state.sealed (MaySeal (SomeTurn state line) asks.seen) (λ acts. (left : ScriptState) × Turn (on_carried old.key state.sealed) state line asks.seen reply acts left × IsStateOf left new) g []) (sym asks.was_seen.answers) (asks.turns state is))
+      subst (λ (g : List Answer). Unfolds state.key state.sealed (MaySeal (SomeTurn state line) asks.seen) (TurnsTo state new line asks.seen reply) g []) (sym asks.was_seen.answers) (asks.turns state is)
