@@ -35,6 +35,7 @@ use Rattle.pf_script.proofs.Flushed.{FlushCase, lacked, failed, done, flush_case
 use Rattle.pf_script.proofs.Liking.{like_on, like_some}
 use Rattle.pf_script.proofs.OfScript.{of_changed}
 use Rattle.pf_script.proofs.SeatCalls.{seen_by, SheetTurns, whole_turns, host_reply, words_reply, false_true, goes_told, goes_wanting}
+use Rattle.pf_script.proofs.Showing.{shows_broken}
 use Rattle.pf_script.proofs.StepTurns.{Made, LineEnds, all_made}
 use Rattle.pf_script.proofs.WantFlushes.{flushes_of}
 
@@ -249,7 +250,7 @@ module _ (key : List ℕ) (line : ScriptLine) (old new : SessionState) (whole : 
           passes = passes own (like_on base old);
         }) told
 
-  module _ (before after : HostState) (random random' : WordsState) (aside : Aside old.name before after) (books : OnDisk before after (KeepsUnder (Covers old) (Covers new) (λ name. name ≡ old.name))) (seated : IsSeated key new) (name_is : new.name ≡ old.name)
+  module _ (before after : HostState) (random random' : WordsState) (aside : Aside old.name before after) (books : OnDisk before after (KeepsUnder (Covers old) (Covers new) (λ name. name ≡ old.name))) (seated : IsSeated key new) (key_is : new.key ≡ old.key) (name_is : new.name ≡ old.name)
       (takes : ¬ (TakesNone line)) (changes : IsChange line) (admits : Admits line old) (calm : (flushed : Bool) → (is_host_fault (replied flushed) ≡ false) × (is_words_fault (replied flushed) ≡ false))
       (so : (flushed : Bool) (seat : Seat) (given : List Answer) → NoneRefuses (rules key false seat line given) → Caused key false seat line given (replied flushed))
       (accepts : (flushed : Bool) → new.broken ≡ false → LeavesSeat line (replied flushed) (Some old) (Some new) random random') where
@@ -284,7 +285,7 @@ module _ (key : List ℕ) (line : ScriptLine) (old new : SessionState) (whole : 
         goes_wanting key false line old before after random random' aside (record {}) new
         (record {
           takes = takes;
-          told = told_weaker (λ given. ChangeTold step old new given seen.words Wanted) (λ given. Unit {0}) before after seen.told (λ given facts. tt);
+          shows = shows_broken key old new before after (λ given. ChangeTold step old new given seen.words Wanted) seen.told (breaks refl).0 key_is name_is;
           ends = inr (changes, (breaks refl).0, admits);
           flushes = λ session is. flushes_of line old session before after is (breaks refl).1;
         }) books seated name_is seen.on_host seen.on_words

@@ -16,7 +16,7 @@ use Rattle.pf_script.specs.Book.{Book, Seal}
 use Rattle.pf_script.specs.BookActs.{Act}
 use Rattle.pf_script.specs.BookSeats.{Covers, CoversEach, CoversBoth, KeepsUnder}
 use Rattle.pf_script.specs.Desk.{DeskState, session_at, IsSeated, IsSeatOf, IsLikeDesk, IsDesk, Shows, IsStateOf}
-use Rattle.pf_script.specs.DeskSteps.{MaySeal, Unfolds, in_the_end, then_more, SomeSeatTurn, SomeTurn, TurnsTo, SeatAsks, SeatCaused, DeskCaused, LeavesSeat, Asks, IsChange, Admits, HasItsName, OtherHas, Concerns, ConcernsDesk, CoversSome, CoversDesk, KeepsNames, KeepsSession, NothingDone, IsBrokenSession, BreaksSeat, SeatIdle, FlushesUnder, SeatWants, Wants, WhereWanting, WhereReplied, SeatGoes, DeskGoes}
+use Rattle.pf_script.specs.DeskSteps.{MaySeal, Unfolds, in_the_end, then_more, SomeSeatTurn, SomeTurn, TurnsTo, SeatAsks, SeatCaused, DeskCaused, LeavesSeat, Asks, IsChange, Admits, HasItsName, OtherHas, Concerns, ConcernsDesk, CoversSome, CoversDesk, KeepsNames, KeepsSession, NothingDone, IsBrokenSession, BreaksSeat, SeatIdle, FlushesUnder, StillShows, SeatStillShows, DeskStillShows, SeatWants, Wants, WhereWanting, WhereReplied, SeatGoes, DeskGoes}
 use Rattle.pf_script.specs.Script.{Seat, Empty, ScriptState, seat_at, IsTaken, state_with, seat_of_line, name_of_line}
 use Rattle.pf_script.specs.Turns.{Seen, SeatTurn, Caused, Turn, on_seat, on_carried, SaysTaken}
 use Rattle.pf_script.specs.Words.{SEATS}
@@ -220,14 +220,19 @@ module _ (old : DeskState) (desk : IsDesk old) (k : ℕ) (below : k < SEATS) (ta
         told_weaker (λ given. SeatAsks old.key taken line reply (session_at old k) left given before after random random') (λ given. Asks line reply old new given before after random random') before after told (asks_on reply)
     all_asks (Err fault) told = tt
 
-    wants_on : SeatWants line (session_at old k) left before after random random' → Wants line old new before after random random'
+    wants_on : SeatWants old.key line (session_at old k) left before after random random' → Wants line old new before after random random'
     wants_on wants = record {
       takes = wants.takes;
-      told = wants.told;
+      shows = told_weaker (SeatStillShows old.key (session_at old k) left) (DeskStillShows old new) before after wants.shows (λ given still state is_state unforged j. shown state is_state j (still state.sealed (seat_at state k) (is_state.shows k) unforged));
       ends = ⊎_elim (λ idle. inl (nothing idle)) (λ breaks. inr (broken breaks.0 breaks.1 breaks.2)) wants.ends;
       flushes = λ j session is_seat is. flushed j session (same_seat j k (sym is_seat ∙ names)) is;
     }
       where
+        shown : (state : ScriptState) → IsStateOf state old → (j : ℕ) → StillShows state.sealed (seat_at state k) left → StillShows state.sealed (seat_at state j) (session_at new j)
+        shown state is_state j still = ⊎_elim
+            (λ e. subst (λ i. StillShows state.sealed (seat_at state i) (session_at new i)) (sym e) (subst (λ (o : Option SessionState). StillShows state.sealed (seat_at state k) o) (sym here) still))
+            (λ apart. inl (subst (λ (o : Option SessionState). Shows state.sealed (seat_at state j) o) (sym (there j apart)) (is_state.shows j))) (same_or_not j k)
+
         off : (j : ℕ) → j ≢ k → KeepsSession (session_at old j) (session_at new j)
         off j apart = subst (λ (o : Option SessionState). KeepsSession (session_at old j) o) (sym (there j apart)) (keeps_same (session_at old j))
 
@@ -248,7 +253,7 @@ module _ (old : DeskState) (desk : IsDesk old) (k : ℕ) (below : k < SEATS) (ta
         broken : IsChange line → IsBrokenSession left → IsSomeAnd (session_at old k) (Admits line) → BreaksSeat line old new
         broken change is admitted = record { change = change; seat = k; is_seat = names; broken = subst (λ (o : Option SessionState). IsBrokenSession o) (sym here) is; admitted = admitted }
 
-    all_wants : (r : Result Reply Memory) → WhereWanting r (SeatWants line (session_at old k) left before after random random') → WhereWanting r (Wants line old new before after random random')
+    all_wants : (r : Result Reply Memory) → WhereWanting r (SeatWants old.key line (session_at old k) left before after random random') → WhereWanting r (Wants line old new before after random random')
     all_wants (Ok reply) wants = tt
     all_wants (Err fault) wants = wants_on wants
 

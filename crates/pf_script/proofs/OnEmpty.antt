@@ -37,7 +37,7 @@ use Rattle.pf_script.proofs.MadeActs.{none_is}
 use Rattle.pf_script.proofs.OverGiven.{over_idle}
 use Rattle.pf_script.proofs.Refusing.{at_last, not_empty}
 use Rattle.pf_script.proofs.SeatCalls.{seen_by}
-use Rattle.pf_script.proofs.Showing.{shows_none}
+use Rattle.pf_script.proofs.Showing.{shows_none, shows_still}
 use Rattle.pf_script.proofs.Sparing.{spares_none, spares_kept, spares_aside}
 use Rattle.pf_script.proofs.StepKeeping.{keeps_more}
 use Rattle.pf_script.proofs.Under.{LooksLike, looks_like, looks_over, idle_none}
@@ -131,7 +131,12 @@ module _ (key : List ℕ) (line : ScriptLine) (name : Name) (names : name_of_lin
       leaves = tt;
       books = books;
       counts = (calm, ap (λ (w : WordsState). w.faults) same);
-      wants = record { takes = takes; told = told; ends = inl (record { seat = none; disk = disk; words = same }); flushes = λ session is. absurd (cc) };
+      wants = record {
+        takes = takes;
+        shows = shows_still key None new before after (λ given. Unit {0}) told (λ given holds sealed seat shows unforged. subst (λ (o : Option SessionState). Shows sealed seat o) (sym none) shows);
+        ends = inl (record { seat = none; disk = disk; words = same });
+        flushes = λ session is. absurd (cc);
+      };
       seated = seated;
       named = λ n has. concerns n (named n has);
       spares = spares;

@@ -43,6 +43,7 @@ use Rattle.pf_script.proofs.OfScript.{of_read}
 use Rattle.pf_script.proofs.ReadKeeping.{read_keeps}
 use Rattle.pf_script.proofs.Refusing.{at_last, none_then, none_taken}
 use Rattle.pf_script.proofs.SeatCalls.{seen_by, own_same, SheetTurns, whole_turns, shows_same, goes_told, goes_wanting}
+use Rattle.pf_script.proofs.Showing.{shows_whole, shows_still}
 use Rattle.pf_script.proofs.StepFacts.{told_also, told_came}
 use Rattle.pf_script.proofs.WantFlushes.{kept_flushes}
 use Rattle.std.specs.Prelude.{Contains, IfOk, OnErr}
@@ -157,6 +158,13 @@ module _ (key : List ℕ) (k at count : ℕ) (old : SessionState) (seated : IsSe
     shows_new : (sealed : List Sheet) (base : Sheet) → Contains sealed base → IsLinked base → IsKeptOn base old → IsBacked base new → now base new.tree ≡ now base old.tree → Shows (sealed ++ []) (Own (seat_on base old)) (Some new)
     shows_new sealed base among linked kept backed same = shows_same sealed (Own (seat_on base old)) (Some new) (whole_file base new whole_new among linked (kept_new base kept backed same) (ap Own (same_seat base same)) refl)
 
+    -- where memory was wanting
+    shows_as_it_did : ReadFacts (Err trees.Memory) at buffer old new given → (sealed : List Sheet) (seat : Seat) → Shows sealed seat (Some old) → Unforged key sealed given → Shows sealed seat (Some new)
+    shows_as_it_did facts sealed seat shows unforged =
+        let on = shows_whole sealed seat old whole shows in
+        let out = (facts on.sheet on.kept.backed ((unforged_gives key sealed given unforged).nodes old.name on.sheet on.among)).0 in
+        whole_file on.sheet new whole_new on.among on.linked (kept_new on.sheet on.kept out.backed out.same) (on.seat_is ∙ ap Own (same_seat on.sheet out.same)) refl
+
     given_turns : (n : ℕ) → n ≡ readable old.tree at (length buffer) → ReadFacts (Ok n) at buffer old new given → SheetTurns key false (lines.Read k at count) (seen_by given [] false false) (replies.Given buffer) old (Some new) given
     given_turns n counted facts sealed base among linked kept =
         let own = seat_on base old in
@@ -232,7 +240,7 @@ module _ (key : List ℕ) (k at count : ℕ) (old : SessionState) (seated : IsSe
         goes_wanting key false (lines.Read k at count) old before after words words (aside_kept old.name before after disk) (record {}) new
         (record {
           takes = λ none. none;
-          told = told_weaker (ReadFacts (Err trees.Memory) at buffer old new) (λ given. Unit {0}) before after told (λ given facts. tt);
+          shows = shows_still key (Some old) (Some new) before after (ReadFacts (Err trees.Memory) at buffer old new) told (shows_as_it_did few);
           ends = inl (record { seat = holds; disk = disk; words = refl });
           flushes = λ session is. kept_flushes (lines.Read k at count) session before after disk;
         }) books seated_new

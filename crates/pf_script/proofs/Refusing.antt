@@ -28,6 +28,7 @@ use Rattle.pf_script.specs.declared.reply.Why.{Why}
 use Rattle.pf_script.specs.declared.reply.Why.TheVariants as whys
 use Rattle.pf_script.proofs.ActKeeping.{unchanged_now}
 use Rattle.pf_script.proofs.Liking.{like_shown}
+use Rattle.pf_script.proofs.Showing.{shows_still}
 use Rattle.pf_script.proofs.Sparing.{spares_none}
 use Rattle.pf_script.proofs.WantFlushes.{kept_flushes}
 
@@ -92,7 +93,7 @@ nothing_wanting key taken line fault old host words takes seated = record {
   counts = (refl, refl);
   wants = record {
     takes = takes;
-    told = told_by (λ given. Unit {0}) [] host host (told_none host host refl) tt;
+    shows = shows_still key old old host host (λ given. Unit {0}) (told_by (λ given. Unit {0}) [] host host (told_none host host refl) tt) (λ given holds sealed seat shows unforged. shows);
     ends = inl (record { seat = keeps_same old; disk = still; words = refl });
     flushes = λ session is. kept_flushes line session host host still;
   };

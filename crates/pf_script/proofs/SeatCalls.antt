@@ -82,7 +82,7 @@ module _ (key : List ℕ) (taken : Bool) (line : ScriptLine) (old : SessionState
       (λ a b keeps. keeps_more (Covers old) last (λ name. name ≡ old.name) (Concerns taken line (Some old)) a b (λ name is. inl is) keeps)
 
   -- memory was wanting
-  pub goes_wanting : (fault : Memory) (new : SessionState) → SeatWants line (Some old) (Some new) before after random random' → OnDisk before after (KeepsUnder (Covers old) (Covers new) (λ name. name ≡ old.name)) → IsSeated key new → new.name ≡ old.name
+  pub goes_wanting : (fault : Memory) (new : SessionState) → SeatWants key line (Some old) (Some new) before after random random' → OnDisk before after (KeepsUnder (Covers old) (Covers new) (λ name. name ≡ old.name)) → IsSeated key new → new.name ≡ old.name
       → after.faults ≡ before.faults → random'.faults ≡ random.faults → SeatGoes key taken line (Err fault) (Some old) (Some new) before after random random'
   goes_wanting fault new wants books seated name_is on_host on_words = record {
     asks = tt;

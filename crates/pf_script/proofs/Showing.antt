@@ -1,12 +1,17 @@
 -- Which seat shows a session.
-use Rattle.std.proofs.Common.{◌≡◌, true, false, List, ◌++◌, sym, ◌∙◌, ap, subst, Option, Some, None}
+use Rattle.std.proofs.Common.{◌≡◌, inl, inr, true, false, ℕ, List, ◌++◌, refl, sym, ◌∙◌, ap, subst, Option, Some, None}
 use Rattle.std.specs.Prelude.{Contains}
 use Rattle.std.proofs.lemmas.List.Elements.{Contains-append_left}
 use Rattle.node_tree.specs.Sheet.{Sheet, IsLinked}
+use Rattle.node_tree.specs.Unforged.{Unforged}
+use Rattle.pf_io.specs.Host.{Answer, HostState, WhereTold}
+use Rattle.pf_io.proofs.Telling.{told_weaker}
 use Rattle.pf_session.specs.Moving.{IsKeptOn}
 use Rattle.pf_session.specs.State.{SessionState}
 use Rattle.pf_script.specs.Desk.{seat_on, Shows, no_file, whole_file, broken_file}
+use Rattle.pf_script.specs.DeskSteps.{broken_of, SeatStillShows}
 use Rattle.pf_script.specs.Script.{OwnSeat, Seat, Empty, Own}
+use Rattle.pf_script.specs.SeatSteps.{broken_seat}
 
 -- a seat that shows a whole session
 pub record ShowsWhole (sealed : List Sheet) (seat : Seat) (own : SessionState) : Type 0 where
@@ -74,3 +79,16 @@ pub shows_more : (sealed more : List Sheet) (seat : Seat) (session : Option Sess
 shows_more sealed more seat session (no_file is none) = no_file is none
 shows_more sealed more seat session (whole_file sheet own whole among linked kept is some) = whole_file sheet own whole (Contains-append_left sealed more sheet among) linked kept is some
 shows_more sealed more seat session (broken_file shown own broken as_broken key name is some) = broken_file shown own broken as_broken key name is some
+
+-- after want of memory a seat shows what it showed
+pub shows_still : (key : List ℕ) (old new : Option SessionState) (before after : HostState) (P : List Answer → Type 0) → WhereTold before after P
+    → ((given : List Answer) → P given → (sealed : List Sheet) (seat : Seat) → Shows sealed seat old → Unforged key sealed given → Shows sealed seat new) → WhereTold before after (SeatStillShows key old new)
+shows_still key old new before after P told go = told_weaker P (SeatStillShows key old new) before after told (λ given holds sealed seat shows unforged. inl (go given holds sealed seat shows unforged))
+
+-- or that broken
+pub shows_broken : (key : List ℕ) (old new : SessionState) (before after : HostState) (P : List Answer → Type 0) → WhereTold before after P → new.broken ≡ true → new.key ≡ old.key → new.name ≡ old.name → WhereTold before after (SeatStillShows key (Some old) (Some new))
+shows_broken key old new before after P told broken key_is name_is =
+    told_weaker P (SeatStillShows key (Some old) (Some new)) before after told
+    (λ given holds sealed seat shows unforged.
+    let some = shows_some sealed seat old shows in
+    inr (subst (λ (x : Seat). Shows sealed (broken_of x) (Some new)) (sym some.seat_is) (broken_file (broken_seat some.shown) new broken refl (some.key_is ∙ sym key_is) (some.name_is ∙ sym name_is) refl refl)))

@@ -34,6 +34,7 @@ use Rattle.pf_script.proofs.Flushed.{host_blamed, fault_of, length_now}
 use Rattle.pf_script.proofs.Liking.{like_some}
 use Rattle.pf_script.proofs.Refusing.{none_then}
 use Rattle.pf_script.proofs.SeatCalls.{seen_by, SheetTurns, whole_turns, host_reply, words_reply, goes_told, goes_wanting}
+use Rattle.pf_script.proofs.Showing.{shows_broken}
 use Rattle.pf_script.proofs.SizeSeen.{sized, size_result, never_refused, LeftBySize, SizeSeen, size_seen}
 use Rattle.pf_script.proofs.SizeTold.{SizeTold, size_ends}
 use Rattle.pf_script.proofs.StepTurns.{LineEnds}
@@ -117,7 +118,7 @@ module _ (key : List ℕ) (k size : ℕ) (small : size ≤ 2 ^ 32) (old new : Se
         (record { went = λ f is acts ends. absurd (cc); broke = λ blame is acts ends. absurd (cc); lack = λ is acts ends. ends; memory = λ is. absurd (cc) })
         [] [] [] base (none_made sealed base old among linked kept whole) (goes_on_now base) [] refl refl
 
-  module _ (result : Result (Unit {0}) SizeFault) (before after : HostState) (random random' : WordsState) (seen : SizeSeen key size small result old new before after random random')
+  module _ (result : Result (Unit {0}) SizeFault) (before after : HostState) (random random' : WordsState) (seen : SizeSeen key size small result old new before after random random') (key_is : new.key ≡ old.key)
       (flushes : seen.outcome ≡ Wanted → OnDisk before after (FlushesUnder (lines.Size k size) old)) where
     came_as : (outcome : Outcome) → seen.outcome ≡ outcome → OutcomeCame old.name outcome before after
     came_as outcome is = subst (λ (o : Outcome). OutcomeCame old.name o before after) is seen.came
@@ -177,7 +178,7 @@ module _ (key : List ℕ) (k size : ℕ) (small : size ≤ 2 ^ 32) (old new : Se
         goes_wanting key false (lines.Size k size) old before after random random' seen.aside (record {}) new
         (record {
           takes = λ none. none;
-          told = told_weaker (λ given. SizeTold size old new given seen.words seen.outcome) (λ given. Unit {0}) before after seen.told (λ given facts. tt);
+          shows = shows_broken key old new before after (λ given. SizeTold size old new given seen.words seen.outcome) seen.told (seen.breaks is) key_is seen.name_is;
           ends = inr (tt, seen.breaks is, admits);
           flushes = λ session same. flushes_of (lines.Size k size) old session before after same (flushes is);
         }) seen.books seen.seated_new seen.name_is
@@ -193,7 +194,7 @@ pub size_goes : (key : List ℕ) (k size : ℕ) (old new : SessionState) (result
 size_goes key k size old new result before after random random' small seated whole goes =
     let seen = size_seen key size small result old new before after random random' seated goes in
     subst (λ (r : Result Reply Memory). SeatGoes key false (lines.Size k size) r (Some old) (Some new) before after random random') seen.reply_is
-    (by_outcome key k size small old new whole result before after random random' seen
+    (by_outcome key k size small old new whole result before after random random' seen (seen.seated_new.key_is ∙ sym seated.key_is)
     (λ wants.
     flushed_under (lines.Size k size) Any old new before after
     (size_flushes k size result (λ fault is. no_flush_wants fault (sym (ap (outcome_reply (sized size)) wants) ∙ seen.reply_is ∙ ap (size_result size) is)) seated.of_script goes)) seen.outcome refl)

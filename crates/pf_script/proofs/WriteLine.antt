@@ -221,7 +221,7 @@ module _ (key : List ℕ) (at : ℕ) (bytes : List ℕ) (line : ScriptLine) (cou
     some_goes : bytes ≢ [] → (new : SessionState) (before after : HostState) (random random' : WordsState) → Aside old.name before after → OnDisk before after (KeepsUnder (Covers old) (Covers new) (λ name. name ≡ old.name)) → IsSeated key new → new.name ≡ old.name
         → (outcome : Outcome) → ChangeSeen (Write at bytes) old new outcome before after random random' → (outcome ≡ Wanted → (new.broken ≡ true) × OnDisk before after (FlushesUnder line old)) → SeatGoes key false line (outcome_reply (written count) outcome) (Some old) (Some new) before after random random'
     some_goes some new before after random random' aside books seated_new name_is =
-        line_goes key line old new whole (Write at bytes) (written count) (λ size. write_asks at bytes line count is_line size (Write at bytes ∷ []) (at_place some refl)) replied like_passes before after random random' aside books seated_new name_is
+        line_goes key line old new whole (Write at bytes) (written count) (λ size. write_asks at bytes line count is_line size (Write at bytes ∷ []) (at_place some refl)) replied like_passes before after random random' aside books seated_new (seated_new.key_is ∙ sym seated.key_is) name_is
         (write_takes at bytes line count is_line) (write_changes at bytes line count is_line) admits (λ flushed. (refl, refl)) (λ flushed seat given passed. passed) (λ flushed whole_new. write_accepts at bytes line count is_line flushed old new whole_new)
       where
         replied : (flushed : Bool) (sheets : List Sheet) → Grew flushed [] sheets → IsChangeReply sheets line (replies.Written count flushed)

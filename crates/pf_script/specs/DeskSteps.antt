@@ -22,7 +22,8 @@ use Rattle.pf_script.specs.BookDebts.{LeavesOthers, KeepsOthers, DidAll}
 use Rattle.pf_script.specs.BookSeats.{Covering, Covers, CoversOn, CoversNone, KeepsUnder, SparesSeats}
 use Rattle.pf_script.specs.Desk.{DeskState, session_at, IsSeatOf, IsLike, IsLikeDesk, Shows, IsStateOf}
 use Rattle.pf_script.specs.Rules.{NoneRefuses, rules}
-use Rattle.pf_script.specs.Script.{Seat, ScriptState, sheets_of, seat_of_line, name_of_line}
+use Rattle.pf_script.specs.Script.{Seat, Empty, Own, ScriptState, seat_at, sheets_of, seat_of_line, name_of_line}
+use Rattle.pf_script.specs.SeatSteps.{broken_seat}
 use Rattle.pf_script.specs.Turns.{Seen, SeatTurn, Caused, CausedIn, Turn, on_carried}
 use Rattle.pf_script.specs.declared.line.ScriptLine.{ScriptLine}
 use Rattle.pf_script.specs.declared.line.ScriptLine.TheVariants as lines
@@ -223,9 +224,26 @@ pub record Admits (line : ScriptLine) (session : SessionState) : Type 0 where
   pub whole : session.broken ≡ false
   pub none : (key : List ℕ) (taken : Bool) (seat : Seat) → IsLike seat (Some session) → NoneRefuses (rules key taken seat line [])
 
-pub record SeatWants (line : ScriptLine) (old new : Option SessionState) (before after : HostState) (random random' : WordsState) : Type 0 where
+-- a seat's own broken
+abbrev pub broken_of : Seat → Seat
+broken_of Empty = Empty
+broken_of (Own own) = Own (broken_seat own)
+
+-- what a seat shows after want of memory: what it showed, or that broken
+abbrev pub StillShows : List Sheet → Seat → Option SessionState → Type 0
+StillShows sealed seat new = Shows sealed seat new ⊎ Shows sealed (broken_of seat) new
+
+-- So whatever the seat showed, and whatever was sealed before, where nothing is forged.
+abbrev pub SeatStillShows : List ℕ → Option SessionState → Option SessionState → List Answer → Type 0
+SeatStillShows key old new given = (sealed : List Sheet) (seat : Seat) → Shows sealed seat old → Unforged key sealed given → StillShows sealed seat new
+
+-- so for all seats of a desk
+abbrev pub DeskStillShows : DeskState → DeskState → List Answer → Type 0
+DeskStillShows old new given = (state : ScriptState) → IsStateOf state old → Unforged old.key state.sealed given → (k : ℕ) → StillShows state.sealed (seat_at state k) (session_at new k)
+
+pub record SeatWants (key : List ℕ) (line : ScriptLine) (old new : Option SessionState) (before after : HostState) (random random' : WordsState) : Type 0 where
   pub takes : ¬ (TakesNone line)
-  pub told : WhereTold before after (λ given. ⊤)
+  pub shows : WhereTold before after (SeatStillShows key old new)
   pub ends : SeatIdle old new before after random random' ⊎ (IsChange line × IsBrokenSession new × IsSomeAnd old (Admits line))
   pub flushes : (session : SessionState) → old ≡ Some session → OnDisk before after (FlushesUnder line session)
 
@@ -246,7 +264,7 @@ pub record BreaksSeat (line : ScriptLine) (old new : DeskState) : Type 0 where
 -- want of memory; what the host tells goes on
 pub record Wants (line : ScriptLine) (old new : DeskState) (before after : HostState) (random random' : WordsState) : Type 0 where
   pub takes : ¬ (TakesNone line)
-  pub told : WhereTold before after (λ given. ⊤)
+  pub shows : WhereTold before after (DeskStillShows old new)
   pub ends : NothingDone old new before after random random' ⊎ BreaksSeat line old new
   pub flushes : (k : ℕ) (session : SessionState) → seat_of_line line ≡ Some k → session_at old k ≡ Some session → OnDisk before after (FlushesUnder line session)
 
@@ -316,7 +334,7 @@ pub record SeatGoes (key : List ℕ) (taken : Bool) (line : ScriptLine) (result 
   pub leaves : WhereReplied result (λ reply. LeavesSeat line reply old new random random')
   pub books : OnDisk before after (KeepsUnder (CoversSome old) (CoversSome new) (Concerns taken line old))
   pub counts : CountsReply result before after random random'
-  pub wants : WhereWanting result (SeatWants line old new before after random random')
+  pub wants : WhereWanting result (SeatWants key line old new before after random random')
   pub seated : IsSeatOf key new
   pub named : (name : Name) → HasItsName new name → Concerns taken line old name
   pub spares : Spares (Concerns taken line old) before after

@@ -1,10 +1,10 @@
 -- What a whole session does under a book with which it may begin.
 use Rattle.std.proofs.Common.{◌≡◌, ◌⊎◌, inl, inr, ⊎_elim, ℕ, suc, Bool, true, false, List, [], ◌∷◌, ◌++◌, length, map, refl, sym, ◌∙◌, ap, subst, append_assoc, Option, Some, Result, Ok, Err}
-use Rattle.std.specs.Prelude.{⊤, IfSome}
+use Rattle.std.specs.Prelude.{IfSome}
 use Rattle.std.specs.List.{flat_map}
 use Rattle.std.proofs.lemmas.List.{append-nil}
 use Rattle.pf_io.specs.Disk.{Name, Files, reading}
-use Rattle.pf_io.specs.Host.{Answer, HostState, Both, IsMore, OnDisk, ReadsAsImage}
+use Rattle.pf_io.specs.Host.{Answer, HostState, Both, IsMore, since as answers_since, OnDisk, ReadsAsImage}
 use Rattle.pf_io.specs.Lines.{lines_of}
 use Rattle.pf_io.specs.Moments.{Honest}
 use Rattle.pf_io.specs.Streams.{SourceState, SinkState, TakesFront}
@@ -17,6 +17,7 @@ use Rattle.pf_script.specs.BookDebts.{Unchanged}
 use Rattle.pf_script.specs.BookLaws.{StartsWith, RunKeeps}
 use Rattle.pf_script.proofs.CallKeeping.{both_with}
 use Rattle.pf_script.specs.Desk.{session_at}
+use Rattle.pf_script.specs.DeskSteps.{DeskStillShows}
 use Rattle.pf_script.specs.LineReading.{GoesOn}
 use Rattle.pf_script.specs.Script.{ScriptState, seat_at}
 use Rattle.pf_script.specs.ScriptLines.{IsScriptLine}
@@ -185,7 +186,7 @@ module _ (key : Name) (old new : World) (status : ℕ) (book : Book) (a b : Hone
   }
   wanting_rest bytes none last now starved (inr step) host random = record {
     more = told_since last.world.host.given now.world.host.given;
-    told = subst (λ (h : HostState). Both last.world.host.given h.given (IsMore (told_since last.world.host.given now.world.host.given))) (sym host) (told_so (λ before now. ⊤) last.world.host.given now.world.host.given step.2.wants.told);
+    told = subst (λ (h : HostState). Both last.world.host.given h.given (IsMore (told_since last.world.host.given now.world.host.given))) (sym host) (told_so (λ before given. DeskStillShows last.desk now.desk (answers_since before given)) last.world.host.given now.world.host.given step.2.wants.shows);
     ends = inr starved;
     host = ap (λ (h : HostState). h.faults) host ∙ step.2.counts.0;
     random = ap (λ (r : WordsState). r.faults) random ∙ step.2.counts.1;

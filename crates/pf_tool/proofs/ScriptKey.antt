@@ -1,10 +1,9 @@
 -- A session whose key is refused, and that no other session is decided so.
-use Rattle.std.specs.Prelude.{⊤}
 use Rattle.std.proofs.Common.{◌≡◌, ◌∙◌, inl, inr, ℕ, List, [], ◌∷◌, ◌++◌, length, refl, sym, ap, subst, arith, Option, Some, None, Result, Ok, Err, append_assoc}
 use Rattle.std.proofs.lemmas.List.{append-nil, append_cancel_left}
 use Rattle.pf_io.specs.Disk.{Name, Files}
 use Rattle.pf_io.specs.Host.{Answer, LengthWas, Gave, HostState, Both, IsMore, WhereTold, files_of}
-use Rattle.pf_script.specs.DeskSteps.{Asks}
+use Rattle.pf_script.specs.DeskSteps.{Asks, DeskStillShows}
 use Rattle.pf_script.specs.declared.next_line.NextLine.{NextLine}
 use Rattle.pf_script.specs.declared.next_line.NextLine.TheVariants as nexts
 use Rattle.pf_script.specs.declared.line.ScriptLine.TheVariants as lines
@@ -145,7 +144,7 @@ module _ (key : Name) (old new : World) (status : ℕ) where
       grows_then start.world.host last.world.host now.world.host (grows_lines start s last lines) (grows_none last.world.host now.world.host (ap (λ (h : HostState). h.given) nothing.same_host))
   stop_grows s start last now fault lines (not_answered none reads (inl nothing) says why) =
       grows_then start.world.host last.world.host now.world.host (grows_lines start s last lines) (grows_none last.world.host now.world.host (ap (λ (h : HostState). h.given) nothing.same_host))
-  stop_grows s start last now fault lines (not_answered none reads (inr step) says why) = grows_then start.world.host last.world.host now.world.host (grows_lines start s last lines) (grows_told (λ given. ⊤) last.world.host now.world.host step.2.wants.told)
+  stop_grows s start last now fault lines (not_answered none reads (inr step) says why) = grows_then start.world.host last.world.host now.world.host (grows_lines start s last lines) (grows_told (DeskStillShows last.desk now.desk) last.world.host now.world.host step.2.wants.shows)
   stop_grows s start last now fault lines (not_said reply answered some failed why) = grows_then start.world.host last.world.host now.world.host (grows_lines start s last lines) (grows_line reply last now answered)
 
   closed_grows : (s count more : ℕ) (read last : At) → (begun : ScriptRead key old s read) → Closings read count more last → Grows begun.begun.host last.world.host

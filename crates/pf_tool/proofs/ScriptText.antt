@@ -1,6 +1,6 @@
 -- How a session ends behind its key, and what it put out until then.
 use Rattle.std.proofs.Common.{◌≡◌, ◌⊎◌, inl, inr, ℕ, suc, true, false, List, [], ◌∷◌, ◌++◌, map, refl, sym, ◌∙◌, ap, subst, append_assoc, Some, Err}
-use Rattle.std.specs.Prelude.{⊤, IfSome}
+use Rattle.std.specs.Prelude.{IfSome}
 use Rattle.std.specs.List.{flat_map}
 use Rattle.std.proofs.lemmas.List.{append-nil}
 use Rattle.pf_io.specs.Answered.{WereTold}
@@ -9,6 +9,7 @@ use Rattle.pf_io.specs.Streams.{SourceState, SinkState, TakesFront}
 use Rattle.pf_io.specs.declared.faults.Memory.{Memory}
 use Rattle.pf_io.proofs.Telling.{both_weaker}
 use Rattle.pf_io.proofs.Writing.{wrote_both, told_front}
+use Rattle.pf_script.specs.DeskSteps.{DeskStillShows}
 use Rattle.pf_script.specs.Words.{SEATS}
 use Rattle.pf_tool.specs.World.{World}
 use Rattle.pf_tool.specs.Replying.{spoken_text, closed_text, first_of, end_text}
@@ -95,7 +96,7 @@ module _ (user : List ℕ) (begun : World) (before : List Answer) (was : begun.h
           on_step : (told : List Answer) → last.world.host.given ≡ Some told → (none : Memory) → Answers now.reader.line (Err none) last now → (more : List Answer) × WereTold more last.world.host new.host
           on_step told at_last none (inl nothing) = ([], told_nothing told last.world.host new.host at_last (ap (λ (h : HostState). h.given) (host ∙ nothing.same_host)))
           on_step told at_last none (inr step) =
-              let found = both_some (λ b n. IsMore (since b n) b n × ⊤) last.world.host.given now.world.host.given told at_last step.2.wants.told in
+              let found = both_some (λ b n. IsMore (since b n) b n × DeskStillShows last.desk now.desk (since b n)) last.world.host.given now.world.host.given told at_last step.2.wants.shows in
               (since told found.0, record { before = told; was = at_last; now = ap (λ (h : HostState). h.given) host ∙ found.1 ∙ ap (λ (l : List Answer). Some l) found.2.0 })
       by_cause so_far told at_last (not_said reply answered some failed is) =
           let one = line_told reply last now told at_last answered in
