@@ -284,6 +284,8 @@ module _ (key : List ℕ) (k : ℕ) (to : Name) (old : SessionState) (seated : I
       leaves = leaves;
       books = books;
       counts = (subst (λ b. CountsFault b before.faults after.faults) (sym host_is) seen.on_host, subst (λ b. CountsFault b random.faults random'.faults) (sym words_is) seen.on_words);
+      wordless = λ none. absurd none;
+      few = tt;
       wants = tt;
       seated = record { of_script = mine; key_is = key_is ∙ seated.key_is; clean = clean };
       named = names;
@@ -322,7 +324,7 @@ module _ (key : List ℕ) (k : ℕ) (to : Name) (old : SessionState) (seated : I
       where
         left_broken : (blame : Blame) → LeavesSeat line (flush_reply (fault_of blame)) (Some old) (Some new) random random'
         left_broken ByHost = inr broken
-        left_broken (ByDamage damage) = inr broken
+        left_broken (ByDamage damage) = broken
 
         fault_turn : (sealed : List Sheet) (seat : Seat) (these : List Answer) (blame : Blame) (acts : List Act) (left : Seat) → NoneRefuses (rules key false seat line these) → Fails key (seen_by these words (host_blamed blame) false) blame seat line acts left
             → SeatTurn (on_carried key sealed) key false seat line (seen_by these words (host_blamed blame) false) (flush_reply (fault_of blame)) acts left

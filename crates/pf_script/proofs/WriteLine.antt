@@ -37,6 +37,7 @@ use Rattle.pf_script.specs.declared.reply.Why.TheVariants as whys
 use Rattle.pf_script.proofs.ChangeKeeping.{change_keeps}
 use Rattle.pf_script.proofs.ChangeLine.{outcome_reply, change_seated, none_made, line_goes}
 use Rattle.pf_script.proofs.ChangeTold.{Grew, Outcome, Wanted, outcome_of, flush_outcome, ChangeSeen, seen_once, seen_unflushed, seen_after}
+use Rattle.pf_script.proofs.FewAsked.{none_taken_at}
 use Rattle.pf_script.proofs.Flushed.{flush_case, length_now}
 use Rattle.pf_script.proofs.Liking.{like_some}
 use Rattle.pf_script.proofs.OfScript.{of_flushed}
@@ -208,7 +209,7 @@ module _ (key : List ℕ) (at : ℕ) (bytes : List ℕ) (line : ScriptLine) (cou
     -- an empty write
     empty_goes : bytes ≡ [] → (host : HostState) (words : WordsState) → SeatGoes key false line (Ok (replies.Written count false)) (Some old) (Some old) host host words words
     empty_goes none host words =
-        goes_on key false line (replies.Written count false) old host host words words (aside_none old.name host) [] [] false false
+        goes_on key false line (replies.Written count false) old host host words words (aside_none old.name host) (none_taken_at line (Some old) host words) [] [] false false
         (record { told = told_none host host refl; taken = none_taken words; on_host = refl; on_words = refl }) refl refl old
         (whole_turns key false line (seen_by [] [] false false) (replies.Written count false) old (Some old) [] whole
         (λ sealed base among linked kept.

@@ -1,7 +1,8 @@
 -- What a step of a desk comes to.
 use Rattle.std.specs.Prelude.{⊤, ◌≡◌, ◌≢◌, ◌⊎◌, ℕ, ◌+◌, ◌-◌, ◌<◌, min, Bool, true, false, List, [], ◌++◌, length, Contains, replicate, Option, Some, None, IsSomeAnd, Result, Ok, Err}
 use Rattle.node_tree.specs.Backing.{now}
-use Rattle.node_tree.specs.Reading.{KeepsFields as KeepsTree}
+use Rattle.node_tree.specs.Fetching.{CountsReads}
+use Rattle.node_tree.specs.Reading.{KeepsFields as KeepsTree, ReadsFew}
 use Rattle.node_tree.specs.Sheet.{Sheet}
 use Rattle.node_tree.specs.State.{Held}
 use Rattle.node_tree.specs.Unforged.{Unforged}
@@ -164,6 +165,14 @@ TakesNone (lines.Draw seat) = ⊤
 TakesNone (lines.Close seat) = ⊤
 TakesNone other = ⊥
 
+-- lines that take no random words
+abbrev pub TakesNoWords : ScriptLine → Type 0
+TakesNoWords lines.Blank = ⊤
+TakesNoWords (lines.Open seat name) = ⊤
+TakesNoWords (lines.View seat path) = ⊤
+TakesNoWords (lines.Read seat at count) = ⊤
+TakesNoWords other = ⊥
+
 -- lines that change a content
 abbrev pub IsChange : ScriptLine → Type 0
 IsChange (lines.Write seat at bytes) = ⊤
@@ -255,7 +264,7 @@ pub data IsAcceptance : Option SessionState → ScriptLine → Reply → Option 
   to_draw : (k : ℕ) (nonce : List ℕ) (old new : SessionState) → new ≡ record old { drawn = Some nonce } → IsAcceptance (Some old) (lines.Draw k) (replies.Drawn nonce) (Some new)
   to_close : (k : ℕ) (old : SessionState) → IsAcceptance (Some old) (lines.Close k) (replies.Closed old.broken) None
 
--- what a fault of the host or a damage leaves there
+-- what a fault of the host leaves there
 abbrev pub LeftAtFault : ScriptLine → Option SessionState → Option SessionState → Type 0
 LeftAtFault lines.Blank old new = ⊥
 LeftAtFault (lines.Create k name) old new = new ≡ old
@@ -269,6 +278,12 @@ LeftAtFault (lines.Flush k) old new = IsBrokenSession new
 LeftAtFault (lines.Move k name) old new = (new ≡ old) ⊎ IsBrokenSession new
 LeftAtFault (lines.Draw k) old new = ⊥
 LeftAtFault (lines.Close k) old new = new ≡ None
+
+-- what a damage leaves there: none is met where a file is made, and in a move only by calls that break the seat
+abbrev pub LeftAtDamage : ScriptLine → Option SessionState → Option SessionState → Type 0
+LeftAtDamage (lines.Create k name) old new = ⊥
+LeftAtDamage (lines.Move k name) old new = IsBrokenSession new
+LeftAtDamage other old new = LeftAtFault other old new
 
 -- what is left where a random word was wanting: steps that a `size` line had made stand
 abbrev pub LeftAtWords : ScriptLine → Option SessionState → Option SessionState → Type 0
@@ -288,10 +303,20 @@ LeftAtWords (lines.Close k) old new = new ≡ None
 -- What stands in the seat of a line after its reply, whatever is told or forged. A refusal leaves it, and takes no random words.
 abbrev pub LeavesSeat : ScriptLine → Reply → Option SessionState → Option SessionState → WordsState → WordsState → Type 0
 LeavesSeat line (replies.Refused why) old new random random' = (new ≡ old) × (random' ≡ random)
-LeavesSeat line (replies.DamagedNode damage) old new random random' = LeftAtFault line old new
+LeavesSeat line (replies.DamagedNode damage) old new random random' = LeftAtDamage line old new
 LeavesSeat line replies.HostFault old new random random' = LeftAtFault line old new
 LeavesSeat line replies.WordsFault old new random random' = LeftAtWords line old new
 LeavesSeat line other old new random random' = IsAcceptance old line other new
+
+-- What a line reads at most: a blank one, `view` and `draw` ask for nothing, an opening reads node 0 once, and a read each touched node that was not held.
+abbrev pub AsksFew : ScriptLine → Option SessionState → HostState → HostState → Type 0
+AsksFew lines.Blank old before after = after ≡ before
+AsksFew (lines.Open k name) old before after = CountsReads 1 before after
+AsksFew (lines.View k path) old before after = after ≡ before
+AsksFew (lines.Read k at count) None before after = after ≡ before
+AsksFew (lines.Read k at count) (Some session) before after = ReadsFew at (min count (session.tree.size - at)) session.tree before after
+AsksFew (lines.Draw k) old before after = after ≡ before
+AsksFew other old before after = ⊤
 
 abbrev pub WhereWanting : Result Reply Memory → Type 0 → Type 0
 WhereWanting (Ok reply) P = ⊤
@@ -308,6 +333,8 @@ pub record SeatGoes (key : List ℕ) (taken : Bool) (line : ScriptLine) (result 
   pub leaves : WhereReplied result (λ reply. LeavesSeat line reply old new random random')
   pub books : OnDisk before after (KeepsUnder (CoversSome old) (CoversSome new) (Concerns taken line old))
   pub counts : CountsReply result before after random random'
+  pub wordless : TakesNoWords line → random' ≡ random
+  pub few : AsksFew line old before after
   pub wants : WhereWanting result (SeatWants line old new before after random random')
   pub seated : IsSeatOf key new
   pub named : (name : Name) → HasItsName new name → Concerns taken line old name
@@ -324,6 +351,8 @@ pub record DeskGoes (line : ScriptLine) (result : Result Reply Memory) (old new 
   pub named : KeepsNames line old new
   pub spares : Spares (ConcernsDesk line old) before after
   pub counts : CountsReply result before after random random'
+  pub wordless : TakesNoWords line → random' ≡ random
+  pub few : (k : ℕ) → seat_of_line line ≡ Some k → AsksFew line (session_at old k) before after
   pub wants : WhereWanting result (Wants line old new before after random random')
 
 -- the closing of a seat after the last line: nothing is done for an empty one
