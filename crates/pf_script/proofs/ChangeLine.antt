@@ -3,7 +3,7 @@ use Rattle.std.proofs.Common.{◌≡◌, ◌⊎◌, inr, Bool, true, false, List
 use Rattle.std.specs.Prelude.{Contains}
 use Rattle.std.proofs.lemmas.List.{append-nil}
 use Rattle.node_layout.specs.declared.damage.Damage.{Damage}
-use Rattle.node_tree.specs.Applying.{Step}
+use Rattle.node_tree.specs.Applying.{Step, size_after}
 use Rattle.node_tree.specs.Sheet.{Sheet, IsLinked}
 use Rattle.node_tree.specs.declared.fault.TreeFault.{TreeFault}
 use Rattle.pf_io.specs.Disk.{Name}
@@ -253,7 +253,7 @@ module _ (key : List ℕ) (line : ScriptLine) (old new : SessionState) (whole : 
   module _ (before after : HostState) (random random' : WordsState) (aside : Aside old.name before after) (books : OnDisk before after (KeepsUnder (Covers old) (Covers new) (λ name. name ≡ old.name))) (seated : IsSeated key new) (name_is : new.name ≡ old.name)
       (takes : ¬ (TakesNone line)) (changes : IsChange line) (admits : Admits line old) (calm : (flushed : Bool) → (is_host_fault (replied flushed) ≡ false) × (is_words_fault (replied flushed) ≡ false))
       (so : (flushed : Bool) (seat : Seat) (given : List Answer) → NoneRefuses (rules key false seat line given) → Caused key false seat line given (replied flushed))
-      (accepts : (flushed : Bool) → new.broken ≡ false → LeavesSeat line (replied flushed) (Some old) (Some new) random random') where
+      (accepts : (flushed : Bool) → new.broken ≡ false → new.tree.size ≡ size_after step old.tree.size → LeavesSeat line (replied flushed) (Some old) (Some new) random random') where
     takes_few : TakesFew line (Some old) before after random random'
     takes_few = change_takes line changes (Some old) before after random random'
 
@@ -266,7 +266,7 @@ module _ (key : List ℕ) (line : ScriptLine) (old new : SessionState) (whole : 
           seen = seen_by given seen.words false false;
           was_seen = record { answers = refl; words = seen.taken; of_host = seen.on_host; of_words = seen.on_words };
           turns = whole_turns key false line (seen_by given seen.words false false) (replied flushed) old (Some new) given whole (went_turns given seen.words flushed told);
-        })) (passed_cause key line old passes before after (replied flushed) (so flushed) (Went flushed) seen.came) (accepts flushed (seen.leaves ∙ whole)) books seated name_is
+        })) (passed_cause key line old passes before after (replied flushed) (so flushed) (Went flushed) seen.came) (accepts flushed (seen.leaves.0 ∙ whole) seen.leaves.1) books seated name_is
     line_goes (Broke blame) seen breaks =
         goes_told key false line old before after random random' aside takes_few (flush_reply (fault_of blame))
         (subst (λ b. CountsFault b before.faults after.faults) (sym (host_reply blame)) seen.on_host, subst (λ b. CountsFault b random.faults random'.faults) (sym (words_reply blame)) seen.on_words) new

@@ -1,5 +1,5 @@
 -- What a line takes of the random words and asks of the host at most.
-use Rattle.std.proofs.Common.{◌≡◌, ◌+◌, ℕ, refl, subst, Option, Some, None, arith}
+use Rattle.std.proofs.Common.{◌≡◌, ℕ, refl, Option, Some, None, arith}
 use Rattle.node_tree.specs.Fetching.{CountsReads}
 use Rattle.pf_io.specs.Host.{HostState}
 use Rattle.pf_io.specs.Words.{WordsState}

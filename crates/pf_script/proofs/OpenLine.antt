@@ -307,7 +307,7 @@ module _ (key : List ℕ) (k : ℕ) (name : Name) (utf8 : IsUtf8 name) (before a
         asks = told_these (λ came. (sheets : List Sheet) → Unforged key sheets came → OnFirst sheets session came) (λ given. SeatAsks key false line (replies.Opened session.tree.size) None (Some session) given before after words words) came before after told first
             (λ on. record { seen = seen; was_seen = record { answers = refl; words = none_taken words; of_host = calm; of_words = refl }; turns = turns on });
         caused = record { given = came; told = told; caused = λ seat like. subst (λ (x : Seat). Caused key false x line came (replies.Opened session.tree.size)) (sym (like_none seat like)) none_here };
-        leaves = to_open k name session refl refl refl;
+        leaves = to_open k name session refl refl refl refl;
         books = both_weaker (KeepsUnder CoversNone (CoversMade {E = OpenFault} (Ok session)) (λ n. n ≡ name)) (KeepsUnder CoversNone (CoversSome (Some session)) (Concerns false line None)) before.honest after.honest
             (open_keeps key name before after (Ok session) goes either only)
             (λ a b keeps. keeps_more CoversNone (CoversSome (Some session)) (λ n. n ≡ name) (Concerns false line None) a b (concerns key line name refl) keeps);

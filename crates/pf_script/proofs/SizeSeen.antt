@@ -30,7 +30,7 @@ use Rattle.pf_script.specs.declared.reply.Reply.TheVariants as replies
 use Rattle.pf_script.proofs.ChangeKeeping.{change_keeps}
 use Rattle.pf_script.proofs.ChangeLine.{outcome_reply, change_seated}
 use Rattle.pf_script.proofs.ChangeTold.{Outcome, Went, Broke, Lacked, Wanted, outcome_of, flush_outcome, host_in, words_in, ChangeTold, OutcomeCame, came_after, LeftBy, ChangeSeen, seen_once, seen_unflushed, seen_after}
-use Rattle.pf_script.proofs.Flushed.{flush_case}
+use Rattle.pf_script.proofs.Flushed.{flush_case, flushed_size}
 use Rattle.pf_script.proofs.OfScript.{of_flushed}
 use Rattle.pf_script.proofs.Refusing.{none_taken}
 use Rattle.pf_script.proofs.SizeSet.{size_set}
@@ -97,11 +97,11 @@ LeftBySize size new (Broke blame) = new.broken ≡ true
 LeftBySize size new Lacked = new.broken ≡ false
 LeftBySize size new Wanted = Unit {0}
 
-failed_leaves : (size : ℕ) (old new : SessionState) → old.broken ≡ false → (outcome : Outcome) → ((flushed : Bool) → ¬ (outcome ≡ Went flushed)) → LeftBy old new outcome → LeftBySize size new outcome
-failed_leaves size old new whole (Went flushed) stays left = absurd (stays flushed refl)
-failed_leaves size old new whole (Broke blame) stays left = left
-failed_leaves size old new whole Lacked stays left = ap (λ (s : SessionState). s.broken) left ∙ whole
-failed_leaves size old new whole Wanted stays left = tt
+failed_leaves : (size n : ℕ) (old new : SessionState) → old.broken ≡ false → (outcome : Outcome) → ((flushed : Bool) → ¬ (outcome ≡ Went flushed)) → LeftBy (Size n) old new outcome → LeftBySize size new outcome
+failed_leaves size n old new whole (Went flushed) stays left = absurd (stays flushed refl)
+failed_leaves size n old new whole (Broke blame) stays left = left
+failed_leaves size n old new whole Lacked stays left = ap (λ (s : SessionState). s.broken) left ∙ whole
+failed_leaves size n old new whole Wanted stays left = tt
 
 module _ (key : List ℕ) (size : ℕ) (small : size ≤ 2 ^ 32) where
   module _ (n : ℕ) (result : Result Written SizeFault) (old new : SessionState) (before after : HostState) (random random' : WordsState) (seated : IsSeated key old) (next : IsNextSize size old.tree.size n) where
@@ -121,7 +121,7 @@ module _ (key : List ℕ) (size : ℕ) (small : size ≤ 2 ^ 32) where
         (seen_unflushed old seated.of_script (Size n) before after random random' new fault first (flush_case old seated.of_script new before after random random' (Err fault) flush)) (λ is. absurd (unflushed_wants fault is))
     set_seen (flushed_and_changed mid between one free some first flush steps said) =
         stepped_seen true mid between one some steps
-        (seen_after old seated.of_script (Size n) before after random random' mid new between one (of_flushed old mid seated.of_script (Ok tt) before between random random' flush) first
+        (seen_after old seated.of_script (Size n) before after random random' mid new between one (of_flushed old mid seated.of_script (Ok tt) before between random random' flush) (flushed_size old mid before between random random' flush) first
         (flush_case old seated.of_script mid before between random random' (Ok tt) flush) steps) said
 
   -- what is seen of all of it
@@ -206,7 +206,7 @@ module _ (key : List ℕ) (size : ℕ) (small : size ≤ 2 ^ 32) where
     told = told_weaker (λ given. ChangeTold (Size n) old new given seen.words outcome) (λ given. SizeTold size old new given seen.words outcome) before after seen.told
         (λ given told. told_change old new n given seen.words outcome next some (λ f is. absurd (stays f is)) told);
     came = seen.came;
-    leaves = failed_leaves size old new sets.whole outcome stays seen.leaves;
+    leaves = failed_leaves size n old new sets.whole outcome stays seen.leaves;
     breaks = breaks;
     seated_new = (set_seated n (Err fault) old new before after random random' seated sets).0;
     name_is = (set_seated n (Err fault) old new before after random random' seated sets).1;

@@ -1,5 +1,5 @@
 -- What a step of a desk comes to.
-use Rattle.std.specs.Prelude.{⊤, ◌≡◌, ◌≢◌, ◌⊎◌, ℕ, ◌+◌, ◌-◌, ◌<◌, min, Bool, true, false, List, [], ◌++◌, length, Contains, replicate, Option, Some, None, IsSomeAnd, Result, Ok, Err}
+use Rattle.std.specs.Prelude.{⊤, ◌≡◌, ◌≢◌, ◌⊎◌, ℕ, ◌+◌, ◌-◌, ◌<◌, min, max, Bool, true, false, List, [], ◌++◌, length, Contains, replicate, Option, Some, None, IsSomeAnd, Result, Ok, Err}
 use Rattle.node_tree.specs.Backing.{now}
 use Rattle.node_tree.specs.Fetching.{CountsReads}
 use Rattle.node_tree.specs.Reading.{KeepsFields as KeepsTree, ReadsFew}
@@ -253,14 +253,14 @@ pub record Wants (line : ScriptLine) (old new : DeskState) (before after : HostS
 
 -- what an accepted reply to a line leaves in its seat
 pub data IsAcceptance : Option SessionState → ScriptLine → Reply → Option SessionState → Type 0 where
-  to_create : (k : ℕ) (name : Name) (new : SessionState) → new.name ≡ name → new.broken ≡ false → new.tree.size ≡ 0 → IsAcceptance None (lines.Create k name) replies.Created (Some new)
-  to_open : (k : ℕ) (name : Name) (new : SessionState) → new.name ≡ name → new.broken ≡ false → new.changed ≡ false → IsAcceptance None (lines.Open k name) (replies.Opened new.tree.size) (Some new)
+  to_create : (k : ℕ) (name : Name) (new : SessionState) → new.name ≡ name → new.broken ≡ false → new.changed ≡ false → new.drawn ≡ None → new.tree.size ≡ 0 → IsAcceptance None (lines.Create k name) replies.Created (Some new)
+  to_open : (k : ℕ) (name : Name) (new : SessionState) → new.name ≡ name → new.broken ≡ false → new.changed ≡ false → new.drawn ≡ None → IsAcceptance None (lines.Open k name) (replies.Opened new.tree.size) (Some new)
   to_read : (k at count : ℕ) (bytes : List ℕ) (old new : SessionState) → length bytes ≡ min count (old.tree.size - at) → HoldsMore old new → IsAcceptance (Some old) (lines.Read k at count) (replies.Given bytes) (Some new)
-  to_write : (k at : ℕ) (bytes : List ℕ) (flushed : Bool) (old new : SessionState) → new.broken ≡ false → IsAcceptance (Some old) (lines.Write k at bytes) (replies.Written (length bytes) flushed) (Some new)
-  to_fill : (k at count byte : ℕ) (flushed : Bool) (old new : SessionState) → new.broken ≡ false → IsAcceptance (Some old) (lines.Fill k at count byte) (replies.Written count flushed) (Some new)
+  to_write : (k at : ℕ) (bytes : List ℕ) (flushed : Bool) (old new : SessionState) → new.broken ≡ false → new.tree.size ≡ max old.tree.size (at + length bytes) → IsAcceptance (Some old) (lines.Write k at bytes) (replies.Written (length bytes) flushed) (Some new)
+  to_fill : (k at count byte : ℕ) (flushed : Bool) (old new : SessionState) → new.broken ≡ false → new.tree.size ≡ max old.tree.size (at + count) → IsAcceptance (Some old) (lines.Fill k at count byte) (replies.Written count flushed) (Some new)
   to_size : (k n : ℕ) (old new : SessionState) → new.broken ≡ false → new.tree.size ≡ n → IsAcceptance (Some old) (lines.Size k n) (replies.Sized n) (Some new)
-  to_flush : (k : ℕ) (old new : SessionState) → new.broken ≡ false → new.changed ≡ false → IsAcceptance (Some old) (lines.Flush k) replies.Flushed (Some new)
-  to_move : (k : ℕ) (name : Name) (old new : SessionState) → new.name ≡ name → new.broken ≡ false → IsAcceptance (Some old) (lines.Move k name) replies.Moved (Some new)
+  to_flush : (k : ℕ) (old new : SessionState) → new.broken ≡ false → new.changed ≡ false → new.drawn ≡ None → new.tree.size ≡ old.tree.size → IsAcceptance (Some old) (lines.Flush k) replies.Flushed (Some new)
+  to_move : (k : ℕ) (name : Name) (old new : SessionState) → new.name ≡ name → new.broken ≡ false → new.changed ≡ false → new.tree.size ≡ old.tree.size → IsAcceptance (Some old) (lines.Move k name) replies.Moved (Some new)
   to_draw : (k : ℕ) (nonce : List ℕ) (old new : SessionState) → new ≡ record old { drawn = Some nonce } → IsAcceptance (Some old) (lines.Draw k) (replies.Drawn nonce) (Some new)
   to_close : (k : ℕ) (old : SessionState) → IsAcceptance (Some old) (lines.Close k) (replies.Closed old.broken) None
 
