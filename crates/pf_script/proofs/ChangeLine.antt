@@ -1,5 +1,5 @@
 -- A line on a seat that is one change of its session.
-use Rattle.std.proofs.Common.{◌≡◌, ◌⊎◌, inr, Bool, true, false, List, [], ◌∷◌, ◌++◌, ℕ, refl, sym, ◌∙◌, ap, subst, Some, Result, Ok, Err, length}
+use Rattle.std.proofs.Common.{◌≡◌, ◌⊎◌, inl, inr, Bool, true, false, List, [], ◌∷◌, ◌++◌, ℕ, refl, sym, ◌∙◌, ap, subst, Some, Result, Ok, Err, length}
 use Rattle.std.specs.Prelude.{Contains}
 use Rattle.std.proofs.lemmas.List.{append-nil}
 use Rattle.node_layout.specs.declared.damage.Damage.{Damage}
@@ -150,19 +150,19 @@ module _ (old new : SessionState) (random random' : WordsState) where
   broken_leaves line changes (ByDamage damage) broken = (fault_leaves line changes broken).1
 
   -- where a random word was wanting
-  lacked_leaves : (line : ScriptLine) → IsChange line → old.broken ≡ false → new ≡ old → LeftAtWords line (Some old) (Some new)
-  lacked_leaves lines.Blank changes whole same = absurd changes
-  lacked_leaves (lines.Create k name) changes whole same = absurd changes
-  lacked_leaves (lines.Open k name) changes whole same = absurd changes
-  lacked_leaves (lines.View k path) changes whole same = absurd changes
-  lacked_leaves (lines.Read k at count) changes whole same = absurd changes
-  lacked_leaves (lines.Write k at bytes) changes whole same = ap (λ (s : SessionState). Some s) same
-  lacked_leaves (lines.Fill k at count byte) changes whole same = ap (λ (s : SessionState). Some s) same
-  lacked_leaves (lines.Size k size) changes whole same = ap (λ (s : SessionState). s.broken) same ∙ whole
-  lacked_leaves (lines.Flush k) changes whole same = absurd changes
-  lacked_leaves (lines.Move k name) changes whole same = absurd changes
-  lacked_leaves (lines.Draw k) changes whole same = absurd changes
-  lacked_leaves (lines.Close k) changes whole same = absurd changes
+  lacked_leaves : (line : ScriptLine) → IsChange line → new ≡ old → LeftAtWords line (Some old) (Some new)
+  lacked_leaves lines.Blank changes same = absurd changes
+  lacked_leaves (lines.Create k name) changes same = absurd changes
+  lacked_leaves (lines.Open k name) changes same = absurd changes
+  lacked_leaves (lines.View k path) changes same = absurd changes
+  lacked_leaves (lines.Read k at count) changes same = absurd changes
+  lacked_leaves (lines.Write k at bytes) changes same = ap (λ (s : SessionState). Some s) same
+  lacked_leaves (lines.Fill k at count byte) changes same = ap (λ (s : SessionState). Some s) same
+  lacked_leaves (lines.Size k size) changes same = inl (ap (λ (s : SessionState). Some s) same)
+  lacked_leaves (lines.Flush k) changes same = absurd changes
+  lacked_leaves (lines.Move k name) changes same = absurd changes
+  lacked_leaves (lines.Draw k) changes same = absurd changes
+  lacked_leaves (lines.Close k) changes same = absurd changes
 
 -- The cause of a reply to a line of changes, where no rule refuses on a seat that is like the session.
 module _ (key : List ℕ) (line : ScriptLine) (old : SessionState) (passes : (own : OwnSeat) → IsLikeOwn own old → (given : List Answer) → NoneRefuses (rules key false (Own own) line given)) (before after : HostState) where
@@ -283,7 +283,7 @@ module _ (key : List ℕ) (line : ScriptLine) (old new : SessionState) (whole : 
           seen = seen_by given seen.words false true;
           was_seen = record { answers = refl; words = seen.taken; of_host = seen.on_host; of_words = seen.on_words };
           turns = whole_turns key false line (seen_by given seen.words false true) replies.WordsFault old (Some new) given whole (lacked_turns given seen.words told);
-        })) (passed_cause key line old passes before after replies.WordsFault (λ seat given free. free) Lacked seen.came) (lacked_leaves old new random random' line changes whole seen.leaves) books seated name_is
+        })) (passed_cause key line old passes before after replies.WordsFault (λ seat given free. free) Lacked seen.came) (lacked_leaves old new random random' line changes seen.leaves) books seated name_is
     line_goes Wanted seen breaks =
         goes_wanting key false line old before after random random' aside takes_few (record {}) new
         (record {

@@ -1,5 +1,5 @@
 -- The line `size`, from the contracts of the changes of size that it makes.
-use Rattle.std.proofs.Common.{◌≡◌, inr, Bool, true, false, List, [], ◌∷◌, ℕ, ◌^◌, ◌<◌, ◌≤◌, refl, sym, ◌∙◌, ap, subst, Some, Result, Ok, Err, length, arith}
+use Rattle.std.proofs.Common.{◌≡◌, ⊎_elim, inl, inr, Bool, true, false, List, [], ◌∷◌, ℕ, ◌^◌, ◌<◌, ◌≤◌, refl, sym, ◌∙◌, ap, subst, Some, Result, Ok, Err, length, arith}
 use Rattle.node_tree.specs.Applying.{Step}
 use Rattle.node_tree.specs.Backing.{now}
 use Rattle.node_tree.specs.Sheet.{Sheet}
@@ -122,8 +122,8 @@ module _ (key : List ℕ) (k size : ℕ) (small : size ≤ 2 ^ 32) (old new : Se
     came_as : (outcome : Outcome) → seen.outcome ≡ outcome → OutcomeCame old.name outcome before after
     came_as outcome is = subst (λ (o : Outcome). OutcomeCame old.name o before after) is seen.came
 
-    left_as : (outcome : Outcome) → seen.outcome ≡ outcome → LeftBySize size new outcome
-    left_as outcome is = subst (λ (o : Outcome). LeftBySize size new o) is seen.leaves
+    left_as : (outcome : Outcome) → seen.outcome ≡ outcome → LeftBySize size old new outcome
+    left_as outcome is = subst (λ (o : Outcome). LeftBySize size old new o) is seen.leaves
 
     by_outcome : (outcome : Outcome) → seen.outcome ≡ outcome → SeatGoes key false (lines.Size k size) (outcome_reply (sized size) outcome) (Some old) (Some new) before after random random'
     by_outcome (Went flushed) is =
@@ -172,7 +172,7 @@ module _ (key : List ℕ) (k size : ℕ) (small : size ≤ 2 ^ 32) (old new : Se
           };
           turns = whole_turns key false (lines.Size k size) (seen_by given seen.words false true) replies.WordsFault old (Some new) given whole
               (lacked_turns given seen.words (subst (λ (o : Outcome). SizeTold size old new given seen.words o) is told));
-        })) (passed_cause key (lines.Size k size) old like_passes before after replies.WordsFault (λ seat given free. free) Lacked (came_as Lacked is)) (left_as Lacked is) seen.books seen.seated_new seen.name_is
+        })) (passed_cause key (lines.Size k size) old like_passes before after replies.WordsFault (λ seat given free. free) Lacked (came_as Lacked is)) (⊎_elim (λ same. inl (ap (λ (s : SessionState). Some s) same)) (λ grew. inr grew) (left_as Lacked is)) seen.books seen.seated_new seen.name_is
     by_outcome Wanted is =
         goes_wanting key false (lines.Size k size) old before after random random' seen.aside (λ none. absurd none, tt) (record {}) new
         (record {

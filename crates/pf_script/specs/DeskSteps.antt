@@ -1,5 +1,5 @@
 -- What a step of a desk comes to.
-use Rattle.std.specs.Prelude.{⊤, ◌≡◌, ◌≢◌, ◌⊎◌, ℕ, ◌+◌, ◌-◌, ◌<◌, min, max, Bool, true, false, List, [], ◌++◌, length, Contains, replicate, Option, Some, None, IsSomeAnd, Result, Ok, Err}
+use Rattle.std.specs.Prelude.{⊤, ◌≡◌, ◌≢◌, ◌⊎◌, ℕ, ◌+◌, ◌-◌, ◌*◌, ◌<◌, min, max, Bool, true, false, List, [], ◌++◌, length, Contains, replicate, Option, Some, None, IsSomeAnd, Result, Ok, Err}
 use Rattle.node_tree.specs.Backing.{now}
 use Rattle.node_tree.specs.Fetching.{CountsReads}
 use Rattle.node_tree.specs.Reading.{KeepsFields as KeepsTree, ReadsFew}
@@ -24,6 +24,7 @@ use Rattle.pf_script.specs.BookSeats.{Covering, Covers, CoversOn, CoversNone, Ke
 use Rattle.pf_script.specs.Desk.{DeskState, session_at, IsSeatOf, IsLike, IsLikeDesk, Shows, IsStateOf}
 use Rattle.pf_script.specs.Rules.{NoneRefuses, rules}
 use Rattle.pf_script.specs.Script.{Seat, ScriptState, sheets_of, seat_of_line, name_of_line}
+use Rattle.pf_script.specs.SeatSteps.{PIECE}
 use Rattle.pf_script.specs.Turns.{Seen, SeatTurn, Caused, CausedIn, Turn, on_carried}
 use Rattle.pf_script.specs.declared.line.ScriptLine.{ScriptLine}
 use Rattle.pf_script.specs.declared.line.ScriptLine.TheVariants as lines
@@ -285,6 +286,19 @@ LeftAtDamage (lines.Create k name) old new = ⊥
 LeftAtDamage (lines.Move k name) old new = IsBrokenSession new
 LeftAtDamage other old new = LeftAtFault other old new
 
+-- a session that grew by some steps of a piece, with more to come
+pub record Grown (n : ℕ) (old new : SessionState) : Type 0 where
+  pub whole : new.broken ≡ false
+  pub steps : ℕ
+  pub grown : new.tree.size ≡ old.tree.size + steps * PIECE
+  pub some : 0 < steps
+  pub more : new.tree.size < n
+
+abbrev pub GrewTo : ℕ → Option SessionState → Option SessionState → Type 0
+GrewTo n (Some old) (Some new) = Grown n old new
+GrewTo n (Some old) None = ⊥
+GrewTo n None new = ⊥
+
 -- what is left where a random word was wanting: steps that a `size` line had made stand
 abbrev pub LeftAtWords : ScriptLine → Option SessionState → Option SessionState → Type 0
 LeftAtWords lines.Blank old new = ⊥
@@ -294,7 +308,7 @@ LeftAtWords (lines.View k path) old new = ⊥
 LeftAtWords (lines.Read k at count) old new = ⊥
 LeftAtWords (lines.Write k at bytes) old new = new ≡ old
 LeftAtWords (lines.Fill k at count byte) old new = new ≡ old
-LeftAtWords (lines.Size k n) old new = IsSomeAnd new (λ session. session.broken ≡ false)
+LeftAtWords (lines.Size k n) old new = (new ≡ old) ⊎ GrewTo n old new
 LeftAtWords (lines.Flush k) old new = new ≡ old
 LeftAtWords (lines.Move k name) old new = new ≡ old
 LeftAtWords (lines.Draw k) old new = new ≡ old
