@@ -28,5 +28,7 @@ blank_goes desk host words = record {
   named = λ k name has. inl has;
   spares = spares_none (ConcernsDesk lines.Blank desk) host;
   counts = (refl, refl);
+  wordless = λ wordless. refl;
+  few = λ k none. absurd (cc);
   wants = tt;
 }

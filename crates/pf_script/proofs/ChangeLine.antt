@@ -1,9 +1,9 @@
 -- A line on a seat that is one change of its session.
-use Rattle.std.proofs.Common.{◌≡◌, ◌⊎◌, inr, Bool, true, false, List, [], ◌∷◌, ◌++◌, ℕ, refl, sym, ◌∙◌, ap, subst, Some, Result, Ok, Err, length}
+use Rattle.std.proofs.Common.{◌≡◌, ◌⊎◌, inl, inr, Bool, true, false, List, [], ◌∷◌, ◌++◌, ℕ, refl, sym, ◌∙◌, ap, subst, Some, Result, Ok, Err, length}
 use Rattle.std.specs.Prelude.{Contains}
 use Rattle.std.proofs.lemmas.List.{append-nil}
 use Rattle.node_layout.specs.declared.damage.Damage.{Damage}
-use Rattle.node_tree.specs.Applying.{Step}
+use Rattle.node_tree.specs.Applying.{Step, size_after}
 use Rattle.node_tree.specs.Sheet.{Sheet, IsLinked}
 use Rattle.node_tree.specs.declared.fault.TreeFault.{TreeFault}
 use Rattle.pf_io.specs.Disk.{Name}
@@ -19,7 +19,7 @@ use Rattle.pf_session.specs.declared.fault.FlushFault.{FlushFault}
 use Rattle.pf_session.specs.declared.fault.Written.{Written}
 use Rattle.pf_script.specs.BookSeats.{Covers, KeepsUnder}
 use Rattle.pf_script.specs.Desk.{IsSeated, seat_on, IsLikeOwn}
-use Rattle.pf_script.specs.DeskSteps.{in_the_end, CountsFault, SeatAsks, SeatCaused, IsChange, TakesNone, FlushesUnder, Admits, LeftAtFault, LeftAtWords, SeatGoes, is_host_fault, is_words_fault, LeavesSeat}
+use Rattle.pf_script.specs.DeskSteps.{in_the_end, CountsFault, SeatAsks, SeatCaused, IsChange, TakesNone, FlushesUnder, Admits, LeftAtFault, LeftAtDamage, LeftAtWords, SeatGoes, is_host_fault, is_words_fault, LeavesSeat}
 use Rattle.pf_script.specs.Rules.{NoneRefuses, rules}
 use Rattle.pf_script.specs.Script.{OwnSeat, Seat, Own}
 use Rattle.pf_script.specs.SeatReplies.{flush_reply}
@@ -31,6 +31,7 @@ use Rattle.pf_script.specs.declared.reply.Reply.{Reply}
 use Rattle.pf_script.specs.declared.reply.Reply.TheVariants as replies
 use Rattle.pf_script.proofs.ChangeEnds.{change_ends}
 use Rattle.pf_script.proofs.ChangeTold.{Grew, Outcome, Went, Broke, Lacked, Wanted, ChangeTold, OutcomeCame, ChangeSeen}
+use Rattle.pf_script.proofs.FewAsked.{TakesFew, change_takes}
 use Rattle.pf_script.proofs.Flushed.{FlushCase, lacked, failed, done, flush_case, host_blamed, fault_of}
 use Rattle.pf_script.proofs.Liking.{like_on, like_some}
 use Rattle.pf_script.proofs.OfScript.{of_changed}
@@ -131,38 +132,38 @@ change_damage key seat (lines.Close k) given damage changes comes = absurd chang
 
 -- what a change that failed leaves in its seat
 module _ (old new : SessionState) (random random' : WordsState) where
-  fault_leaves : (line : ScriptLine) → IsChange line → new.broken ≡ true → LeftAtFault line (Some old) (Some new)
+  fault_leaves : (line : ScriptLine) → IsChange line → new.broken ≡ true → LeftAtFault line (Some old) (Some new) × LeftAtDamage line (Some old) (Some new)
   fault_leaves lines.Blank changes broken = absurd changes
   fault_leaves (lines.Create k name) changes broken = absurd changes
   fault_leaves (lines.Open k name) changes broken = absurd changes
   fault_leaves (lines.View k path) changes broken = absurd changes
   fault_leaves (lines.Read k at count) changes broken = absurd changes
-  fault_leaves (lines.Write k at bytes) changes broken = broken
-  fault_leaves (lines.Fill k at count byte) changes broken = broken
-  fault_leaves (lines.Size k size) changes broken = broken
+  fault_leaves (lines.Write k at bytes) changes broken = (broken, broken)
+  fault_leaves (lines.Fill k at count byte) changes broken = (broken, broken)
+  fault_leaves (lines.Size k size) changes broken = (broken, broken)
   fault_leaves (lines.Flush k) changes broken = absurd changes
   fault_leaves (lines.Move k name) changes broken = absurd changes
   fault_leaves (lines.Draw k) changes broken = absurd changes
   fault_leaves (lines.Close k) changes broken = absurd changes
 
   pub broken_leaves : (line : ScriptLine) → IsChange line → (blame : Blame) → new.broken ≡ true → LeavesSeat line (flush_reply (fault_of blame)) (Some old) (Some new) random random'
-  broken_leaves line changes ByHost broken = fault_leaves line changes broken
-  broken_leaves line changes (ByDamage damage) broken = fault_leaves line changes broken
+  broken_leaves line changes ByHost broken = (fault_leaves line changes broken).0
+  broken_leaves line changes (ByDamage damage) broken = (fault_leaves line changes broken).1
 
   -- where a random word was wanting
-  lacked_leaves : (line : ScriptLine) → IsChange line → old.broken ≡ false → new ≡ old → LeftAtWords line (Some old) (Some new)
-  lacked_leaves lines.Blank changes whole same = absurd changes
-  lacked_leaves (lines.Create k name) changes whole same = absurd changes
-  lacked_leaves (lines.Open k name) changes whole same = absurd changes
-  lacked_leaves (lines.View k path) changes whole same = absurd changes
-  lacked_leaves (lines.Read k at count) changes whole same = absurd changes
-  lacked_leaves (lines.Write k at bytes) changes whole same = ap (λ (s : SessionState). Some s) same
-  lacked_leaves (lines.Fill k at count byte) changes whole same = ap (λ (s : SessionState). Some s) same
-  lacked_leaves (lines.Size k size) changes whole same = ap (λ (s : SessionState). s.broken) same ∙ whole
-  lacked_leaves (lines.Flush k) changes whole same = absurd changes
-  lacked_leaves (lines.Move k name) changes whole same = absurd changes
-  lacked_leaves (lines.Draw k) changes whole same = absurd changes
-  lacked_leaves (lines.Close k) changes whole same = absurd changes
+  lacked_leaves : (line : ScriptLine) → IsChange line → new ≡ old → LeftAtWords line (Some old) (Some new)
+  lacked_leaves lines.Blank changes same = absurd changes
+  lacked_leaves (lines.Create k name) changes same = absurd changes
+  lacked_leaves (lines.Open k name) changes same = absurd changes
+  lacked_leaves (lines.View k path) changes same = absurd changes
+  lacked_leaves (lines.Read k at count) changes same = absurd changes
+  lacked_leaves (lines.Write k at bytes) changes same = ap (λ (s : SessionState). Some s) same
+  lacked_leaves (lines.Fill k at count byte) changes same = ap (λ (s : SessionState). Some s) same
+  lacked_leaves (lines.Size k size) changes same = inl (ap (λ (s : SessionState). Some s) same)
+  lacked_leaves (lines.Flush k) changes same = absurd changes
+  lacked_leaves (lines.Move k name) changes same = absurd changes
+  lacked_leaves (lines.Draw k) changes same = absurd changes
+  lacked_leaves (lines.Close k) changes same = absurd changes
 
 -- The cause of a reply to a line of changes, where no rule refuses on a seat that is like the session.
 module _ (key : List ℕ) (line : ScriptLine) (old : SessionState) (passes : (own : OwnSeat) → IsLikeOwn own old → (given : List Answer) → NoneRefuses (rules key false (Own own) line given)) (before after : HostState) where
@@ -253,19 +254,22 @@ module _ (key : List ℕ) (line : ScriptLine) (old new : SessionState) (whole : 
   module _ (before after : HostState) (random random' : WordsState) (aside : Aside old.name before after) (books : OnDisk before after (KeepsUnder (Covers old) (Covers new) (λ name. name ≡ old.name))) (seated : IsSeated key new) (key_is : new.key ≡ old.key) (name_is : new.name ≡ old.name)
       (takes : ¬ (TakesNone line)) (changes : IsChange line) (admits : Admits line old) (calm : (flushed : Bool) → (is_host_fault (replied flushed) ≡ false) × (is_words_fault (replied flushed) ≡ false))
       (so : (flushed : Bool) (seat : Seat) (given : List Answer) → NoneRefuses (rules key false seat line given) → Caused key false seat line given (replied flushed))
-      (accepts : (flushed : Bool) → new.broken ≡ false → LeavesSeat line (replied flushed) (Some old) (Some new) random random') where
+      (accepts : (flushed : Bool) → new.broken ≡ false → new.tree.size ≡ size_after step old.tree.size → LeavesSeat line (replied flushed) (Some old) (Some new) random random') where
+    takes_few : TakesFew line (Some old) before after random random'
+    takes_few = change_takes line changes (Some old) before after random random'
+
     pub line_goes : (outcome : Outcome) → ChangeSeen step old new outcome before after random random' → (outcome ≡ Wanted → (new.broken ≡ true) × OnDisk before after (FlushesUnder line old)) → SeatGoes key false line (outcome_reply replied outcome) (Some old) (Some new) before after random random'
     line_goes (Went flushed) seen breaks =
-        goes_told key false line old before after random random' aside (replied flushed)
+        goes_told key false line old before after random random' aside takes_few (replied flushed)
         (subst (λ b. CountsFault b before.faults after.faults) (sym (calm flushed).0) seen.on_host, subst (λ b. CountsFault b random.faults random'.faults) (sym (calm flushed).1) seen.on_words) new
         (told_weaker (λ given. ChangeTold step old new given seen.words (Went flushed)) (λ given. SeatAsks key false line (replied flushed) (Some old) (Some new) given before after random random') before after seen.told
         (λ given told. record {
           seen = seen_by given seen.words false false;
           was_seen = record { answers = refl; words = seen.taken; of_host = seen.on_host; of_words = seen.on_words };
           turns = whole_turns key false line (seen_by given seen.words false false) (replied flushed) old (Some new) given whole (went_turns given seen.words flushed told);
-        })) (passed_cause key line old passes before after (replied flushed) (so flushed) (Went flushed) seen.came) (accepts flushed (seen.leaves ∙ whole)) books seated name_is
+        })) (passed_cause key line old passes before after (replied flushed) (so flushed) (Went flushed) seen.came) (accepts flushed (seen.leaves.0 ∙ whole) seen.leaves.1) books seated name_is
     line_goes (Broke blame) seen breaks =
-        goes_told key false line old before after random random' aside (flush_reply (fault_of blame))
+        goes_told key false line old before after random random' aside takes_few (flush_reply (fault_of blame))
         (subst (λ b. CountsFault b before.faults after.faults) (sym (host_reply blame)) seen.on_host, subst (λ b. CountsFault b random.faults random'.faults) (sym (words_reply blame)) seen.on_words) new
         (told_weaker (λ given. ChangeTold step old new given seen.words (Broke blame)) (λ given. SeatAsks key false line (flush_reply (fault_of blame)) (Some old) (Some new) given before after random random') before after seen.told
         (λ given told. record {
@@ -274,15 +278,15 @@ module _ (key : List ℕ) (line : ScriptLine) (old new : SessionState) (whole : 
           turns = whole_turns key false line (seen_by given seen.words (host_blamed blame) false) (flush_reply (fault_of blame)) old (Some new) given whole (broke_turns given seen.words blame told);
         })) (broken_cause key line old passes before after changes blame seen.came) (broken_leaves old new random random' line changes blame seen.leaves) books seated name_is
     line_goes Lacked seen breaks =
-        goes_told key false line old before after random random' aside replies.WordsFault (seen.on_host, seen.on_words) new
+        goes_told key false line old before after random random' aside takes_few replies.WordsFault (seen.on_host, seen.on_words) new
         (told_weaker (λ given. ChangeTold step old new given seen.words Lacked) (λ given. SeatAsks key false line replies.WordsFault (Some old) (Some new) given before after random random') before after seen.told
         (λ given told. record {
           seen = seen_by given seen.words false true;
           was_seen = record { answers = refl; words = seen.taken; of_host = seen.on_host; of_words = seen.on_words };
           turns = whole_turns key false line (seen_by given seen.words false true) replies.WordsFault old (Some new) given whole (lacked_turns given seen.words told);
-        })) (passed_cause key line old passes before after replies.WordsFault (λ seat given free. free) Lacked seen.came) (lacked_leaves old new random random' line changes whole seen.leaves) books seated name_is
+        })) (passed_cause key line old passes before after replies.WordsFault (λ seat given free. free) Lacked seen.came) (lacked_leaves old new random random' line changes seen.leaves) books seated name_is
     line_goes Wanted seen breaks =
-        goes_wanting key false line old before after random random' aside (record {}) new
+        goes_wanting key false line old before after random random' aside takes_few (record {}) new
         (record {
           takes = takes;
           shows = shows_broken key old new before after (λ given. ChangeTold step old new given seen.words Wanted) seen.told (breaks refl).0 key_is name_is;

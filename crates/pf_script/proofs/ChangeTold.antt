@@ -2,7 +2,7 @@
 use Rattle.std.proofs.Common.{◌≡◌, ◌⊎◌, inl, inr, Bool, true, false, List, [], ◌∷◌, ◌++◌, ℕ, ◌*◌, refl, sym, ◌∙◌, ap, subst, None, Result, Ok, Err}
 use Rattle.std.proofs.lemmas.List.Elements.{Contains-append_left, Contains-append_right}
 use Rattle.node_layout.specs.declared.damage.Damage.{Damage}
-use Rattle.node_tree.specs.Applying.{Step}
+use Rattle.node_tree.specs.Applying.{Step, size_after}
 use Rattle.node_tree.specs.Sheet.{Sheet}
 use Rattle.node_tree.specs.State.{TreeState}
 use Rattle.node_tree.specs.declared.fault.TreeFault.{TreeFault}
@@ -73,11 +73,11 @@ pub record OutcomeCame (name : Name) (outcome : Outcome) (before after : HostSta
   pub comes : Comes name these outcome
 
 -- what it leaves of the session
-abbrev pub LeftBy : SessionState → SessionState → Outcome → Type 0
-LeftBy old new (Went flushed) = new.broken ≡ old.broken
-LeftBy old new (Broke blame) = new.broken ≡ true
-LeftBy old new Lacked = new ≡ old
-LeftBy old new Wanted = Unit {0}
+abbrev pub LeftBy : Step → SessionState → SessionState → Outcome → Type 0
+LeftBy step old new (Went flushed) = (new.broken ≡ old.broken) × (new.tree.size ≡ size_after step old.tree.size)
+LeftBy step old new (Broke blame) = new.broken ≡ true
+LeftBy step old new Lacked = new ≡ old
+LeftBy step old new Wanted = Unit {0}
 
 -- what is seen of it
 pub record ChangeSeen (step : Step) (old new : SessionState) (outcome : Outcome) (before after : HostState) (random random' : WordsState) : Type 0 where
@@ -87,7 +87,7 @@ pub record ChangeSeen (step : Step) (old new : SessionState) (outcome : Outcome)
   pub on_words : CountsFault (words_in outcome) random.faults random'.faults
   pub told : WhereTold before after (λ given. ChangeTold step old new given words outcome)
   pub came : OutcomeCame old.name outcome before after
-  pub leaves : LeftBy old new outcome
+  pub leaves : LeftBy step old new outcome
 
 pub host_same : (flushed : Bool) (one : Result (Unit {0}) TreeFault) → host_of one ≡ host_in (outcome_of flushed one)
 host_same flushed (Ok ok) = refl
@@ -150,11 +150,11 @@ step_came old mine new one step before after goes flushed (Err (trees.Damaged da
 step_came old mine new one step before after goes flushed (Err trees.Host) is = record { these = goes.steps.these; told = goes.steps.answered.told; comes = tt }
 step_came old mine new one step before after goes flushed (Err trees.Memory) is = record { these = goes.steps.these; told = goes.steps.answered.told; comes = tt }
 
-step_leaves : (flushed : Bool) (one : Result (Unit {0}) TreeFault) (old mid new : SessionState) → mid.broken ≡ old.broken → StepState one mid new → LeftBy old new (outcome_of flushed one)
-step_leaves flushed (Ok ok) old mid new same state = ap (λ (s : SessionState). s.broken) state ∙ same
-step_leaves flushed (Err (trees.Damaged damage)) old mid new same state = ap (λ (s : SessionState). s.broken) state
-step_leaves flushed (Err trees.Host) old mid new same state = ap (λ (s : SessionState). s.broken) state
-step_leaves flushed (Err trees.Memory) old mid new same state = tt
+step_leaves : (flushed : Bool) (one : Result (Unit {0}) TreeFault) (step : Step) (old mid new : SessionState) (before after : HostState) → mid.broken ≡ old.broken → mid.tree.size ≡ old.tree.size → StepGoes one step mid new before after → LeftBy step old new (outcome_of flushed one)
+step_leaves flushed (Ok ok) step old mid new before after same size_is goes = (ap (λ (s : SessionState). s.broken) goes.state ∙ same, goes.steps.ends.size ∙ ap (size_after step) (ap (λ (t : TreeState). t.size) goes.steps.rest ∙ size_is))
+step_leaves flushed (Err (trees.Damaged damage)) step old mid new before after same size_is goes = ap (λ (s : SessionState). s.broken) goes.state
+step_leaves flushed (Err trees.Host) step old mid new before after same size_is goes = ap (λ (s : SessionState). s.broken) goes.state
+step_leaves flushed (Err trees.Memory) step old mid new before after same size_is goes = tt
 
 -- of a flush that failed
 flush_comes : (name : Name) (these : List Answer) (blame : Blame) → BlamesFlush name these blame → Comes name these (Broke blame)
@@ -170,7 +170,7 @@ module _ (old : SessionState) (mine : IsOfScript old) (step : Step) (before afte
     on_words = subst (λ b. CountsFault b random.faults random'.faults) (sym (calm_words false one)) (ap (λ (w : WordsState). w.faults) same);
     told = told_weaker (StepFacts one step old new) (λ given. ChangeTold step old new given [] (outcome_of false one)) before after (step_told old mine new one step before after goes one refl) (λ given facts. told_once one roomy refl facts goes.state);
     came = step_came old mine new one step before after goes false one refl;
-    leaves = step_leaves false one old old new refl goes.state;
+    leaves = step_leaves false one step old old new before after refl refl goes;
   }
 
   pub seen_unflushed : (new : SessionState) (fault : FlushFault) → IsFlushedFirst step old.tree → FlushCase (Err fault) old new before after random random' → ChangeSeen step old new (flush_outcome fault) before after random random'
@@ -199,11 +199,11 @@ module _ (old : SessionState) (mine : IsOfScript old) (step : Step) (before afte
       }))
   seen_unflushed new fault first (done these words seen seals same dirty said) = absurd (cc)
 
-  pub seen_after : (mid new : SessionState) (between : HostState) (one : Result (Unit {0}) TreeFault) → IsOfScript mid → IsFlushedFirst step old.tree → FlushCase (Ok tt) old mid before between random random' → StepGoes one step mid new between after
+  pub seen_after : (mid new : SessionState) (between : HostState) (one : Result (Unit {0}) TreeFault) → IsOfScript mid → mid.tree.size ≡ old.tree.size → IsFlushedFirst step old.tree → FlushCase (Ok tt) old mid before between random random' → StepGoes one step mid new between after
       → ChangeSeen step old new (outcome_of true one) before after random random'
-  seen_after mid new between one of_mid first (lacked words fewer seen same stays said) goes = absurd (cc)
-  seen_after mid new between one of_mid first (failed blame these words seen blames seals key_is name_is broken said) goes = absurd (cc)
-  seen_after mid new between one of_mid first (done these words seen seals same dirty said) goes = record {
+  seen_after mid new between one of_mid size_is first (lacked words fewer seen same stays said) goes = absurd (cc)
+  seen_after mid new between one of_mid size_is first (failed blame these words seen blames seals key_is name_is broken said) goes = absurd (cc)
+  seen_after mid new between one of_mid size_is first (done these words seen seals same dirty said) goes = record {
     words = words;
     taken = seen.taken;
     on_host = subst (λ b. CountsFault b before.faults after.faults) (host_same true one) (subst (λ n. CountsFault (host_of one) n after.faults) seen.on_host (counts_of one between.faults after.faults goes.cause));
@@ -212,7 +212,7 @@ module _ (old : SessionState) (mine : IsOfScript old) (step : Step) (before afte
         (told_by (λ given. given ≡ these) these before between seen.told refl) (step_told mid of_mid new one step between after goes one refl)
         (λ first_ones those is facts. told_after mid one these those (ap (λ (l : List Answer). l ++ those) is) first seals same dirty facts goes.state);
     came = came_after old.name mid.name these (outcome_of true one) before between after (ap (λ (s : SessionState). s.name) same) seen.told (step_came mid of_mid new one step between after goes true one refl);
-    leaves = step_leaves true one old mid new (ap (λ (s : SessionState). s.broken) same) goes.state;
+    leaves = step_leaves true one step old mid new between after (ap (λ (s : SessionState). s.broken) same) size_is goes;
   }
 
 -- the sheets after a change: one more, where it flushed

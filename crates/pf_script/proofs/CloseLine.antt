@@ -110,15 +110,15 @@ module _ (key : List ℕ) (k : ℕ) (old : SessionState) where
         → SeatGoes key false (lines.Close k) (Ok (close_result false result)) (Some old) None before after random random'
     by_case result mid whole was_changed (lacked words fewer seen same stays said) =
         subst (λ (r : Result (Unit {0}) FlushFault). SeatGoes key false (lines.Close k) (Ok (close_result false r)) (Some old) None before after random random') (sym said)
-        (goes_out key false (lines.Close k) replies.WordsFault old before after random random' aside [] words false true seen refl refl
+        (goes_out key false (lines.Close k) replies.WordsFault old before after random random' aside (λ none. absurd none, tt) [] words false true seen refl refl
         (whole_turns key false (lines.Close k) (seen_by [] words false true) replies.WordsFault old None [] whole (lacked_turns whole was_changed words fewer)) passes_like refl books)
     by_case result mid whole was_changed (failed blame these words seen blames seals key_is name_is broken said) =
         subst (λ (r : Result (Unit {0}) FlushFault). SeatGoes key false (lines.Close k) (Ok (close_result false r)) (Some old) None before after random random') (sym said)
-        (goes_out key false (lines.Close k) (flush_reply (fault_of blame)) old before after random random' aside these words (host_blamed blame) false seen (host_reply blame) (words_reply blame)
+        (goes_out key false (lines.Close k) (flush_reply (fault_of blame)) old before after random random' aside (λ none. absurd none, tt) these words (host_blamed blame) false seen (host_reply blame) (words_reply blame)
         (whole_turns key false (lines.Close k) (seen_by these words (host_blamed blame) false) (flush_reply (fault_of blame)) old None these whole (failed_turns whole was_changed these words blame seals blames)) (failed_caused these blame blames) (failed_leaves blame) books)
     by_case result mid whole was_changed (done these words seen seals same dirty said) =
         subst (λ (r : Result (Unit {0}) FlushFault). SeatGoes key false (lines.Close k) (Ok (close_result false r)) (Some old) None before after random random') (sym said)
-        (goes_out key false (lines.Close k) (replies.Closed false) old before after random random' aside these words false false seen refl refl
+        (goes_out key false (lines.Close k) (replies.Closed false) old before after random random' aside (λ none. absurd none, tt) these words false false seen refl refl
         (whole_turns key false (lines.Close k) (seen_by these words false false) (replies.Closed false) old None these whole (done_turns whole was_changed mid these words seals)) passes_like
         (subst (λ (b : Bool). LeavesSeat (lines.Close k) (replies.Closed b) (Some old) None random random') whole (to_close k old)) books)
 
@@ -132,7 +132,7 @@ close_goes key k old result before after random random' seated goes aside reads 
     by_end : CloseGoes result old before after random random' → SeatGoes key false (lines.Close k) (Ok (close_result old.broken result)) (Some old) None before after random random'
     by_end (let_go why stays same said) =
         subst (λ (r : Result (Unit {0}) FlushFault). SeatGoes key false (lines.Close k) (Ok (close_result old.broken r)) (Some old) None before after random random') (sym said)
-        (goes_out key false (lines.Close k) (replies.Closed old.broken) old before after random random' aside [] [] false false
+        (goes_out key false (lines.Close k) (replies.Closed old.broken) old before after random random' aside (λ none. absurd none, tt) [] [] false false
         (record {
           told = told_none before after (ap (λ (h : HostState). h.given) stays);
           taken = subst (λ (w : WordsState). Both random.left w.left (AreTaken [])) (sym same) (none_taken random);

@@ -187,21 +187,21 @@ module _ (key : List ℕ) (k : ℕ) (name : Name) (utf8 : IsUtf8 name) (before a
       let turn : (standing : Standing) (given : List Answer) → SeatTurn standing key false Empty line (seen_by given [] false false) (replies.Refused whys.BadName) [] Empty = λ standing given.
       refused whys.BadName (first given) (record { host = refl; random = refl }) refl refl refl refl in
       subst (λ (r : Result SessionState CreateFault). Both (create_result name r) (made_seat r)) (sym said)
-      (empty_idle key line name refl before after random random' (replies.Refused whys.BadName) [] [] false false (stays_so stays)
+      (empty_idle key line name refl before after random random' (λ none. absurd none, tt) (replies.Refused whys.BadName) [] [] false false (stays_so stays)
       (record { told = told_none before after (ap (λ (h : HostState). h.given) stays); taken = none_taken_now same; on_host = ap (λ (h : HostState). h.faults) stays; on_words = ap (λ (w : WordsState). w.faults) same }) refl refl (λ standing. turn standing []) (first []) (refl, same)
       (λ a is calm. turn (stands_on key (reading a.now)) (answers_of (reading a.now) line)))
   by_case result aside reads keeps (no_memory good stays same said) =
       subst (λ (r : Result SessionState CreateFault). Both (create_result name r) (made_seat r)) (sym said)
       (record {
         goes = empty_wants key line name refl None before after random random'
-            (both_weaker Unchanged (KeepsUnder CoversNone CoversNone (λ n. n ≡ name)) before.honest after.honest (stays_so stays) (λ a b only. only_reads CoversNone a b (λ n. n ≡ name) only)) (spares_given key line name refl before after aside) tt (λ n none. absurd none)
+            (both_weaker Unchanged (KeepsUnder CoversNone CoversNone (λ n. n ≡ name)) before.honest after.honest (stays_so stays) (λ a b only. only_reads CoversNone a b (λ n. n ≡ name) only)) (spares_given key line name refl before after aside) tt (λ n none. absurd none) (λ none. absurd none, tt)
             (λ takes. takes) refl (stays_so stays) (ap (λ (h : HostState). h.faults) stays) same (told_by (λ given. Unit {0}) [] before after (told_none before after (ap (λ (h : HostState). h.given) stays)) tt);
         booked = tt;
       })
   by_case result aside reads keeps (look_up_failed good fails same said) =
       let none : NoneRefuses (rules key false Empty line []) = seat_none (naming_rules name []) (naming_none name [] good.is_target (λ size. none_contained)) in
       subst (λ (r : Result SessionState CreateFault). Both (create_result name r) (made_seat r)) (sym said)
-      (empty_idle key line name refl before after random random' replies.HostFault [] [] true false fails.disk
+      (empty_idle key line name refl before after random random' (λ none. absurd none, tt) replies.HostFault [] [] true false fails.disk
       (record { told = fails.asked.asked.told; taken = none_taken_now same; on_host = fails.asked.asked.faults; on_words = ap (λ (w : WordsState). w.faults) same }) refl refl
       (λ standing. host_failed none (record { host = refl; random = refl }) (not_asked k name refl) refl) none refl (λ a is calm. absurd (no_host_fault calm)))
   by_case result aside reads keeps (was_there size good looks same said) =
@@ -211,7 +211,7 @@ module _ (key : List ℕ) (k : ℕ) (name : Name) (utf8 : IsUtf8 name) (before a
       let turn : (standing : Standing) → SeatTurn standing key false Empty line (seen_by given [] false false) (replies.Refused (whys.Exists name)) [] Empty = λ standing.
       refused (whys.Exists name) first (record { host = refl; random = refl }) refl refl refl refl in
       subst (λ (r : Result SessionState CreateFault). Both (create_result name r) (made_seat r)) (sym said)
-      (empty_idle key line name refl before after random random' (replies.Refused (whys.Exists name)) given [] false false looks.disk
+      (empty_idle key line name refl before after random random' (λ none. absurd none, tt) (replies.Refused (whys.Exists name)) given [] false false looks.disk
       (record { told = looks.asked.asked.told; taken = none_taken_now same; on_host = looks.asked.asked.faults; on_words = ap (λ (w : WordsState). w.faults) same }) refl refl turn first (refl, same)
       (λ a is calm.
       same_over key (reading a.now) false Empty line given [] (replies.Refused (whys.Exists name)) [] Empty
@@ -220,7 +220,7 @@ module _ (key : List ℕ) (k : ℕ) (name : Name) (utf8 : IsUtf8 name) (before a
       let given = LengthWas name None ∷ [] in
       let none : NoneRefuses (rules key false Empty line given) = seat_none (naming_rules name given) (naming_none name given good.is_target (no_length name None refl)) in
       subst (λ (r : Result SessionState CreateFault). Both (create_result name r) (made_seat r)) (sym said)
-      (empty_idle key line name refl before after random random' replies.WordsFault given fewer.words false true looks.disk
+      (empty_idle key line name refl before after random random' (λ none. absurd none, tt) replies.WordsFault given fewer.words false true looks.disk
       (record { told = looks.asked.asked.told; taken = fewer.told; on_host = looks.asked.asked.faults; on_words = fewer.once }) refl refl
       (λ standing. words_failed none (record { host = refl; random = refl }) (no_creation k name fewer.fewer) refl) none refl (λ a is calm. absurd (no_words_fault calm)))
   by_case result aside reads keeps (create_stopped nonce between good looks drawn stopped said) =
@@ -238,7 +238,7 @@ module _ (key : List ℕ) (k : ℕ) (name : Name) (utf8 : IsUtf8 name) (before a
       let turn : (standing : Standing) → SeatTurn standing key false Empty line (seen_by these words true false) replies.HostFault (act nonce these drawn false ∷ []) Empty = fails_to_create nonce these drawn none stopped.linked in
       subst (λ (r : Result SessionState CreateFault). Both (create_result name r) (made_seat r)) (sym said)
       (record {
-        goes = empty_goes key line name refl None before after random random' (subst (λ (r : Result SessionState CreateFault). OnDisk before after (KeepsUnder CoversNone (CoversMade r) (λ n. n ≡ name))) said (keeps good.is_target)) (spares_given key line name refl before after aside) tt (λ n none. absurd none)
+        goes = empty_goes key line name refl None before after random random' (subst (λ (r : Result SessionState CreateFault). OnDisk before after (KeepsUnder CoversNone (CoversMade r) (λ n. n ≡ name))) said (keeps good.is_target)) (spares_given key line name refl before after aside) tt (λ n none. absurd none) (λ none. absurd none, tt)
             replies.HostFault these words true false seen refl refl
             (empty_turns key line name refl (seen_by these words true false) replies.HostFault None these (act nonce these drawn false ∷ []) Empty (λ sealed. inr (may_seal nonce these drawn true false none stopped.linked sealed)) turn (λ sealed. no_seat refl refl))
             none refl;
@@ -272,11 +272,11 @@ module _ (key : List ℕ) (k : ℕ) (name : Name) (utf8 : IsUtf8 name) (before a
       subst (λ (r : Result SessionState CreateFault). Both (create_result name r) (made_seat r)) (sym said)
       (record {
         goes = empty_goes key line name refl (Some made) before after random random' (subst (λ (r : Result SessionState CreateFault). OnDisk before after (KeepsUnder CoversNone (CoversMade r) (λ n. n ≡ name))) said (keeps good.is_target)) (spares_given key line name refl before after aside)
-            (record { of_script = of_created key name nonce good; key_is = refl; clean = λ whole calm. refl }) (λ n has. has)
+            (record { of_script = of_created key name nonce good; key_is = refl; clean = λ whole calm. refl }) (λ n has. has) (λ none. absurd none, tt)
             replies.Created these words false false seen refl refl
             (empty_turns key line name refl (seen_by these words false false) replies.Created (Some made) these (act nonce these drawn true ∷ []) (Own (new_seat key name sheet)) (λ sealed. inr (may_seal nonce these drawn false true none is_fresh.linked sealed)) turn
             (λ sealed. whole_file sheet made refl (Contains-push sealed sheet) is_fresh.linked (record { backed = is_fresh.stands.backed; rests = λ calm. record { stands = is_fresh.stands; clean = refl } }) (ap Own same) refl))
-            none (to_create k name made refl refl refl);
+            none (to_create k name made refl refl refl refl refl);
         booked = record {
           seen = seen_by these words false false;
           was_seen = seen_in these words false false before after random random' seen;

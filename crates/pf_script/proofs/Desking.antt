@@ -16,7 +16,7 @@ use Rattle.pf_script.specs.Book.{Book, Seal}
 use Rattle.pf_script.specs.BookActs.{Act}
 use Rattle.pf_script.specs.BookSeats.{Covers, CoversEach, CoversBoth, KeepsUnder}
 use Rattle.pf_script.specs.Desk.{DeskState, session_at, IsSeated, IsSeatOf, IsLikeDesk, IsDesk, Shows, IsStateOf}
-use Rattle.pf_script.specs.DeskSteps.{MaySeal, Unfolds, in_the_end, then_more, SomeSeatTurn, SomeTurn, TurnsTo, SeatAsks, SeatCaused, DeskCaused, LeavesSeat, Asks, IsChange, Admits, HasItsName, OtherHas, Concerns, ConcernsDesk, CoversSome, CoversDesk, KeepsNames, KeepsSession, NothingDone, IsBrokenSession, BreaksSeat, SeatIdle, FlushesUnder, StillShows, SeatStillShows, DeskStillShows, SeatWants, Wants, WhereWanting, WhereReplied, SeatGoes, DeskGoes}
+use Rattle.pf_script.specs.DeskSteps.{MaySeal, Unfolds, in_the_end, then_more, SomeSeatTurn, SomeTurn, TurnsTo, SeatAsks, SeatCaused, DeskCaused, LeavesSeat, AsksFew, Asks, IsChange, Admits, HasItsName, OtherHas, Concerns, ConcernsDesk, CoversSome, CoversDesk, KeepsNames, KeepsSession, NothingDone, IsBrokenSession, BreaksSeat, SeatIdle, FlushesUnder, SeatWants, Wants, WhereWanting, WhereReplied, SeatGoes, DeskGoes}
 use Rattle.pf_script.specs.Script.{Seat, Empty, ScriptState, seat_at, IsTaken, state_with, seat_of_line, name_of_line}
 use Rattle.pf_script.specs.Turns.{Seen, SeatTurn, Caused, Turn, on_seat, on_carried, SaysTaken}
 use Rattle.pf_script.specs.Words.{SEATS}
@@ -210,6 +210,9 @@ module _ (old : DeskState) (desk : IsDesk old) (k : ℕ) (below : k < SEATS) (ta
     all_leaves (Ok reply) leaves = leaves_on reply leaves
     all_leaves (Err fault) leaves = tt
 
+    few_on : (j : ℕ) → seat_of_line line ≡ Some j → AsksFew line (session_at old j) before after
+    few_on j is = subst (λ i. AsksFew line (session_at old i) before after) (same_seat k j (sym names ∙ is)) goes.few
+
     all_caused : (r : Result Reply Memory) → WhereReplied r (λ reply. SeatCaused old.key taken line reply (session_at old k) before after) → WhereReplied r (λ reply. DeskCaused line reply old before after)
     all_caused (Ok reply) caused = caused_on reply caused
     all_caused (Err fault) caused = tt
@@ -278,6 +281,8 @@ module _ (old : DeskState) (desk : IsDesk old) (k : ℕ) (below : k < SEATS) (ta
       named = named_on;
       spares = spares_more (Concerns taken line (session_at old k)) (ConcernsDesk line old) concern_desk before after goes.spares;
       counts = goes.counts;
+      wordless = goes.wordless;
+      few = few_on;
       wants = all_wants result goes.wants;
     }
 

@@ -90,7 +90,7 @@ draw_goes key k old new result host random random' seated whole goes = by_case g
     by_case : DrawGoes result old new random random' → SeatGoes key false (lines.Draw k) (Ok (draw_result result)) (Some old) (Some new) host host random random'
     by_case (drawn_before nonce was same words said) =
         subst (λ (r : Result (List ℕ) WordsFault). SeatGoes key false (lines.Draw k) (Ok (draw_result r)) (Some old) (Some new) host host random random') (sym said)
-        (goes_on key false (lines.Draw k) (replies.Drawn nonce) old host host random random' (aside_none old.name host) [] [] false false
+        (goes_on key false (lines.Draw k) (replies.Drawn nonce) old host host random random' (aside_none old.name host) (λ none. absurd none, refl) [] [] false false
         (record {
           told = told_none host host refl;
           taken = subst (λ (w : WordsState). Both random.left w.left (AreTaken [])) (sym words) (none_taken random);
@@ -103,13 +103,13 @@ draw_goes key k old new result host random random' seated whole goes = by_case g
         let joined : new ≡ record old { drawn = Some (drawn.first ++ drawn.second) } = subst (λ (n : List ℕ). new ≡ record old { drawn = Some n }) drawn.is same in
         subst (λ (r : Result (List ℕ) WordsFault). SeatGoes key false (lines.Draw k) (Ok (draw_result r)) (Some old) (Some new) host host random random') (sym said)
         (subst (λ (n : List ℕ). SeatGoes key false (lines.Draw k) (Ok (replies.Drawn n)) (Some old) (Some new) host host random random') (sym drawn.is)
-        (goes_on key false (lines.Draw k) (replies.Drawn (drawn.first ++ drawn.second)) old host host random random' (aside_none old.name host) [] (drawn.first ∷ drawn.second ∷ []) false false
+        (goes_on key false (lines.Draw k) (replies.Drawn (drawn.first ++ drawn.second)) old host host random random' (aside_none old.name host) (λ none. absurd none, refl) [] (drawn.first ∷ drawn.second ∷ []) false false
         (record { told = told_none host host refl; taken = drawn.took.told; on_host = refl; on_words = drawn.took.calm }) refl refl new
         (whole_turns key false (lines.Draw k) (seen_by [] (drawn.first ∷ drawn.second ∷ []) false false) (replies.Drawn (drawn.first ++ drawn.second)) old (Some new) [] whole
         (new_turns key k old whole new drawn.first drawn.second none joined)) passes_like (to_draw k (drawn.first ++ drawn.second) old new joined) books (seated_now same) (ap (λ (s : SessionState). s.name) same)))
     by_case (not_drawn fault none fewer same said) =
         subst (λ (r : Result (List ℕ) WordsFault). SeatGoes key false (lines.Draw k) (Ok (draw_result r)) (Some old) (Some new) host host random random') (sym said)
-        (goes_on key false (lines.Draw k) replies.WordsFault old host host random random' (aside_none old.name host) [] fewer.words false true
+        (goes_on key false (lines.Draw k) replies.WordsFault old host host random random' (aside_none old.name host) (λ none. absurd none, refl) [] fewer.words false true
         (record { told = told_none host host refl; taken = fewer.told; on_host = refl; on_words = fewer.once }) refl refl new
         (whole_turns key false (lines.Draw k) (seen_by [] fewer.words false true) replies.WordsFault old (Some new) [] whole (lost_turns key k old whole new fewer.words fewer.fewer none same)) passes_like (ap (λ (s : SessionState). Some s) same) books
         (subst (λ (s : SessionState). IsSeated key s) (sym same) seated) (ap (λ (s : SessionState). s.name) same))

@@ -28,7 +28,7 @@ use Rattle.pf_script.specs.declared.line.ScriptLine.TheVariants as lines
 use Rattle.pf_script.specs.declared.reply.Reply.{Reply}
 use Rattle.pf_script.specs.declared.reply.Reply.TheVariants as replies
 use Rattle.pf_script.proofs.CallKeeping.{flush_keeps}
-use Rattle.pf_script.proofs.Flushed.{SealsOwn, TooFewToFlush, FlushCase, lacked, failed, done, flush_case, host_blamed, fault_of}
+use Rattle.pf_script.proofs.Flushed.{flushed_size, SealsOwn, TooFewToFlush, FlushCase, lacked, failed, done, flush_case, host_blamed, fault_of}
 use Rattle.pf_script.proofs.Liking.{like_some}
 use Rattle.pf_script.proofs.OfScript.{of_flushed}
 use Rattle.pf_script.proofs.Refusing.{at_last, none_then}
@@ -128,26 +128,27 @@ module _ (key : List ℕ) (k : ℕ) (old : SessionState) (seated : IsSeated key 
         shows_next sealed base old new words next.0 whole next.1 next.2 same dirty,
       ))
 
-  by_case : (result : Result (Unit {0}) FlushFault) → FlushCase result old new before after random random' → SeatGoes key false (lines.Flush k) (Ok (flush_result result)) (Some old) (Some new) before after random random'
-  by_case result (lacked words fewer seen same stays said) =
+  by_case : (result : Result (Unit {0}) FlushFault) → (result ≡ Ok tt → new.tree.size ≡ old.tree.size) → FlushCase result old new before after random random' → SeatGoes key false (lines.Flush k) (Ok (flush_result result)) (Some old) (Some new) before after random random'
+  by_case result sized (lacked words fewer seen same stays said) =
       subst (λ (r : Result (Unit {0}) FlushFault). SeatGoes key false (lines.Flush k) (Ok (flush_result r)) (Some old) (Some new) before after random random') (sym said)
-      (goes_on key false (lines.Flush k) replies.WordsFault old before after random random' aside [] words false true seen refl refl new
+      (goes_on key false (lines.Flush k) replies.WordsFault old before after random random' aside (λ none. absurd none, tt) [] words false true seen refl refl new
       (whole_turns key false (lines.Flush k) (seen_by [] words false true) replies.WordsFault old (Some new) [] whole (lacked_turns words fewer same)) passes_like (ap (λ (s : SessionState). Some s) same) books
       (subst (λ (s : SessionState). IsSeated key s) (sym same) seated) (ap (λ (s : SessionState). s.name) same))
-  by_case result (failed blame these words seen blames seals key_is name_is broken said) =
+  by_case result sized (failed blame these words seen blames seals key_is name_is broken said) =
       subst (λ (r : Result (Unit {0}) FlushFault). SeatGoes key false (lines.Flush k) (Ok (flush_result r)) (Some old) (Some new) before after random random') (sym said)
-      (goes_on key false (lines.Flush k) (flush_reply (fault_of blame)) old before after random random' aside these words (host_blamed blame) false seen (host_reply blame) (words_reply blame) new
+      (goes_on key false (lines.Flush k) (flush_reply (fault_of blame)) old before after random random' aside (λ none. absurd none, tt) these words (host_blamed blame) false seen (host_reply blame) (words_reply blame) new
       (whole_turns key false (lines.Flush k) (seen_by these words (host_blamed blame) false) (flush_reply (fault_of blame)) old (Some new) these whole (failed_turns these words blame seals blames key_is name_is broken)) (failed_caused these blame blames) (failed_leaves blame broken) books
       (record { of_script = goes; key_is = key_is ∙ seated.key_is; clean = λ also. absurd (false_true new.broken broken also) }) name_is)
-  by_case result (done these words seen seals same dirty said) =
+  by_case result sized (done these words seen seals same dirty said) =
       subst (λ (r : Result (Unit {0}) FlushFault). SeatGoes key false (lines.Flush k) (Ok (flush_result r)) (Some old) (Some new) before after random random') (sym said)
-      (goes_on key false (lines.Flush k) replies.Flushed old before after random random' aside these words false false seen refl refl new
+      (goes_on key false (lines.Flush k) replies.Flushed old before after random random' aside (λ none. absurd none, tt) these words false false seen refl refl new
       (whole_turns key false (lines.Flush k) (seen_by these words false false) replies.Flushed old (Some new) these whole (done_turns these words seals same dirty)) passes_like
-      (to_flush k old new (ap (λ (s : SessionState). s.broken) same ∙ whole) (ap (λ (s : SessionState). s.changed) same)) books
+      (to_flush k old new (ap (λ (s : SessionState). s.broken) same ∙ whole) (ap (λ (s : SessionState). s.changed) same) (ap (λ (s : SessionState). s.drawn) same) (sized said)) books
       (record { of_script = goes; key_is = ap (λ (s : SessionState). s.key) same ∙ seated.key_is; clean = λ also unchanged. dirty }) (ap (λ (s : SessionState). s.name) same))
 
 pub flush_goes : (key : List ℕ) (k : ℕ) (old new : SessionState) (result : Result (Unit {0}) FlushFault) (before after : HostState) (random random' : WordsState) → IsSeated key old → old.broken ≡ false
     → FlushGoes result old new before after random random' → Aside old.name before after → ReadsAsImage after → SeatGoes key false (lines.Flush k) (Ok (flush_result result)) (Some old) (Some new) before after random random'
 flush_goes key k old new result before after random random' seated whole goes aside reads =
     by_case key k old seated whole new before after random random' aside (flush_keeps old seated.of_script result new before after random random' whole goes aside reads)
-    (of_flushed old new seated.of_script result before after random random' goes) result (flush_case old seated.of_script new before after random random' result goes)
+    (of_flushed old new seated.of_script result before after random random' goes) result
+    (λ is. flushed_size old new before after random random' (subst (λ (r : Result (Unit {0}) FlushFault). FlushGoes r old new before after random random') is goes)) (flush_case old seated.of_script new before after random random' result goes)

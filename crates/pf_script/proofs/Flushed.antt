@@ -1,5 +1,5 @@
 -- What a flush of a session seals, as a seat of a script sees it.
-use Rattle.std.proofs.Common.{◌≡◌, Bool, true, false, List, [], ◌∷◌, ◌++◌, ℕ, ◌+◌, ◌*◌, ◌<◌, ◌≤◌, refl, ap, subst, None, Result, Ok, Err, length}
+use Rattle.std.proofs.Common.{◌≡◌, Bool, true, false, List, [], ◌∷◌, ◌++◌, ℕ, ◌+◌, ◌*◌, ◌<◌, ◌≤◌, refl, ◌∙◌, ap, subst, None, Result, Ok, Err, length}
 use Rattle.std.proofs.lemmas.List.FromFn.{length-map-range_with_len}
 use Rattle.std.proofs.lemmas.List.Elements.{Contains-push}
 use Rattle.node_layout.specs.Places.{node_count}
@@ -33,6 +33,16 @@ use Rattle.pf_script.proofs.OfScript.{file_named}
 
 pub length_now : (sheet : Sheet) (tree : TreeState) → length (now sheet tree) ≡ tree.size
 length_now sheet tree = length-map-range_with_len (byte_of tree.first (plain_now sheet tree)) 0 tree.size
+
+-- a flush that was done keeps the size of the content
+pub sealed_size : (nonce : List ℕ) (keys : List (List ℕ)) (old new : SessionState) (before after : HostState) → SealGoes (Ok tt) nonce keys old new before after → new.tree.size ≡ old.tree.size
+sealed_size nonce keys old new before after (node_short damage named short seals same said) = absurd (cc)
+sealed_size nonce keys old new before after (call_failed stopped beside seals shape same said) = absurd (cc)
+sealed_size nonce keys old new before after (flushed mid is_done beside settled seals same said) = settled.size ∙ is_done.shape.size
+
+pub flushed_size : (old new : SessionState) (before after : HostState) (random random' : WordsState) → FlushGoes (Ok tt) old new before after random random' → new.tree.size ≡ old.tree.size
+flushed_size old new before after random random' (no_words lacked same stays said) = absurd (cc)
+flushed_size old new before after random random' (had_words nonce keys came goes) = sealed_size nonce keys old new before after goes
 
 -- the next sheet, over the content and the dirty nodes alone
 pub next_of : (base : Sheet) (tree : TreeState) (path nonce : List ℕ) (keys : List (List ℕ)) (next : Sheet) → NextSheet base tree path nonce keys next → IsNextSheet base path nonce (now base tree) tree.dirty keys next

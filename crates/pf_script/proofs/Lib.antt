@@ -34,6 +34,7 @@ pub mod SizeKeeping
 pub mod RunKeeping
 pub mod Showing
 pub mod Liking
+pub mod FewAsked
 pub mod Refusing
 pub mod Flushed
 pub mod SeatCalls

@@ -55,7 +55,7 @@ use Rattle.pf_script.specs.Script.{OwnSeat, Own, Seat, sheets_of}
 use Rattle.pf_script.specs.SeatSteps.{SealsMoved, renamed, broken_seat, words_of_flush, words_of_move}
 use Rattle.pf_script.specs.Turns.{FlushedToMove, as_it_was, was_changed, IsShort, Blame, ByHost, ByDamage, BlamesFlush, FlushDamage, Caused, SeatTurn, Fails, refused, accepted, host_failed, was_damaged, words_failed, moved as moved_on, not_looked_up, not_flushed_to_move, not_moved as not_carried, no_move, flushes, on_carried}
 use Rattle.pf_script.proofs.FlushLine.{resealed_own}
-use Rattle.pf_script.proofs.Flushed.{SeenOf, counted_kind, host_blamed, fault_of, seal_ends, FlushEnds, not_begun, not_ended, was_ended}
+use Rattle.pf_script.proofs.Flushed.{sealed_size, SeenOf, counted_kind, host_blamed, fault_of, seal_ends, FlushEnds, not_begun, not_ended, was_ended}
 
 -- words that were taken one after the other
 pub taken_then : (words more : List (List ℕ)) (a b c : WordsState) → Both a.left b.left (AreTaken words) → Both b.left c.left (AreTaken more) → Both a.left c.left (AreTaken (words ++ more))
@@ -78,13 +78,14 @@ pub record FlushedFirst (old mid : SessionState) (nonce : List ℕ) (start betwe
   pub whole : mid.broken ≡ false
   pub clean : mid.changed ≡ false
   pub dirty : mid.tree.dirty ≡ []
+  pub size_is : mid.tree.size ≡ old.tree.size
   pub each : (base : Sheet) → IsLinked base → IsKeptOn base old → (sheets : List Sheet) × (base' : Sheet) × FlushedToMove (seat_on base old) words sheets (seat_on base' mid) × RestsOn base' mid × IsLinked base'
 
 module _ (old : SessionState) (mine : IsOfScript old) (whole : old.broken ≡ false) (undirty : old.changed ≡ false → old.tree.dirty ≡ []) (mid : SessionState) (nonce : List ℕ) (start between : HostState) (random random' : WordsState) where
-  ended_first : (keys : List (List ℕ)) (middle : WordsState) → old.changed ≡ true → IsDrawn nonce middle random' → FlushEnds (Ok tt) old mid start between random middle → FlushedFirst old mid nonce start between random random'
-  ended_first keys middle was drawn (not_begun words fewer seen same stays said) = absurd (cc)
-  ended_first keys middle was drawn (not_ended blame these words seen blames seals key_is name_is broken said) = absurd (cc)
-  ended_first keys middle was drawn (was_ended these words seen seals same dirty said) = record {
+  ended_first : (keys : List (List ℕ)) (middle : WordsState) → old.changed ≡ true → mid.tree.size ≡ old.tree.size → IsDrawn nonce middle random' → FlushEnds (Ok tt) old mid start between random middle → FlushedFirst old mid nonce start between random random'
+  ended_first keys middle was size_is drawn (not_begun words fewer seen same stays said) = absurd (cc)
+  ended_first keys middle was size_is drawn (not_ended blame these words seen blames seals key_is name_is broken said) = absurd (cc)
+  ended_first keys middle was size_is drawn (was_ended these words seen seals same dirty said) = record {
     these = these;
     told = seen.told;
     on_host = seen.on_host;
@@ -99,6 +100,7 @@ module _ (old : SessionState) (mine : IsOfScript old) (whole : old.broken ≡ fa
     whole = ap (λ (s : SessionState). s.broken) same ∙ whole;
     clean = ap (λ (s : SessionState). s.changed) same;
     dirty = dirty;
+    size_is = size_is;
     each = λ base linked kept.
         let next = seals base linked kept.backed in (
           next.0 ∷ [],
@@ -125,6 +127,7 @@ module _ (old : SessionState) (mine : IsOfScript old) (whole : old.broken ≡ fa
     whole = ap (λ (s : SessionState). s.broken) same ∙ whole;
     clean = ap (λ (s : SessionState). s.changed) same ∙ unchanged;
     dirty = ap (λ (s : SessionState). s.tree.dirty) same ∙ undirty unchanged;
+    size_is = ap (λ (s : SessionState). s.tree.size) same;
     each = λ base linked kept. (
       [],
       base,
@@ -133,7 +136,7 @@ module _ (old : SessionState) (mine : IsOfScript old) (whole : old.broken ≡ fa
       linked,
     );
   }
-  first_flushed (flushed sealed keys middle was came drawn goes aside reads) = ended_first keys middle was drawn (seal_ends old mine mid start between random middle (Ok tt) sealed keys came goes)
+  first_flushed (flushed sealed keys middle was came drawn goes aside reads) = ended_first keys middle was (sealed_size sealed keys old mid start between goes) drawn (seal_ends old mine mid start between random middle (Ok tt) sealed keys came goes)
 
 -- the block of a node that a copy was given short
 short_in : (name side : Name) (clean : List ℕ) (damage : Damage) (before after : HostState) (short : ReplaceShort name side clean damage before after)
@@ -284,6 +287,8 @@ module _ (key : List ℕ) (k : ℕ) (to : Name) (old : SessionState) (seated : I
       leaves = leaves;
       books = books;
       counts = (subst (λ b. CountsFault b before.faults after.faults) (sym host_is) seen.on_host, subst (λ b. CountsFault b random.faults random'.faults) (sym words_is) seen.on_words);
+      wordless = λ none. absurd none;
+      few = tt;
       wants = tt;
       seated = record { of_script = mine; key_is = key_is ∙ seated.key_is; clean = clean };
       named = names;
@@ -322,7 +327,7 @@ module _ (key : List ℕ) (k : ℕ) (to : Name) (old : SessionState) (seated : I
       where
         left_broken : (blame : Blame) → LeavesSeat line (flush_reply (fault_of blame)) (Some old) (Some new) random random'
         left_broken ByHost = inr broken
-        left_broken (ByDamage damage) = inr broken
+        left_broken (ByDamage damage) = broken
 
         fault_turn : (sealed : List Sheet) (seat : Seat) (these : List Answer) (blame : Blame) (acts : List Act) (left : Seat) → NoneRefuses (rules key false seat line these) → Fails key (seen_by these words (host_blamed blame) false) blame seat line acts left
             → SeatTurn (on_carried key sealed) key false seat line (seen_by these words (host_blamed blame) false) (flush_reply (fault_of blame)) acts left
@@ -429,7 +434,8 @@ module _ (key : List ℕ) (k : ℕ) (to : Name) (old : SessionState) (seated : I
             shows_moved sealed base' acts each.3 on
                 (Contains-append_right sealed (sheets_of acts) on.next (subst (λ (l : List Sheet). Contains l on.next) (sym (sheets_then before_it (act ∷ []))) (Contains-push (sheets_of before_it) on.next))) same,
           )))
-          (like_passes free.is_target (all_given more) (none_found (f.these ++ more))) (to_move k to old new (ap (λ (s : SessionState). s.name) same) (ap (λ (s : SessionState). s.broken) same ∙ f.whole)) (ap (λ (s : SessionState). s.key) same ∙ f.key_is) (λ name is. inr (ap Some (sym (is ∙ ap (λ (s : SessionState). s.name) same)), refl))
+          (like_passes free.is_target (all_given more) (none_found (f.these ++ more))) (to_move k to old new (ap (λ (s : SessionState). s.name) same) (ap (λ (s : SessionState). s.broken) same ∙ f.whole)
+          (ap (λ (s : SessionState). s.changed) same ∙ f.clean) (ap (λ (s : SessionState). s.tree.size) same ∙ f.size_is)) (ap (λ (s : SessionState). s.key) same ∙ f.key_is) (λ name is. inr (ap Some (sym (is ∙ ap (λ (s : SessionState). s.name) same)), refl))
           (λ also unchanged. ap (λ (s : SessionState). s.tree.dirty) same ∙ f.dirty)
 
     move_cases : (result : Result (Unit {0}) MoveFault) → MoveGoes result to old new before after random random' → SeatGoes key false line (move_reply result) (Some old) (Some new) before after random random'

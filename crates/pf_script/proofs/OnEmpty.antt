@@ -30,6 +30,7 @@ use Rattle.pf_script.specs.declared.reply.Why.{Why}
 use Rattle.pf_script.specs.declared.reply.Why.TheVariants as whys
 use Rattle.pf_script.proofs.ActKeeping.{only_reads, unchanged_now}
 use Rattle.pf_script.proofs.CallKeeping.{both_with}
+use Rattle.pf_script.proofs.FewAsked.{TakesFew, none_taken_at}
 use Rattle.pf_script.proofs.FlushUnder.{seen_in}
 use Rattle.pf_script.proofs.Flushed.{SeenOf}
 use Rattle.pf_script.proofs.Liking.{like_none, like_some}
@@ -103,7 +104,8 @@ module _ (key : List ℕ) (line : ScriptLine) (name : Name) (names : name_of_lin
   pub concerns : (n : Name) → n ≡ name → Concerns false line None n
   concerns n same = inr (names ∙ ap (λ (x : Name). Some x) (sym same), refl)
 
-  module _ (new : Option SessionState) (before after : HostState) (random random' : WordsState) (keeps : OnDisk before after (KeepsUnder CoversNone (CoversSome new) (λ n. n ≡ name))) (spares : Spares (Concerns false line None) before after) (seated : IsSeatOf key new) (named : (n : Name) → HasItsName new n → n ≡ name) where
+  module _ (new : Option SessionState) (before after : HostState) (random random' : WordsState) (keeps : OnDisk before after (KeepsUnder CoversNone (CoversSome new) (λ n. n ≡ name))) (spares : Spares (Concerns false line None) before after) (seated : IsSeatOf key new) (named : (n : Name) → HasItsName new n → n ≡ name)
+      (takes_few : TakesFew line None before after random random') where
     books : OnDisk before after (KeepsUnder CoversNone (CoversSome new) (Concerns false line None))
     books = both_weaker (KeepsUnder CoversNone (CoversSome new) (λ n. n ≡ name)) (KeepsUnder CoversNone (CoversSome new) (Concerns false line None)) before.honest after.honest keeps
         (λ a b keeps. keeps_more CoversNone (CoversSome new) (λ n. n ≡ name) (Concerns false line None) a b concerns keeps)
@@ -117,6 +119,8 @@ module _ (key : List ℕ) (line : ScriptLine) (name : Name) (names : name_of_lin
       leaves = leaves;
       books = books;
       counts = (subst (λ b. CountsFault b before.faults after.faults) (sym host_is) seen.on_host, subst (λ b. CountsFault b random.faults random'.faults) (sym words_is) seen.on_words);
+      wordless = takes_few.0;
+      few = takes_few.1;
       wants = tt;
       seated = seated;
       named = λ n has. concerns n (named n has);
@@ -131,6 +135,8 @@ module _ (key : List ℕ) (line : ScriptLine) (name : Name) (names : name_of_lin
       leaves = tt;
       books = books;
       counts = (calm, ap (λ (w : WordsState). w.faults) same);
+      wordless = takes_few.0;
+      few = takes_few.1;
       wants = record {
         takes = takes;
         shows = shows_still key None new before after (λ given. Unit {0}) told (λ given holds sealed seat shows unforged. subst (λ (o : Option SessionState). Shows sealed seat o) (sym none) shows);
@@ -150,7 +156,7 @@ module _ (key : List ℕ) (line : ScriptLine) (name : Name) (names : name_of_lin
   pub empty_unasked : (state : HostState) (random : WordsState) → ¬ (TakesNone line) → SeatGoes key false line (Err (record {})) None None state state random random
   empty_unasked state random takes =
       empty_wants None state state random random
-      (both_same (KeepsUnder CoversNone CoversNone (λ n. n ≡ name)) state.honest state.honest refl (λ a. only_reads CoversNone a a (λ n. n ≡ name) (unchanged_now a))) (spares_none (Concerns false line None) state) tt (λ n none. absurd none) takes refl
+      (both_same (KeepsUnder CoversNone CoversNone (λ n. n ≡ name)) state.honest state.honest refl (λ a. only_reads CoversNone a a (λ n. n ≡ name) (unchanged_now a))) (spares_none (Concerns false line None) state) tt (λ n none. absurd none) (none_taken_at line None state random) takes refl
       (both_same Unchanged state.honest state.honest refl (λ a. unchanged_now a)) refl refl (told_by (λ given. Unit {0}) [] state state (told_none state state refl) tt)
 
   -- under a book the seat is empty
@@ -206,12 +212,12 @@ module _ (key : List ℕ) (line : ScriptLine) (name : Name) (names : name_of_lin
   still_shows sealed = no_file_now refl refl
 
   -- nothing was done
-  pub empty_idle : (before after : HostState) (random random' : WordsState) (reply : Reply) (these : List Answer) (words : List (List ℕ)) (of_host of_words : Bool) → OnDisk before after Unchanged → SeenOf these words of_host of_words before after random random'
+  pub empty_idle : (before after : HostState) (random random' : WordsState) → TakesFew line None before after random random' → (reply : Reply) (these : List Answer) (words : List (List ℕ)) (of_host of_words : Bool) → OnDisk before after Unchanged → SeenOf these words of_host of_words before after random random'
       → is_host_fault reply ≡ of_host → is_words_fault reply ≡ of_words → ((standing : Standing) → SeatTurn standing key false Empty line (seen_by these words of_host of_words) reply [] Empty) → Caused key false Empty line these reply → LeavesSeat line reply None None random random'
       → ((a : Honest) → before.honest ≡ Some a → Failed (seen_by these words of_host of_words) false false → TurnsOver (reading a.now) words reply) → BothHalves key line (Ok reply) None before after random random'
-  empty_idle before after random random' reply these words of_host of_words only seen host_is words_is turn caused leaves over = record {
+  empty_idle before after random random' takes_few reply these words of_host of_words only seen host_is words_is turn caused leaves over = record {
     goes = empty_goes None before after random random'
-        (both_weaker Unchanged (KeepsUnder CoversNone CoversNone (λ n. n ≡ name)) before.honest after.honest only (λ a b only_ab. only_reads CoversNone a b (λ n. n ≡ name) only_ab)) (spares_kept (Concerns false line None) before after only) tt (λ n none. absurd none)
+        (both_weaker Unchanged (KeepsUnder CoversNone CoversNone (λ n. n ≡ name)) before.honest after.honest only (λ a b only_ab. only_reads CoversNone a b (λ n. n ≡ name) only_ab)) (spares_kept (Concerns false line None) before after only) tt (λ n none. absurd none) takes_few
         reply these words of_host of_words seen host_is words_is (empty_turns (seen_by these words of_host of_words) reply None these [] Empty (λ sealed. inl refl) turn still_shows) caused leaves;
     booked = record {
       seen = seen_by these words of_host of_words;

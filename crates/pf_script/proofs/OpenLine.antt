@@ -9,6 +9,7 @@ use Rattle.node_layout.specs.declared.damage.Damage.{Damage}
 use Rattle.node_layout.specs.declared.damage.Kind.TheVariants as kinds
 use Rattle.node_layout.specs.declared.metadata.MetaSecret.{MetaSecret}
 use Rattle.node_tree.specs.Backing.{now}
+use Rattle.node_tree.specs.Fetching.{CountsReads}
 use Rattle.node_tree.specs.Sheet.{Sheet}
 use Rattle.node_tree.specs.Unforged.{Unforged}
 use Rattle.pf_io.specs.Answered.{IsAnswerOf}
@@ -85,7 +86,7 @@ abbrev pub open_result : Name → Result SessionState OpenFault → Result Reply
 open_result name (Ok session) = Ok (replies.Opened session.tree.size)
 open_result name (Err fault) = open_reply name fault
 
-module _ (key : List ℕ) (k : ℕ) (name : Name) (utf8 : IsUtf8 name) (before after : HostState) (words : WordsState) (only : KeepsDisk before after) where
+module _ (key : List ℕ) (k : ℕ) (name : Name) (utf8 : IsUtf8 name) (before after : HostState) (words : WordsState) (only : KeepsDisk before after) (few : CountsReads 1 before after) where
   abbrev line : ScriptLine
   line = lines.Open k name
 
@@ -109,7 +110,7 @@ module _ (key : List ℕ) (k : ℕ) (name : Name) (utf8 : IsUtf8 name) (before a
   refuses_to_open : (these : List Answer) (why : Why) → BothAre before.given after.given (IsMore these) → after.faults ≡ before.faults → IsFirstRule (opening_rules key name these) why
       → ((a : Honest) → before.honest ≡ Some a → IsFirstRule (opening_rules key name (opening_answers name (reading a.now name))) why) → Halves (Ok (replies.Refused why)) None
   refuses_to_open these why told calm first by_files =
-      empty_idle key line name refl before after words words (replies.Refused why) these [] false false only (seen_of these false told calm) refl refl
+      empty_idle key line name refl before after words words (λ wordless. refl, few) (replies.Refused why) these [] false false only (seen_of these false told calm) refl refl
       (λ standing. refused why (seat_first (opening_rules key name these) why first) (record { host = refl; random = refl }) refl refl refl refl) (seat_first (opening_rules key name these) why first) (refl, refl)
       (λ a is none_failed. refused why (seat_first (opening_rules key name (opening_answers name (reading a.now name))) why (by_files a is)) (record { host = refl; random = refl }) refl refl refl refl)
 
@@ -120,7 +121,7 @@ module _ (key : List ℕ) (k : ℕ) (name : Name) (utf8 : IsUtf8 name) (before a
   -- a call failed
   host_fails : (these : List Answer) → BothAre before.given after.given (IsMore these) → after.faults ≡ counted before.faults → NoneRefuses (opening_rules key name these) → Halves (Ok replies.HostFault) None
   host_fails these told rose none =
-      empty_idle key line name refl before after words words replies.HostFault these [] true false only (seen_of these true told rose) refl refl
+      empty_idle key line name refl before after words words (λ wordless. refl, few) replies.HostFault these [] true false only (seen_of these true told rose) refl refl
       (λ standing. host_failed (seat_none (opening_rules key name these) none) (record { host = refl; random = refl }) (fails_to_open k name ByHost refl tt) refl) (seat_none (opening_rules key name these) none) refl (λ a is none_failed. absurd (no_host_fault none_failed))
 
   -- node 0 is damaged
@@ -129,13 +130,13 @@ module _ (key : List ℕ) (k : ℕ) (name : Name) (utf8 : IsUtf8 name) (before a
   is_damaged these damage told calm none blames of_files =
       let turn : (standing : Standing) → SeatTurn standing key false Empty line (seen_by these [] false false) (replies.DamagedNode damage) [] Empty = λ standing.
       was_damaged damage (seat_none (opening_rules key name these) none) (record { host = refl; random = refl }) (fails_to_open k name (ByDamage damage) refl blames) refl in
-      empty_idle key line name refl before after words words (replies.DamagedNode damage) these [] false false only (seen_of these false told calm) refl refl turn (seat_none (opening_rules key name these) none, blames) refl
+      empty_idle key line name refl before after words words (λ wordless. refl, few) (replies.DamagedNode damage) these [] false false only (seen_of these false told calm) refl refl turn (seat_none (opening_rules key name these) none, blames) refl
       (λ a is none_failed. same_over key (reading a.now) false Empty line these [] (replies.DamagedNode damage) [] Empty (of_files a is) (turn (stands_on key (reading a.now))))
 
   wants_memory : after.faults ≡ before.faults → WhereTold before after (λ given. Unit {0}) → Halves (Err (record {})) None
   wants_memory calm told = record {
     goes = empty_wants key line name refl None before after words words
-        (both_weaker Unchanged (KeepsUnder CoversNone CoversNone (λ n. n ≡ name)) before.honest after.honest only (λ a b only_ab. only_reads CoversNone a b (λ n. n ≡ name) only_ab)) (spares_kept (Concerns false line None) before after only) tt (λ n none. absurd none) (λ takes. takes) refl only calm refl told;
+        (both_weaker Unchanged (KeepsUnder CoversNone CoversNone (λ n. n ≡ name)) before.honest after.honest only (λ a b only_ab. only_reads CoversNone a b (λ n. n ≡ name) only_ab)) (spares_kept (Concerns false line None) before after only) tt (λ n none. absurd none) (λ wordless. refl, few) (λ takes. takes) refl only calm refl told;
     booked = tt;
   }
 
@@ -306,11 +307,13 @@ module _ (key : List ℕ) (k : ℕ) (name : Name) (utf8 : IsUtf8 name) (before a
         asks = told_these (λ came. (sheets : List Sheet) → Unforged key sheets came → OnFirst sheets session came) (λ given. SeatAsks key false line (replies.Opened session.tree.size) None (Some session) given before after words words) came before after told first
             (λ on. record { seen = seen; was_seen = record { answers = refl; words = none_taken words; of_host = calm; of_words = refl }; turns = turns on });
         caused = record { given = came; told = told; caused = λ seat like. subst (λ (x : Seat). Caused key false x line came (replies.Opened session.tree.size)) (sym (like_none seat like)) none_here };
-        leaves = to_open k name session refl refl refl;
+        leaves = to_open k name session refl refl refl refl;
         books = both_weaker (KeepsUnder CoversNone (CoversMade {E = OpenFault} (Ok session)) (λ n. n ≡ name)) (KeepsUnder CoversNone (CoversSome (Some session)) (Concerns false line None)) before.honest after.honest
             (open_keeps key name before after (Ok session) goes either only)
             (λ a b keeps. keeps_more CoversNone (CoversSome (Some session)) (λ n. n ≡ name) (Concerns false line None) a b (concerns key line name refl) keeps);
         counts = (calm, refl);
+        wordless = λ wordless. refl;
+        few = few;
         wants = tt;
         seated = seated;
         named = λ n has. concerns key line name refl n has;
@@ -350,6 +353,6 @@ module _ (key : List ℕ) (k : ℕ) (name : Name) (utf8 : IsUtf8 name) (before a
       subst (λ (r : Result SessionState OpenFault). Halves (open_result name r) (made_seat r)) (sym said)
       (wants_memory (ap (λ (h : HostState). h.faults) stays) (told_by (λ given. Unit {0}) [] before after (told_none before after (ap (λ (h : HostState). h.given) stays)) tt))
 
-pub open_line : (key : List ℕ) (k : ℕ) (name : Name) (result : Result SessionState OpenFault) (before after : HostState) (words : WordsState) → IsUtf8 name → length key ≡ 16 → Opens key name (Some name) before after result → KeepsDisk before after
+pub open_line : (key : List ℕ) (k : ℕ) (name : Name) (result : Result SessionState OpenFault) (before after : HostState) (words : WordsState) → IsUtf8 name → length key ≡ 16 → Opens key name (Some name) before after result → KeepsDisk before after → CountsReads 1 before after
     → IfOk result (λ session. OpensOnFirst session before after) → IfOk result (λ session. OnDisk before after (OpensEither session)) → BothHalves key (lines.Open k name) (open_result name result) (made_seat result) before after words words
-open_line key k name result before after words utf8 key_length goes only first either = by_case key k name utf8 before after words only key_length result first either goes
+open_line key k name result before after words utf8 key_length goes only few first either = by_case key k name utf8 before after words only few key_length result first either goes

@@ -6,7 +6,7 @@ use Rattle.node_tree.specs.Backing.{now}
 use Rattle.node_tree.specs.Fetching.{host_part}
 use Rattle.node_tree.specs.Opened.{AtNodes, Given, Fails, is_short, root_fails, child_fails}
 use Rattle.node_tree.specs.Parts.{IsBroken}
-use Rattle.node_tree.specs.Reading.{Reads, ReadEnds, DamageComes, IsForeign}
+use Rattle.node_tree.specs.Reading.{Reads, ReadsFew, ReadEnds, DamageComes, IsForeign}
 use Rattle.node_tree.specs.Sheet.{Sheet, IsLinked}
 use Rattle.node_tree.specs.State.{TreeState, Held, root_in, readable}
 use Rattle.node_tree.specs.Unforged.{GivenOf, Unforged}
@@ -37,6 +37,7 @@ use Rattle.pf_script.specs.declared.line.ScriptLine.TheVariants as lines
 use Rattle.pf_script.specs.declared.reply.Reply.{Reply}
 use Rattle.pf_script.specs.declared.reply.Reply.TheVariants as replies
 use Rattle.pf_script.specs.declared.reply.Why.TheVariants as whys
+use Rattle.pf_script.proofs.FewAsked.{TakesFew}
 use Rattle.pf_script.proofs.Flushed.{length_now}
 use Rattle.pf_script.proofs.Liking.{like_some}
 use Rattle.pf_script.proofs.OfScript.{of_read}
@@ -196,12 +197,15 @@ module _ (key : List ℕ) (k at count : ℕ) (old : SessionState) (seated : IsSe
           shows_new sealed base among linked kept out.0.backed out.0.same,
         ))
 
-  module _ (words : WordsState) (few : count ≤ 32768) (books : OnDisk before after (KeepsUnder (Covers old) (Covers new) (λ name. name ≡ old.name))) (disk : KeepsDisk before after) where
+  module _ (words : WordsState) (asked : ReadsFew at (length buffer) old.tree before after) (few : count ≤ 32768) (books : OnDisk before after (KeepsUnder (Covers old) (Covers new) (λ name. name ≡ old.name))) (disk : KeepsDisk before after) where
     -- no rule refuses on a seat that is like the session
     passes_like : (seat : Seat) → IsLike seat (Some old) → NoneRefuses (rules key false seat (lines.Read k at count) [])
     passes_like seat like =
         let on = like_some seat old like in
         subst (λ (s : Seat). NoneRefuses (rules key false s (lines.Read k at count) [])) (sym on.seat_is) (read_passes key k at count on.own (on.like.broken_is ∙ whole) few)
+
+    takes : TakesFew (lines.Read k at count) (Some old) before after words words
+    takes = (λ wordless. refl, subst (λ n. ReadsFew at n old.tree before after) room asked)
 
     -- the session is as before, but for what was fetched
     holds : HoldsMore old new
@@ -213,7 +217,7 @@ module _ (key : List ℕ) (k at count : ℕ) (old : SessionState) (seated : IsSe
     by_result : (r : Result ℕ TreeFault) → ReadEnds r (Given (file_of old) reads.these) at buffer old.tree new.tree → HasCause before.faults after.faults (host_part r) → WhereTold before after (ReadFacts r at buffer old new)
         → SeatGoes key false (lines.Read k at count) (read_reply buffer r) (Some old) (Some new) before after words words
     by_result (Ok n) ends cause told =
-        goes_told key false (lines.Read k at count) old before after words words (aside_kept old.name before after disk) (replies.Given buffer) (cause.still, refl) new
+        goes_told key false (lines.Read k at count) old before after words words (aside_kept old.name before after disk) takes (replies.Given buffer) (cause.still, refl) new
         (told_weaker (ReadFacts (Ok n) at buffer old new) (λ given. SeatAsks key false (lines.Read k at count) (replies.Given buffer) (Some old) (Some new) given before after words words) before after told
         (λ given facts. record {
           seen = seen_by given [] false false;
@@ -221,7 +225,7 @@ module _ (key : List ℕ) (k at count : ℕ) (old : SessionState) (seated : IsSe
           turns = whole_turns key false (lines.Read k at count) (seen_by given [] false false) (replies.Given buffer) old (Some new) given whole (given_turns few given n ends.0 facts);
         })) (caused_by (replies.Given buffer) passes_like) (to_read k at count buffer old new room holds) books seated_new (ap (λ (s : SessionState). s.name) fields)
     by_result (Err (trees.Damaged d)) ends cause told =
-        goes_told key false (lines.Read k at count) old before after words words (aside_kept old.name before after disk) (replies.DamagedNode d) (cause.still, refl) new
+        goes_told key false (lines.Read k at count) old before after words words (aside_kept old.name before after disk) takes (replies.DamagedNode d) (cause.still, refl) new
         (told_weaker (ReadFacts (Err (trees.Damaged d)) at buffer old new) (λ given. SeatAsks key false (lines.Read k at count) (replies.DamagedNode d) (Some old) (Some new) given before after words words) before after told
         (λ given facts. record {
           seen = seen_by given [] false false;
@@ -229,7 +233,7 @@ module _ (key : List ℕ) (k at count : ℕ) (old : SessionState) (seated : IsSe
           turns = whole_turns key false (lines.Read k at count) (seen_by given [] false false) (replies.DamagedNode d) old (Some new) given whole (damage_turns few given d facts);
         })) (caused_by (replies.DamagedNode d) (λ seat like. (passes_like seat like, comes d (readable old.tree at (length buffer)) ends seat like))) holds books seated_new (ap (λ (s : SessionState). s.name) fields)
     by_result (Err trees.Host) ends cause told =
-        goes_told key false (lines.Read k at count) old before after words words (aside_kept old.name before after disk) replies.HostFault (cause.once, refl) new
+        goes_told key false (lines.Read k at count) old before after words words (aside_kept old.name before after disk) takes replies.HostFault (cause.once, refl) new
         (told_weaker (ReadFacts (Err trees.Host) at buffer old new) (λ given. SeatAsks key false (lines.Read k at count) replies.HostFault (Some old) (Some new) given before after words words) before after told
         (λ given facts. record {
           seen = seen_by given [] true false;
@@ -237,7 +241,7 @@ module _ (key : List ℕ) (k at count : ℕ) (old : SessionState) (seated : IsSe
           turns = whole_turns key false (lines.Read k at count) (seen_by given [] true false) replies.HostFault old (Some new) given whole (host_turns few given facts);
         })) (caused_by replies.HostFault passes_like) holds books seated_new (ap (λ (s : SessionState). s.name) fields)
     by_result (Err trees.Memory) ends cause told =
-        goes_wanting key false (lines.Read k at count) old before after words words (aside_kept old.name before after disk) (record {}) new
+        goes_wanting key false (lines.Read k at count) old before after words words (aside_kept old.name before after disk) takes (record {}) new
         (record {
           takes = λ none. none;
           shows = shows_still key (Some old) (Some new) before after (ReadFacts (Err trees.Memory) at buffer old new) told (shows_as_it_did few);
@@ -253,9 +257,9 @@ ends_count (Err fault) given at buffer old new ends = tt
 pub read_goes : (key : List ℕ) (k at count : ℕ) (old new : SessionState) (result : Result ℕ TreeFault) (buffer : List ℕ) (before after : HostState) (words : WordsState) → IsSeated key old → old.broken ≡ false → count ≤ 32768
     → length buffer ≡ min count (old.tree.size - at) → KeepsFields old new → Reads result (file_of old) at buffer old.tree new.tree before after → HasCause before.faults after.faults (host_part result)
     → BackedRead result at buffer old new before after → DamageComes result (file_of old) at (length buffer) old.tree before after → ReadsStanding result at buffer old new before → KeepsDisk before after
-    → SeatGoes key false (lines.Read k at count) (read_reply buffer result) (Some old) (Some new) before after words words
-read_goes key k at count old new result buffer before after words seated whole few room fields reads cause backed damage standing disk =
-    by_result key k at count old seated whole new fields result buffer room before after reads words few (read_keeps old seated.of_script new result at buffer before after fields (ap (λ (t : TreeState). t.dirty) reads.rest) standing disk) disk result
+    → ReadsFew at (length buffer) old.tree before after → SeatGoes key false (lines.Read k at count) (read_reply buffer result) (Some old) (Some new) before after words words
+read_goes key k at count old new result buffer before after words seated whole few room fields reads cause backed damage standing disk asked =
+    by_result key k at count old seated whole new fields result buffer room before after reads words asked few (read_keeps old seated.of_script new result at buffer before after fields (ap (λ (t : TreeState). t.dirty) reads.rest) standing disk) disk result
     reads.ends cause (facts_told key k at count old seated whole new fields result buffer room before after reads result backed damage)
 
 -- a read keeps the length of its buffer

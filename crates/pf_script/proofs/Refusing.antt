@@ -27,6 +27,7 @@ use Rattle.pf_script.specs.declared.reply.Reply.TheVariants as replies
 use Rattle.pf_script.specs.declared.reply.Why.{Why}
 use Rattle.pf_script.specs.declared.reply.Why.TheVariants as whys
 use Rattle.pf_script.proofs.ActKeeping.{unchanged_now}
+use Rattle.pf_script.proofs.FewAsked.{none_taken_at}
 use Rattle.pf_script.proofs.Liking.{like_shown}
 use Rattle.pf_script.proofs.Showing.{shows_still}
 use Rattle.pf_script.proofs.Sparing.{spares_none}
@@ -71,6 +72,8 @@ module _ (key : List ℕ) (taken : Bool) (line : ScriptLine) (why : Why) (old : 
     leaves = (refl, refl);
     books = both_same (KeepsUnder (CoversSome old) (CoversSome old) (Concerns taken line old)) host.honest host.honest refl (same_keeps (CoversSome old) (Concerns taken line old));
     counts = (refl, refl);
+    wordless = (none_taken_at line old host words).0;
+    few = (none_taken_at line old host words).1;
     wants = tt;
     seated = seated;
     named = λ name has. inl has;
@@ -91,6 +94,8 @@ nothing_wanting key taken line fault old host words takes seated = record {
   leaves = tt;
   books = both_same (KeepsUnder (CoversSome old) (CoversSome old) (Concerns taken line old)) host.honest host.honest refl (same_keeps (CoversSome old) (Concerns taken line old));
   counts = (refl, refl);
+  wordless = (none_taken_at line old host words).0;
+  few = (none_taken_at line old host words).1;
   wants = record {
     takes = takes;
     shows = shows_still key old old host host (λ given. Unit {0}) (told_by (λ given. Unit {0}) [] host host (told_none host host refl) tt) (λ given holds sealed seat shows unforged. shows);

@@ -19,6 +19,7 @@ use Rattle.pf_script.specs.SeatReplies.{flush_reply}
 use Rattle.pf_script.specs.Turns.{Seen, SeatTurn, Caused, on_carried, Blame, ByHost, ByDamage}
 use Rattle.pf_script.specs.declared.line.ScriptLine.{ScriptLine}
 use Rattle.pf_script.specs.declared.reply.Reply.{Reply}
+use Rattle.pf_script.proofs.FewAsked.{TakesFew}
 use Rattle.pf_script.proofs.Flushed.{SeenOf, host_blamed, fault_of}
 use Rattle.pf_script.proofs.Showing.{shows_whole}
 use Rattle.pf_script.proofs.Sparing.{spares_aside}
@@ -72,7 +73,7 @@ false_true b is_true is_false = let e : true ≡ false = sym is_true ∙ is_fals
 pub shows_same : (sealed : List Sheet) (seat : Seat) (session : Option SessionState) → Shows sealed seat session → Shows (sealed ++ []) seat session
 shows_same sealed seat session shows = subst (λ (l : List Sheet). Shows l seat session) (sym (append-nil sealed)) shows
 
-module _ (key : List ℕ) (taken : Bool) (line : ScriptLine) (old : SessionState) (before after : HostState) (random random' : WordsState) (aside : Aside old.name before after) where
+module _ (key : List ℕ) (taken : Bool) (line : ScriptLine) (old : SessionState) (before after : HostState) (random random' : WordsState) (aside : Aside old.name before after) (takes : TakesFew line (Some old) before after random random') where
   spares_on : Spares (Concerns taken line (Some old)) before after
   spares_on = spares_aside (Concerns taken line (Some old)) old.name (inl refl) before after aside
 
@@ -90,6 +91,8 @@ module _ (key : List ℕ) (taken : Bool) (line : ScriptLine) (old : SessionState
     leaves = tt;
     books = books_on (Covers new) books;
     counts = (on_host, on_words);
+    wordless = takes.0;
+    few = takes.1;
     wants = wants;
     seated = seated;
     named = λ name has. inl (has ∙ name_is);
@@ -101,14 +104,14 @@ module _ (key : List ℕ) (taken : Bool) (line : ScriptLine) (old : SessionState
     pub goes_told : (new : SessionState) → WhereTold before after (λ given. SeatAsks key taken line reply (Some old) (Some new) given before after random random')
         → SeatCaused key taken line reply (Some old) before after → LeavesSeat line reply (Some old) (Some new) random random' → OnDisk before after (KeepsUnder (Covers old) (Covers new) (λ name. name ≡ old.name)) → IsSeated key new → new.name ≡ old.name
         → SeatGoes key taken line (Ok reply) (Some old) (Some new) before after random random'
-    goes_told new asks caused leaves books seated name_is = record { asks = asks; caused = caused; leaves = leaves; books = books_on (Covers new) books; counts = counts; wants = tt; seated = seated; named = λ name has. inl (has ∙ name_is); spares = spares_on }
+    goes_told new asks caused leaves books seated name_is = record { asks = asks; caused = caused; leaves = leaves; books = books_on (Covers new) books; counts = counts; wordless = takes.0; few = takes.1; wants = tt; seated = seated; named = λ name has. inl (has ∙ name_is); spares = spares_on }
 
     -- it is let go
     pub out_told : WhereTold before after (λ given. SeatAsks key taken line reply (Some old) None given before after random random')
         → SeatCaused key taken line reply (Some old) before after → LeavesSeat line reply (Some old) None random random' → OnDisk before after (KeepsUnder (Covers old) CoversNone (λ name. name ≡ old.name)) → SeatGoes key taken line (Ok reply) (Some old) None before after random random'
-    out_told asks caused leaves books = record { asks = asks; caused = caused; leaves = leaves; books = books_on CoversNone books; counts = counts; wants = tt; seated = tt; named = λ name none. absurd none; spares = spares_on }
+    out_told asks caused leaves books = record { asks = asks; caused = caused; leaves = leaves; books = books_on CoversNone books; counts = counts; wordless = takes.0; few = takes.1; wants = tt; seated = tt; named = λ name none. absurd none; spares = spares_on }
 
-module _ (key : List ℕ) (taken : Bool) (line : ScriptLine) (reply : Reply) (old : SessionState) (before after : HostState) (random random' : WordsState) (aside : Aside old.name before after) (these : List Answer) (words : List (List ℕ)) (of_host of_words : Bool)
+module _ (key : List ℕ) (taken : Bool) (line : ScriptLine) (reply : Reply) (old : SessionState) (before after : HostState) (random random' : WordsState) (aside : Aside old.name before after) (takes : TakesFew line (Some old) before after random random') (these : List Answer) (words : List (List ℕ)) (of_host of_words : Bool)
     (seen : SeenOf these words of_host of_words before after random random') (host_is : is_host_fault reply ≡ of_host) (words_is : is_words_fault reply ≡ of_words) where
   asks_by : (new : Option SessionState) → SeatTurns key taken line (seen_by these words of_host of_words) reply (Some old) new these → SeatAsks key taken line reply (Some old) new these before after random random'
   asks_by new turns = record {
@@ -126,11 +129,11 @@ module _ (key : List ℕ) (taken : Bool) (line : ScriptLine) (reply : Reply) (ol
   pub goes_on : (new : SessionState) → SeatTurns key taken line (seen_by these words of_host of_words) reply (Some old) (Some new) these → ((seat : Seat) → IsLike seat (Some old) → Caused key taken seat line these reply) → LeavesSeat line reply (Some old) (Some new) random random' → OnDisk before after (KeepsUnder (Covers old) (Covers new) (λ name. name ≡ old.name))
       → IsSeated key new → new.name ≡ old.name → SeatGoes key taken line (Ok reply) (Some old) (Some new) before after random random'
   goes_on new turns caused leaves =
-      goes_told key taken line old before after random random' aside reply counts_by new
+      goes_told key taken line old before after random random' aside takes reply counts_by new
       (told_by (λ given. SeatAsks key taken line reply (Some old) (Some new) given before after random random') these before after seen.told (asks_by (Some new) turns)) (caused_by caused) leaves
 
   pub goes_out : SeatTurns key taken line (seen_by these words of_host of_words) reply (Some old) None these → ((seat : Seat) → IsLike seat (Some old) → Caused key taken seat line these reply) → LeavesSeat line reply (Some old) None random random' → OnDisk before after (KeepsUnder (Covers old) CoversNone (λ name. name ≡ old.name))
       → SeatGoes key taken line (Ok reply) (Some old) None before after random random'
   goes_out turns caused leaves =
-      out_told key taken line old before after random random' aside reply counts_by
+      out_told key taken line old before after random random' aside takes reply counts_by
       (told_by (λ given. SeatAsks key taken line reply (Some old) None given before after random random') these before after seen.told (asks_by None turns)) (caused_by caused) leaves

@@ -1,5 +1,5 @@
 -- The line `size`, from the contracts of the changes of size that it makes.
-use Rattle.std.proofs.Common.{◌≡◌, inr, Bool, true, false, List, [], ◌∷◌, ℕ, ◌^◌, ◌<◌, ◌≤◌, refl, sym, ◌∙◌, ap, subst, Some, Result, Ok, Err, length, arith}
+use Rattle.std.proofs.Common.{◌≡◌, ⊎_elim, inl, inr, Bool, true, false, List, [], ◌∷◌, ℕ, ◌^◌, ◌<◌, ◌≤◌, refl, sym, ◌∙◌, ap, subst, Some, Result, Ok, Err, length, arith}
 use Rattle.node_tree.specs.Applying.{Step}
 use Rattle.node_tree.specs.Backing.{now}
 use Rattle.node_tree.specs.Sheet.{Sheet}
@@ -123,12 +123,12 @@ module _ (key : List ℕ) (k size : ℕ) (small : size ≤ 2 ^ 32) (old new : Se
     came_as : (outcome : Outcome) → seen.outcome ≡ outcome → OutcomeCame old.name outcome before after
     came_as outcome is = subst (λ (o : Outcome). OutcomeCame old.name o before after) is seen.came
 
-    left_as : (outcome : Outcome) → seen.outcome ≡ outcome → LeftBySize size new outcome
-    left_as outcome is = subst (λ (o : Outcome). LeftBySize size new o) is seen.leaves
+    left_as : (outcome : Outcome) → seen.outcome ≡ outcome → LeftBySize size old new outcome
+    left_as outcome is = subst (λ (o : Outcome). LeftBySize size old new o) is seen.leaves
 
     by_outcome : (outcome : Outcome) → seen.outcome ≡ outcome → SeatGoes key false (lines.Size k size) (outcome_reply (sized size) outcome) (Some old) (Some new) before after random random'
     by_outcome (Went flushed) is =
-        goes_told key false (lines.Size k size) old before after random random' seen.aside (replies.Sized size)
+        goes_told key false (lines.Size k size) old before after random random' seen.aside (λ none. absurd none, tt) (replies.Sized size)
         (subst (λ (o : Outcome). CountsFault (host_in o) before.faults after.faults) is seen.on_host, subst (λ (o : Outcome). CountsFault (words_in o) random.faults random'.faults) is seen.on_words) new
         (told_weaker (λ given. SizeTold size old new given seen.words seen.outcome) (λ given. SeatAsks key false (lines.Size k size) (replies.Sized size) (Some old) (Some new) given before after random random') before after seen.told
         (λ given told. record {
@@ -143,7 +143,7 @@ module _ (key : List ℕ) (k size : ℕ) (small : size ≤ 2 ^ 32) (old new : Se
               (went_turns given seen.words flushed (subst (λ (o : Outcome). SizeTold size old new given seen.words o) is told));
         })) (passed_cause key (lines.Size k size) old like_passes before after (replies.Sized size) (λ seat given free. free) (Went flushed) (came_as (Went flushed) is)) (to_size k size old new (left_as (Went flushed) is).0 (left_as (Went flushed) is).1) seen.books seen.seated_new seen.name_is
     by_outcome (Broke blame) is =
-        goes_told key false (lines.Size k size) old before after random random' seen.aside (flush_reply (fault_of blame)) (
+        goes_told key false (lines.Size k size) old before after random random' seen.aside (λ none. absurd none, tt) (flush_reply (fault_of blame)) (
           subst (λ b. CountsFault b before.faults after.faults) (sym (host_reply blame)) (subst (λ (o : Outcome). CountsFault (host_in o) before.faults after.faults) is seen.on_host),
           subst (λ b. CountsFault b random.faults random'.faults) (sym (words_reply blame)) (subst (λ (o : Outcome). CountsFault (words_in o) random.faults random'.faults) is seen.on_words),
         ) new
@@ -160,7 +160,7 @@ module _ (key : List ℕ) (k size : ℕ) (small : size ≤ 2 ^ 32) (old new : Se
               (broke_turns given seen.words blame (subst (λ (o : Outcome). SizeTold size old new given seen.words o) is told));
         })) (broken_cause key (lines.Size k size) old like_passes before after tt blame (came_as (Broke blame) is)) (broken_leaves old new random random' (lines.Size k size) tt blame (left_as (Broke blame) is)) seen.books seen.seated_new seen.name_is
     by_outcome Lacked is =
-        goes_told key false (lines.Size k size) old before after random random' seen.aside replies.WordsFault
+        goes_told key false (lines.Size k size) old before after random random' seen.aside (λ none. absurd none, tt) replies.WordsFault
         (subst (λ (o : Outcome). CountsFault (host_in o) before.faults after.faults) is seen.on_host, subst (λ (o : Outcome). CountsFault (words_in o) random.faults random'.faults) is seen.on_words) new
         (told_weaker (λ given. SizeTold size old new given seen.words seen.outcome) (λ given. SeatAsks key false (lines.Size k size) replies.WordsFault (Some old) (Some new) given before after random random') before after seen.told
         (λ given told. record {
@@ -173,9 +173,9 @@ module _ (key : List ℕ) (k size : ℕ) (small : size ≤ 2 ^ 32) (old new : Se
           };
           turns = whole_turns key false (lines.Size k size) (seen_by given seen.words false true) replies.WordsFault old (Some new) given whole
               (lacked_turns given seen.words (subst (λ (o : Outcome). SizeTold size old new given seen.words o) is told));
-        })) (passed_cause key (lines.Size k size) old like_passes before after replies.WordsFault (λ seat given free. free) Lacked (came_as Lacked is)) (left_as Lacked is) seen.books seen.seated_new seen.name_is
+        })) (passed_cause key (lines.Size k size) old like_passes before after replies.WordsFault (λ seat given free. free) Lacked (came_as Lacked is)) (⊎_elim (λ same. inl (ap (λ (s : SessionState). Some s) same)) (λ grew. inr grew) (left_as Lacked is)) seen.books seen.seated_new seen.name_is
     by_outcome Wanted is =
-        goes_wanting key false (lines.Size k size) old before after random random' seen.aside (record {}) new
+        goes_wanting key false (lines.Size k size) old before after random random' seen.aside (λ none. absurd none, tt) (record {}) new
         (record {
           takes = λ none. none;
           shows = shows_broken key old new before after (λ given. SizeTold size old new given seen.words seen.outcome) seen.told (seen.breaks is) key_is seen.name_is;

@@ -1,5 +1,5 @@
 -- What is seen of a change of size that is made piece by piece.
-use Rattle.std.proofs.Common.{◌≡◌, ◌≢◌, Bool, true, false, List, [], ◌++◌, ℕ, ◌+◌, ◌^◌, ◌<◌, ◌≤◌, refl, sym, ◌∙◌, ap, subst, Option, Some, None, Result, Ok, Err, arith}
+use Rattle.std.proofs.Common.{◌≡◌, ◌≢◌, ◌⊎◌, inl, inr, suc, Bool, true, false, List, [], ◌++◌, ℕ, ◌+◌, ◌^◌, ◌<◌, ◌≤◌, refl, sym, ◌∙◌, ap, subst, Option, Some, None, Result, Ok, Err, arith}
 use Rattle.std.specs.Prelude.{IfSome}
 use Rattle.std.proofs.lemmas.List.{append_assoc}
 use Rattle.node_tree.specs.Applying.{Size}
@@ -23,17 +23,17 @@ use Rattle.pf_session.specs.declared.fault.SizeFault.TheVariants as sizes
 use Rattle.pf_session.specs.declared.fault.Written.{Written}
 use Rattle.pf_script.specs.BookSeats.{Covers, KeepsUnder}
 use Rattle.pf_script.specs.Desk.{IsSeated}
-use Rattle.pf_script.specs.DeskSteps.{CountsFault}
+use Rattle.pf_script.specs.DeskSteps.{CountsFault, Grown}
 use Rattle.pf_script.specs.SeatReplies.{size_reply, SetsSize, IsNextSize, last_size, piece_size, SizesGo, set_last, set_failed, set_piece}
 use Rattle.pf_script.specs.declared.reply.Reply.{Reply}
 use Rattle.pf_script.specs.declared.reply.Reply.TheVariants as replies
 use Rattle.pf_script.proofs.ChangeKeeping.{change_keeps}
 use Rattle.pf_script.proofs.ChangeLine.{outcome_reply, change_seated}
 use Rattle.pf_script.proofs.ChangeTold.{Outcome, Went, Broke, Lacked, Wanted, outcome_of, flush_outcome, host_in, words_in, ChangeTold, OutcomeCame, came_after, LeftBy, ChangeSeen, seen_once, seen_unflushed, seen_after}
-use Rattle.pf_script.proofs.Flushed.{flush_case}
+use Rattle.pf_script.proofs.Flushed.{flush_case, flushed_size}
 use Rattle.pf_script.proofs.OfScript.{of_flushed}
 use Rattle.pf_script.proofs.Refusing.{none_taken}
-use Rattle.pf_script.proofs.SizeSet.{size_set}
+use Rattle.pf_script.proofs.SizeSet.{IsSet, size_set}
 use Rattle.pf_script.proofs.SizeTold.{SizeTold, told_same, told_change, told_piece}
 use Rattle.pf_script.proofs.Sparing.{aside_on}
 use Rattle.pf_script.proofs.StepKeeping.{keeps_then, keeps_more}
@@ -91,17 +91,37 @@ unflushed_wants (faults.Damaged damage) is = absurd (cc)
 unflushed_wants faults.Host is = absurd (cc)
 
 -- what is left of the session
-abbrev pub LeftBySize : ℕ → SessionState → Outcome → Type 0
-LeftBySize size new (Went flushed) = (new.broken ≡ false) × (new.tree.size ≡ size)
-LeftBySize size new (Broke blame) = new.broken ≡ true
-LeftBySize size new Lacked = new.broken ≡ false
-LeftBySize size new Wanted = Unit {0}
+abbrev pub LeftBySize : ℕ → SessionState → SessionState → Outcome → Type 0
+LeftBySize size old new (Went flushed) = (new.broken ≡ false) × (new.tree.size ≡ size)
+LeftBySize size old new (Broke blame) = new.broken ≡ true
+LeftBySize size old new Lacked = (new ≡ old) ⊎ Grown size old new
+LeftBySize size old new Wanted = Unit {0}
 
-failed_leaves : (size : ℕ) (old new : SessionState) → old.broken ≡ false → (outcome : Outcome) → ((flushed : Bool) → ¬ (outcome ≡ Went flushed)) → LeftBy old new outcome → LeftBySize size new outcome
-failed_leaves size old new whole (Went flushed) stays left = absurd (stays flushed refl)
-failed_leaves size old new whole (Broke blame) stays left = left
-failed_leaves size old new whole Lacked stays left = ap (λ (s : SessionState). s.broken) left ∙ whole
-failed_leaves size old new whole Wanted stays left = tt
+failed_leaves : (size n : ℕ) (old new : SessionState) → (outcome : Outcome) → ((flushed : Bool) → ¬ (outcome ≡ Went flushed)) → LeftBy (Size n) old new outcome → LeftBySize size old new outcome
+failed_leaves size n old new (Went flushed) stays left = absurd (stays flushed refl)
+failed_leaves size n old new (Broke blame) stays left = left
+failed_leaves size n old new Lacked stays left = inl left
+failed_leaves size n old new Wanted stays left = tt
+
+-- after one piece more
+after_piece : (size : ℕ) (old mid new : SessionState) → IsSet (old.tree.size + 32768) mid → old.tree.size + 32768 < size → (outcome : Outcome) → LeftBySize size mid new outcome → LeftBySize size old new outcome
+after_piece size old mid new set far (Went flushed) left = left
+after_piece size old mid new set far (Broke blame) left = left
+after_piece size old mid new set far Lacked (inl same) = inr (record {
+  whole = ap (λ (s : SessionState). s.broken) same ∙ set.whole;
+  steps = 1;
+  grown = ap (λ (s : SessionState). s.tree.size) same ∙ set.size_is;
+  some = omega arith;
+  more = subst (λ n. n < size) (sym (ap (λ (s : SessionState). s.tree.size) same ∙ set.size_is)) far;
+})
+after_piece size old mid new set far Lacked (inr grew) = inr (record {
+  whole = grew.whole;
+  steps = suc grew.steps;
+  grown = let mid_is = set.size_is in let grown = grew.grown in omega (arith, mid_is, grown);
+  some = omega arith;
+  more = grew.more;
+})
+after_piece size old mid new set far Wanted left = tt
 
 module _ (key : List ℕ) (size : ℕ) (small : size ≤ 2 ^ 32) where
   module _ (n : ℕ) (result : Result Written SizeFault) (old new : SessionState) (before after : HostState) (random random' : WordsState) (seated : IsSeated key old) (next : IsNextSize size old.tree.size n) where
@@ -121,7 +141,7 @@ module _ (key : List ℕ) (size : ℕ) (small : size ≤ 2 ^ 32) where
         (seen_unflushed old seated.of_script (Size n) before after random random' new fault first (flush_case old seated.of_script new before after random random' (Err fault) flush)) (λ is. absurd (unflushed_wants fault is))
     set_seen (flushed_and_changed mid between one free some first flush steps said) =
         stepped_seen true mid between one some steps
-        (seen_after old seated.of_script (Size n) before after random random' mid new between one (of_flushed old mid seated.of_script (Ok tt) before between random random' flush) first
+        (seen_after old seated.of_script (Size n) before after random random' mid new between one (of_flushed old mid seated.of_script (Ok tt) before between random random' flush) (flushed_size old mid before between random random' flush) first
         (flush_case old seated.of_script mid before between random random' (Ok tt) flush) steps) said
 
   -- what is seen of all of it
@@ -134,7 +154,7 @@ module _ (key : List ℕ) (size : ℕ) (small : size ≤ 2 ^ 32) where
     pub on_words : CountsFault (words_in outcome) random.faults random'.faults
     pub told : WhereTold before after (λ given. SizeTold size old new given words outcome)
     pub came : OutcomeCame old.name outcome before after
-    pub leaves : LeftBySize size new outcome
+    pub leaves : LeftBySize size old new outcome
     pub breaks : outcome ≡ Wanted → new.broken ≡ true
     pub seated_new : IsSeated key new
     pub name_is : new.name ≡ old.name
@@ -206,7 +226,7 @@ module _ (key : List ℕ) (size : ℕ) (small : size ≤ 2 ^ 32) where
     told = told_weaker (λ given. ChangeTold (Size n) old new given seen.words outcome) (λ given. SizeTold size old new given seen.words outcome) before after seen.told
         (λ given told. told_change old new n given seen.words outcome next some (λ f is. absurd (stays f is)) told);
     came = seen.came;
-    leaves = failed_leaves size old new sets.whole outcome stays seen.leaves;
+    leaves = failed_leaves size n old new outcome stays seen.leaves;
     breaks = breaks;
     seated_new = (set_seated n (Err fault) old new before after random random' seated sets).0;
     name_is = (set_seated n (Err fault) old new before after random random' seated sets).1;
@@ -258,7 +278,7 @@ module _ (key : List ℕ) (size : ℕ) (small : size ≤ 2 ^ 32) where
           told = told_then (λ given. ChangeTold (Size (old.tree.size + 32768)) old mid given seen.words (Went flushed)) (λ given. SizeTold size mid new given rest.words rest.outcome) (λ given. SizeTold size old new given (seen.words ++ rest.words) rest.outcome)
               before between after seen.told rest.told (λ these those told more. told_piece old mid new these those seen.words rest.words flushed rest.outcome far is.size_is told more);
           came = came_after old.name mid.name seen.came.these rest.outcome before between after mid_name seen.came.told rest.came;
-          leaves = rest.leaves;
+          leaves = after_piece size old mid new is far rest.outcome rest.leaves;
           breaks = rest.breaks;
           seated_new = rest.seated_new;
           name_is = rest.name_is ∙ mid_name;

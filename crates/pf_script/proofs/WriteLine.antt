@@ -1,5 +1,5 @@
 -- The lines `write` and `fill`, from the contract of a write.
-use Rattle.std.proofs.Common.{◌≡◌, ◌≢◌, inl, inr, Bool, true, false, List, [], ◌∷◌, ◌++◌, ℕ, ◌+◌, ◌^◌, ◌<◌, ◌≤◌, refl, sym, ◌∙◌, ap, subst, Some, Result, Ok, Err, length, replicate, arith}
+use Rattle.std.proofs.Common.{◌≡◌, ◌≢◌, inl, inr, Bool, true, false, List, [], ◌∷◌, ◌++◌, ℕ, ◌+◌, ◌^◌, ◌<◌, ◌≤◌, max, refl, sym, ◌∙◌, ap, subst, Some, Result, Ok, Err, length, replicate, arith}
 use Rattle.std.proofs.lemmas.List.{length-replicate}
 use Rattle.node_tree.specs.Applying.{Write}
 use Rattle.node_tree.specs.Backing.{now}
@@ -37,7 +37,8 @@ use Rattle.pf_script.specs.declared.reply.Why.TheVariants as whys
 use Rattle.pf_script.proofs.ChangeKeeping.{change_keeps}
 use Rattle.pf_script.proofs.ChangeLine.{outcome_reply, change_seated, none_made, line_goes}
 use Rattle.pf_script.proofs.ChangeTold.{Grew, Outcome, Wanted, outcome_of, flush_outcome, ChangeSeen, seen_once, seen_unflushed, seen_after}
-use Rattle.pf_script.proofs.Flushed.{flush_case, length_now}
+use Rattle.pf_script.proofs.FewAsked.{none_taken_at}
+use Rattle.pf_script.proofs.Flushed.{flush_case, flushed_size, length_now}
 use Rattle.pf_script.proofs.Liking.{like_some}
 use Rattle.pf_script.proofs.OfScript.{of_flushed}
 use Rattle.pf_script.proofs.Refusing.{refused_goes, first_then, none_then, at_last, none_taken, same_keeps}
@@ -63,9 +64,10 @@ module _ (at : ℕ) (bytes : List ℕ) where
   write_replies _ _ (plain k) sheets = to_write k at bytes
   write_replies _ _ (copies k count byte same) sheets = to_fill k at count byte
 
-  pub write_accepts : (line : ScriptLine) (count : ℕ) → IsWriteLine at bytes line count → (flushed : Bool) (old new : SessionState) → new.broken ≡ false → IsAcceptance (Some old) line (replies.Written count flushed) (Some new)
-  write_accepts _ _ (plain k) flushed old new whole = accepts_write k at bytes flushed old new whole
-  write_accepts _ _ (copies k count byte same) flushed old new whole = accepts_fill k at count byte flushed old new whole
+  pub write_accepts : (line : ScriptLine) (count : ℕ) → IsWriteLine at bytes line count → (flushed : Bool) (old new : SessionState) → new.broken ≡ false → new.tree.size ≡ max old.tree.size (at + length bytes) → IsAcceptance (Some old) line (replies.Written count flushed) (Some new)
+  write_accepts _ _ (plain k) flushed old new whole size_is = accepts_write k at bytes flushed old new whole size_is
+  write_accepts _ _ (copies k count byte same) flushed old new whole size_is =
+      accepts_fill k at count byte flushed old new whole (size_is ∙ ap (λ n. max old.tree.size (at + n)) (ap length same ∙ length-replicate count byte))
 
   pub write_first : (line : ScriptLine) (count : ℕ) → IsWriteLine at bytes line count → (key : List ℕ) (seat : Seat) (given : List Answer) (why : Why) → IsFirst (seated_rules seat ++ writing_rules seat at count) why → IsFirst (rules key false seat line given) why
   write_first _ _ (plain k) key seat given why first = first
@@ -205,16 +207,29 @@ module _ (key : List ℕ) (at : ℕ) (bytes : List ℕ) (line : ScriptLine) (cou
           subst (λ (s : Seat). NoneRefuses (rules any_key taken s line [])) (sym at.seat_is) (passes_own any_key taken at.own (at.like.broken_is ∙ whole) (at.like.as_large whole) []);
     }
 
+    -- an empty write is inside of the content
+    nothing_size : bytes ≡ [] → old.tree.size ≡ max old.tree.size (at + length bytes)
+    nothing_size none = omega (arith, inside, empty)
+      where
+        empty : length bytes ≡ 0
+        empty = ap length none
+
+        not_large : ¬ (2 ^ 32 < at + length bytes)
+        not_large large = free writes.TooLarge (omega (arith, empty), large)
+
+        inside : ¬ (old.tree.size < at)
+        inside past = free (writes.PastEnd old.tree.size) (omega (arith, empty), omega (arith, not_large), past, refl)
+
     -- an empty write
     empty_goes : bytes ≡ [] → (host : HostState) (words : WordsState) → SeatGoes key false line (Ok (replies.Written count false)) (Some old) (Some old) host host words words
     empty_goes none host words =
-        goes_on key false line (replies.Written count false) old host host words words (aside_none old.name host) [] [] false false
+        goes_on key false line (replies.Written count false) old host host words words (aside_none old.name host) (none_taken_at line (Some old) host words) [] [] false false
         (record { told = told_none host host refl; taken = none_taken words; on_host = refl; on_words = refl }) refl refl old
         (whole_turns key false line (seen_by [] [] false false) (replies.Written count false) old (Some old) [] whole
         (λ sealed base among linked kept.
         at_last [] (inl refl) (λ unforged. all_made key sealed (seat_on base old) line [] old [] [] [] base (none_made sealed base old among linked kept whole)
         (write_asks at bytes line count is_line (length (now base old.tree)) [] (nothing none refl)) (replies.Written count false) (write_replies at bytes line count is_line []) (passes base))))
-        (admits.none key false) (write_accepts at bytes line count is_line false old old whole)
+        (admits.none key false) (write_accepts at bytes line count is_line false old old whole (nothing_size none))
         (both_same (KeepsUnder (Covers old) (Covers old) (λ name. name ≡ old.name)) host.honest host.honest refl (same_keeps (Covers old) (λ name. name ≡ old.name))) seated refl
 
     -- a write of some bytes
@@ -222,7 +237,7 @@ module _ (key : List ℕ) (at : ℕ) (bytes : List ℕ) (line : ScriptLine) (cou
         → (outcome : Outcome) → ChangeSeen (Write at bytes) old new outcome before after random random' → (outcome ≡ Wanted → (new.broken ≡ true) × OnDisk before after (FlushesUnder line old)) → SeatGoes key false line (outcome_reply (written count) outcome) (Some old) (Some new) before after random random'
     some_goes some new before after random random' aside books seated_new name_is =
         line_goes key line old new whole (Write at bytes) (written count) (λ size. write_asks at bytes line count is_line size (Write at bytes ∷ []) (at_place some refl)) replied like_passes before after random random' aside books seated_new (seated_new.key_is ∙ sym seated.key_is) name_is
-        (write_takes at bytes line count is_line) (write_changes at bytes line count is_line) admits (λ flushed. (refl, refl)) (λ flushed seat given passed. passed) (λ flushed whole_new. write_accepts at bytes line count is_line flushed old new whole_new)
+        (write_takes at bytes line count is_line) (write_changes at bytes line count is_line) admits (λ flushed. (refl, refl)) (λ flushed seat given passed. passed) (λ flushed whole_new size_is. write_accepts at bytes line count is_line flushed old new whole_new size_is)
       where
         replied : (flushed : Bool) (sheets : List Sheet) → Grew flushed [] sheets → IsChangeReply sheets line (replies.Written count flushed)
         replied false sheets grew = subst (λ (s : List Sheet). IsChangeReply s line (replies.Written count false)) (sym grew) (write_replies at bytes line count is_line [])
@@ -272,6 +287,6 @@ write_goes key at bytes line count is_line old new result before after random ra
         as_result (stepped write_of_tree true one) said
         (by_reply (outcome_reply (written count) (outcome_of true one)) (write_reply count (stepped write_of_tree true one)) (stepped_reply count true one)
         (some_goes key at bytes line count is_line old seated whole free some new before after random random' aside books seated_new.0 seated_new.1 (outcome_of true one)
-        (seen_after old seated.of_script (Write at bytes) before after random random' mid new between one (of_flushed old mid seated.of_script (Ok tt) before between random random' flush) first
+        (seen_after old seated.of_script (Write at bytes) before after random random' mid new between one (of_flushed old mid seated.of_script (Ok tt) before between random random' flush) (flushed_size old mid before between random random' flush) first
         (flush_case old seated.of_script mid before between random random' (Ok tt) flush) steps)
         (λ wants. (wanted_breaks true one mid new steps.state wants, flushes (outcome_of true one) (stepped_reply count true one ∙ ap (write_reply count) (sym said)) wants))))

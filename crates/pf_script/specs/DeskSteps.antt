@@ -1,7 +1,8 @@
 -- What a step of a desk comes to.
-use Rattle.std.specs.Prelude.{⊤, ◌≡◌, ◌≢◌, ◌⊎◌, ℕ, ◌+◌, ◌-◌, ◌<◌, min, Bool, true, false, List, [], ◌++◌, length, Contains, replicate, Option, Some, None, IsSomeAnd, Result, Ok, Err}
+use Rattle.std.specs.Prelude.{⊤, ◌≡◌, ◌≢◌, ◌⊎◌, ℕ, ◌+◌, ◌-◌, ◌*◌, ◌<◌, min, max, Bool, true, false, List, [], ◌++◌, length, Contains, replicate, Option, Some, None, IsSomeAnd, Result, Ok, Err}
 use Rattle.node_tree.specs.Backing.{now}
-use Rattle.node_tree.specs.Reading.{KeepsFields as KeepsTree}
+use Rattle.node_tree.specs.Fetching.{CountsReads}
+use Rattle.node_tree.specs.Reading.{KeepsFields as KeepsTree, ReadsFew}
 use Rattle.node_tree.specs.Sheet.{Sheet}
 use Rattle.node_tree.specs.State.{Held}
 use Rattle.node_tree.specs.Unforged.{Unforged}
@@ -23,7 +24,7 @@ use Rattle.pf_script.specs.BookSeats.{Covering, Covers, CoversOn, CoversNone, Ke
 use Rattle.pf_script.specs.Desk.{DeskState, session_at, IsSeatOf, IsLike, IsLikeDesk, Shows, IsStateOf}
 use Rattle.pf_script.specs.Rules.{NoneRefuses, rules}
 use Rattle.pf_script.specs.Script.{Seat, Empty, Own, ScriptState, seat_at, sheets_of, seat_of_line, name_of_line}
-use Rattle.pf_script.specs.SeatSteps.{broken_seat}
+use Rattle.pf_script.specs.SeatSteps.{PIECE, broken_seat}
 use Rattle.pf_script.specs.Turns.{Seen, SeatTurn, Caused, CausedIn, Turn, on_carried}
 use Rattle.pf_script.specs.declared.line.ScriptLine.{ScriptLine}
 use Rattle.pf_script.specs.declared.line.ScriptLine.TheVariants as lines
@@ -173,6 +174,14 @@ TakesNone (lines.Draw seat) = ⊤
 TakesNone (lines.Close seat) = ⊤
 TakesNone other = ⊥
 
+-- lines that take no random words
+abbrev pub TakesNoWords : ScriptLine → Type 0
+TakesNoWords lines.Blank = ⊤
+TakesNoWords (lines.Open seat name) = ⊤
+TakesNoWords (lines.View seat path) = ⊤
+TakesNoWords (lines.Read seat at count) = ⊤
+TakesNoWords other = ⊥
+
 -- lines that change a content
 abbrev pub IsChange : ScriptLine → Type 0
 IsChange (lines.Write seat at bytes) = ⊤
@@ -270,18 +279,18 @@ pub record Wants (line : ScriptLine) (old new : DeskState) (before after : HostS
 
 -- what an accepted reply to a line leaves in its seat
 pub data IsAcceptance : Option SessionState → ScriptLine → Reply → Option SessionState → Type 0 where
-  to_create : (k : ℕ) (name : Name) (new : SessionState) → new.name ≡ name → new.broken ≡ false → new.tree.size ≡ 0 → IsAcceptance None (lines.Create k name) replies.Created (Some new)
-  to_open : (k : ℕ) (name : Name) (new : SessionState) → new.name ≡ name → new.broken ≡ false → new.changed ≡ false → IsAcceptance None (lines.Open k name) (replies.Opened new.tree.size) (Some new)
+  to_create : (k : ℕ) (name : Name) (new : SessionState) → new.name ≡ name → new.broken ≡ false → new.changed ≡ false → new.drawn ≡ None → new.tree.size ≡ 0 → IsAcceptance None (lines.Create k name) replies.Created (Some new)
+  to_open : (k : ℕ) (name : Name) (new : SessionState) → new.name ≡ name → new.broken ≡ false → new.changed ≡ false → new.drawn ≡ None → IsAcceptance None (lines.Open k name) (replies.Opened new.tree.size) (Some new)
   to_read : (k at count : ℕ) (bytes : List ℕ) (old new : SessionState) → length bytes ≡ min count (old.tree.size - at) → HoldsMore old new → IsAcceptance (Some old) (lines.Read k at count) (replies.Given bytes) (Some new)
-  to_write : (k at : ℕ) (bytes : List ℕ) (flushed : Bool) (old new : SessionState) → new.broken ≡ false → IsAcceptance (Some old) (lines.Write k at bytes) (replies.Written (length bytes) flushed) (Some new)
-  to_fill : (k at count byte : ℕ) (flushed : Bool) (old new : SessionState) → new.broken ≡ false → IsAcceptance (Some old) (lines.Fill k at count byte) (replies.Written count flushed) (Some new)
+  to_write : (k at : ℕ) (bytes : List ℕ) (flushed : Bool) (old new : SessionState) → new.broken ≡ false → new.tree.size ≡ max old.tree.size (at + length bytes) → IsAcceptance (Some old) (lines.Write k at bytes) (replies.Written (length bytes) flushed) (Some new)
+  to_fill : (k at count byte : ℕ) (flushed : Bool) (old new : SessionState) → new.broken ≡ false → new.tree.size ≡ max old.tree.size (at + count) → IsAcceptance (Some old) (lines.Fill k at count byte) (replies.Written count flushed) (Some new)
   to_size : (k n : ℕ) (old new : SessionState) → new.broken ≡ false → new.tree.size ≡ n → IsAcceptance (Some old) (lines.Size k n) (replies.Sized n) (Some new)
-  to_flush : (k : ℕ) (old new : SessionState) → new.broken ≡ false → new.changed ≡ false → IsAcceptance (Some old) (lines.Flush k) replies.Flushed (Some new)
-  to_move : (k : ℕ) (name : Name) (old new : SessionState) → new.name ≡ name → new.broken ≡ false → IsAcceptance (Some old) (lines.Move k name) replies.Moved (Some new)
+  to_flush : (k : ℕ) (old new : SessionState) → new.broken ≡ false → new.changed ≡ false → new.drawn ≡ None → new.tree.size ≡ old.tree.size → IsAcceptance (Some old) (lines.Flush k) replies.Flushed (Some new)
+  to_move : (k : ℕ) (name : Name) (old new : SessionState) → new.name ≡ name → new.broken ≡ false → new.changed ≡ false → new.tree.size ≡ old.tree.size → IsAcceptance (Some old) (lines.Move k name) replies.Moved (Some new)
   to_draw : (k : ℕ) (nonce : List ℕ) (old new : SessionState) → new ≡ record old { drawn = Some nonce } → IsAcceptance (Some old) (lines.Draw k) (replies.Drawn nonce) (Some new)
   to_close : (k : ℕ) (old : SessionState) → IsAcceptance (Some old) (lines.Close k) (replies.Closed old.broken) None
 
--- what a fault of the host or a damage leaves there
+-- what a fault of the host leaves there
 abbrev pub LeftAtFault : ScriptLine → Option SessionState → Option SessionState → Type 0
 LeftAtFault lines.Blank old new = ⊥
 LeftAtFault (lines.Create k name) old new = new ≡ old
@@ -296,6 +305,25 @@ LeftAtFault (lines.Move k name) old new = (new ≡ old) ⊎ IsBrokenSession new
 LeftAtFault (lines.Draw k) old new = ⊥
 LeftAtFault (lines.Close k) old new = new ≡ None
 
+-- what a damage leaves there: none is met where a file is made, and in a move only by calls that break the seat
+abbrev pub LeftAtDamage : ScriptLine → Option SessionState → Option SessionState → Type 0
+LeftAtDamage (lines.Create k name) old new = ⊥
+LeftAtDamage (lines.Move k name) old new = IsBrokenSession new
+LeftAtDamage other old new = LeftAtFault other old new
+
+-- a session that grew by some steps of a piece, with more to come
+pub record Grown (n : ℕ) (old new : SessionState) : Type 0 where
+  pub whole : new.broken ≡ false
+  pub steps : ℕ
+  pub grown : new.tree.size ≡ old.tree.size + steps * PIECE
+  pub some : 0 < steps
+  pub more : new.tree.size < n
+
+abbrev pub GrewTo : ℕ → Option SessionState → Option SessionState → Type 0
+GrewTo n (Some old) (Some new) = Grown n old new
+GrewTo n (Some old) None = ⊥
+GrewTo n None new = ⊥
+
 -- what is left where a random word was wanting: steps that a `size` line had made stand
 abbrev pub LeftAtWords : ScriptLine → Option SessionState → Option SessionState → Type 0
 LeftAtWords lines.Blank old new = ⊥
@@ -305,7 +333,7 @@ LeftAtWords (lines.View k path) old new = ⊥
 LeftAtWords (lines.Read k at count) old new = ⊥
 LeftAtWords (lines.Write k at bytes) old new = new ≡ old
 LeftAtWords (lines.Fill k at count byte) old new = new ≡ old
-LeftAtWords (lines.Size k n) old new = IsSomeAnd new (λ session. session.broken ≡ false)
+LeftAtWords (lines.Size k n) old new = (new ≡ old) ⊎ GrewTo n old new
 LeftAtWords (lines.Flush k) old new = new ≡ old
 LeftAtWords (lines.Move k name) old new = new ≡ old
 LeftAtWords (lines.Draw k) old new = new ≡ old
@@ -314,10 +342,20 @@ LeftAtWords (lines.Close k) old new = new ≡ None
 -- What stands in the seat of a line after its reply, whatever is told or forged. A refusal leaves it, and takes no random words.
 abbrev pub LeavesSeat : ScriptLine → Reply → Option SessionState → Option SessionState → WordsState → WordsState → Type 0
 LeavesSeat line (replies.Refused why) old new random random' = (new ≡ old) × (random' ≡ random)
-LeavesSeat line (replies.DamagedNode damage) old new random random' = LeftAtFault line old new
+LeavesSeat line (replies.DamagedNode damage) old new random random' = LeftAtDamage line old new
 LeavesSeat line replies.HostFault old new random random' = LeftAtFault line old new
 LeavesSeat line replies.WordsFault old new random random' = LeftAtWords line old new
 LeavesSeat line other old new random random' = IsAcceptance old line other new
+
+-- What a line reads at most: a blank one, `view` and `draw` ask for nothing, an opening reads node 0 once, and a read each touched node that was not held.
+abbrev pub AsksFew : ScriptLine → Option SessionState → HostState → HostState → Type 0
+AsksFew lines.Blank old before after = after ≡ before
+AsksFew (lines.Open k name) old before after = CountsReads 1 before after
+AsksFew (lines.View k path) old before after = after ≡ before
+AsksFew (lines.Read k at count) None before after = after ≡ before
+AsksFew (lines.Read k at count) (Some session) before after = ReadsFew at (min count (session.tree.size - at)) session.tree before after
+AsksFew (lines.Draw k) old before after = after ≡ before
+AsksFew other old before after = ⊤
 
 abbrev pub WhereWanting : Result Reply Memory → Type 0 → Type 0
 WhereWanting (Ok reply) P = ⊤
@@ -334,6 +372,8 @@ pub record SeatGoes (key : List ℕ) (taken : Bool) (line : ScriptLine) (result 
   pub leaves : WhereReplied result (λ reply. LeavesSeat line reply old new random random')
   pub books : OnDisk before after (KeepsUnder (CoversSome old) (CoversSome new) (Concerns taken line old))
   pub counts : CountsReply result before after random random'
+  pub wordless : TakesNoWords line → random' ≡ random
+  pub few : AsksFew line old before after
   pub wants : WhereWanting result (SeatWants key line old new before after random random')
   pub seated : IsSeatOf key new
   pub named : (name : Name) → HasItsName new name → Concerns taken line old name
@@ -350,6 +390,8 @@ pub record DeskGoes (line : ScriptLine) (result : Result Reply Memory) (old new 
   pub named : KeepsNames line old new
   pub spares : Spares (ConcernsDesk line old) before after
   pub counts : CountsReply result before after random random'
+  pub wordless : TakesNoWords line → random' ≡ random
+  pub few : (k : ℕ) → seat_of_line line ≡ Some k → AsksFew line (session_at old k) before after
   pub wants : WhereWanting result (Wants line old new before after random random')
 
 -- the closing of a seat after the last line: nothing is done for an empty one

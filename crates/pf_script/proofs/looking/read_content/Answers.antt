@@ -2,7 +2,7 @@ use Rattle.std.proofs.Common.{◌≡◌, ℕ, ◌-◌, min, List, false, sym, �
 use Rattle.std.proofs.lemmas.List.{length-replicate}
 use Rattle.std.proofs.lemmas.Result.{err_from_is_err_and}
 use Rattle.pf_io.specs.declared.faults.Memory.{Memory}
-use Rattle.node_tree.specs.Reading.{DamageComes}
+use Rattle.node_tree.specs.Reading.{DamageComes, ReadsFew}
 use Rattle.pf_session.specs.State.{file_of}
 use Rattle.pf_script.specs.SeatReplies.{read_reply}
 use Rattle.pf_script.specs.DeskSteps.{SeatGoes}
@@ -36,7 +36,8 @@ returns-clause-goes g c key k words seated =
     (sym (c.read_reply.ensures ∙ ap (λ (b : List ℕ). read_reply b c.read-read.result) (lent_all buffer c.in_ok-bytes.bytes lent)))
     (read_goes key k c.args.at c.args.count s c.read-read.new.self c.read-read.result buffer before after words seated c.requires.whole c.requires.few room c.read-read.ensures.fields c.read-read.ensures.reads c.read-read.ensures.cause
     c.read-read.ensures.backed
-    (subst (λ n. DamageComes c.read-read.result (file_of s) c.args.at n s.tree before after) (sym kept) c.read-read.ensures.damage) c.read-read.ensures.standing c.read-read.ensures.disk)
+    (subst (λ n. DamageComes c.read-read.result (file_of s) c.args.at n s.tree before after) (sym kept) c.read-read.ensures.damage) c.read-read.ensures.standing c.read-read.ensures.disk
+    (subst (λ n. ReadsFew c.args.at n s.tree before after) (sym kept) c.read-read.ensures.few))
 
 pub returns-in_err-bytes-clause-booked : goal.returns-in_err-bytes-clause-booked
 returns-in_err-bytes-clause-booked g c key k words seated =

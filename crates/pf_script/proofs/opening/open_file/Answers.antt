@@ -62,7 +62,7 @@ returns-in-Ok-clause-goes g c k words seated =
     let none = none_there c.args.seat.now (sym c.is_some.ensures ∙ c.if-is_some.false) in
     goes_at c.args.key.now c.args.taken line (Ok (replies.Opened c.size-size.result)) c.args.seat.now (Some c.in-Ok.session) before after words words none c.if-taken.false
     (subst (λ n. SeatGoes c.args.key.now false line (Ok (replies.Opened n)) None (Some c.in-Ok.session) before after words words) (sym c.size-size.ensures.same)
-    (open_line c.args.key.now k c.args.name.now (Ok c.in-Ok.session) before after words c.utf8.name c.told-key c.in-Ok.ensures.opens c.in-Ok.ensures.disk c.in-Ok.ensures.unforged c.in-Ok.ensures.reopens).goes)
+    (open_line c.args.key.now k c.args.name.now (Ok c.in-Ok.session) before after words c.utf8.name c.told-key c.in-Ok.ensures.opens c.in-Ok.ensures.disk c.in-Ok.ensures.few c.in-Ok.ensures.unforged c.in-Ok.ensures.reopens).goes)
 
 pub returns-in-Err-clause-goes : goal.returns-in-Err-clause-goes
 returns-in-Err-clause-goes g c k words seated =
@@ -73,7 +73,7 @@ returns-in-Err-clause-goes g c k words seated =
     subst (λ (r : Result Reply Memory). SeatGoes c.args.key.now c.args.taken line r c.args.seat.now c.args.seat.now before after words words) (sym (c.open_fault.ensures ∙ ap (λ (n : List ℕ). open_reply n c.in-Err.fault) c.in_ok-text.ensures))
     (subst (λ (o : Option SessionState). SeatGoes c.args.key.now c.args.taken line (open_reply c.args.name.now c.in-Err.fault) c.args.seat.now o before after words words) (sym none)
     (goes_at c.args.key.now c.args.taken line (open_reply c.args.name.now c.in-Err.fault) c.args.seat.now None before after words words none c.if-taken.false
-    (open_line c.args.key.now k c.args.name.now (Err c.in-Err.fault) before after words c.utf8.name c.told-key c.in-Err.ensures.opens c.in-Err.ensures.disk tt tt).goes))
+    (open_line c.args.key.now k c.args.name.now (Err c.in-Err.fault) before after words c.utf8.name c.told-key c.in-Err.ensures.opens c.in-Err.ensures.disk c.in-Err.ensures.few tt tt).goes))
 
 pub returns-in-Ok-clause-booked : goal.returns-in-Ok-clause-booked
 returns-in-Ok-clause-booked g c k words seated =
@@ -83,7 +83,7 @@ returns-in-Ok-clause-booked g c k words seated =
     let none = none_there c.args.seat.now (sym c.is_some.ensures ∙ c.if-is_some.false) in
     booked_at c.args.key.now c.args.taken line (Ok (replies.Opened c.size-size.result)) c.args.seat.now (Some c.in-Ok.session) before after words words none c.if-taken.false
     (subst (λ n. SeatBooked c.args.key.now false line (Ok (replies.Opened n)) None (Some c.in-Ok.session) before after words words) (sym c.size-size.ensures.same)
-    (open_line c.args.key.now k c.args.name.now (Ok c.in-Ok.session) before after words c.utf8.name c.told-key c.in-Ok.ensures.opens c.in-Ok.ensures.disk c.in-Ok.ensures.unforged c.in-Ok.ensures.reopens).booked)
+    (open_line c.args.key.now k c.args.name.now (Ok c.in-Ok.session) before after words c.utf8.name c.told-key c.in-Ok.ensures.opens c.in-Ok.ensures.disk c.in-Ok.ensures.few c.in-Ok.ensures.unforged c.in-Ok.ensures.reopens).booked)
 
 pub returns-in-Err-clause-booked : goal.returns-in-Err-clause-booked
 returns-in-Err-clause-booked g c k words seated =
@@ -94,4 +94,4 @@ returns-in-Err-clause-booked g c k words seated =
     subst (λ (r : Result Reply Memory). SeatBooked c.args.key.now c.args.taken line r c.args.seat.now c.args.seat.now before after words words) (sym (c.open_fault.ensures ∙ ap (λ (n : List ℕ). open_reply n c.in-Err.fault) c.in_ok-text.ensures))
     (subst (λ (o : Option SessionState). SeatBooked c.args.key.now c.args.taken line (open_reply c.args.name.now c.in-Err.fault) c.args.seat.now o before after words words) (sym none)
     (booked_at c.args.key.now c.args.taken line (open_reply c.args.name.now c.in-Err.fault) c.args.seat.now None before after words words none c.if-taken.false
-    (open_line c.args.key.now k c.args.name.now (Err c.in-Err.fault) before after words c.utf8.name c.told-key c.in-Err.ensures.opens c.in-Err.ensures.disk tt tt).booked))
+    (open_line c.args.key.now k c.args.name.now (Err c.in-Err.fault) before after words c.utf8.name c.told-key c.in-Err.ensures.opens c.in-Err.ensures.disk c.in-Err.ensures.few tt tt).booked))
