@@ -1,9 +1,11 @@
 // What a path, a metadata node and its encrypted part are, at their limits.
 ghost use Rattle.std.specs.Prelude.{◌≤◌, length};
 
-use crate::{Kind, MetaPlain, MetaSecret, PathText, PlainFault, SecretFault, open_meta, seal_meta};
 use aes_gcm::{Key, seal_in_place};
 use cmac_kdf::metadata_key;
+use node_layout::{
+    Kind, MetaPlain, MetaSecret, PathText, PlainFault, SecretFault, open_meta, seal_meta,
+};
 use std::process::Abort;
 use std::str;
 

@@ -1,6 +1,6 @@
 ghost use Rattle.std.specs.Prelude.{◌≡◌, ◌≤◌, length, IfOk};
 
-use crate::{ChunkFault, TrustFault, TrustedFile};
+use trusted_chunks::{ChunkFault, TrustFault, TrustedFile};
 use lru::LruCache;
 use pf_fakes::{Answer, ScriptHost};
 use pf_io::{Bytes, MemHost, Text};

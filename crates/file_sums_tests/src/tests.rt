@@ -1,6 +1,6 @@
 ghost use Rattle.std.specs.Prelude.{◌≡◌, length, IfOk};
 
-use crate::{AllFault, SumFault, Sums, sum, sum_all, sum_line};
+use file_sums::{AllFault, SumFault, Sums, sum, sum_all, sum_line};
 use manifest_model::Manifest;
 use pf_fakes::{Answer, ScriptHost};
 use pf_io::{Bytes, Host, MemHost};
