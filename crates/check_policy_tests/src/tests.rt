@@ -77,10 +77,28 @@ fn joined(alloc: Global, front: &str, unit: &str, count: usize) -> Result<String
     Ok(text)
 }
 
+// Each row has a path, the kind of its place and a name.
+fn expect_places(
+    rt: &impl Abort,
+    alloc: Global,
+    manifest: &Manifest,
+    rows: &[(&str, &str, &str)],
+) {
+    for (path, kind, name) in rows {
+        assert!(rt; leads(alloc, manifest, path, kind, name), "{path}");
+    }
+}
+
+fn expect_verdicts(rt: &impl Abort, manifest: &Manifest, rows: &[(&str, Verdict)]) {
+    for (uri, verdict) in rows {
+        assert!(rt; decide(manifest, uri) == *verdict, "{uri}");
+    }
+}
+
 #[test]
 fn paths_of_the_realistic_manifest_lead_to_its_files(rt: HostRuntime) {
     let manifest = read(&rt, rt.alloc(), REALISTIC);
-    for (path, kind, name) in [
+    let rows = [
         ("/app/hello", "file", "app/hello"),
         ("/app/../app//notes", "file", "app/notes"),
         ("/lib/libsysdb.so", "file", "/opt/gramine/libsysdb.so"),
@@ -90,42 +108,39 @@ fn paths_of_the_realistic_manifest_lead_to_its_files(rt: HostRuntime) {
         ("app/hello", "bad path", ""),
         ("/app\0", "bad path", ""),
         ("", "bad path", ""),
-    ] {
-        assert!(rt; leads(rt.alloc(), &manifest, path, kind, name), "{path}");
-    }
+    ];
+    expect_places(&rt, rt.alloc(), &manifest, &rows);
 }
 
 #[test]
 fn the_realistic_manifest_decides_on_its_files(rt: HostRuntime) {
     let manifest = read(&rt, rt.alloc(), REALISTIC);
-    for (uri, verdict) in [
+    let rows = [
         ("file:app/hello", Verdict::Trusted(ABC)),
         ("file:app/notes", Verdict::Allowed),
         ("file:app/other", Verdict::Denied),
         ("file:/opt/gramine/libsysdb.so", Verdict::NoSum),
         ("file:./app/hello", Verdict::Denied),
         ("app/hello", Verdict::Denied),
-    ] {
-        assert!(rt; decide(&manifest, uri) == verdict, "{uri}");
-    }
+    ];
+    expect_verdicts(&rt, &manifest, &rows);
 }
 
 #[test]
 fn trusted_comes_before_allowed_and_the_policy_last(rt: HostRuntime) {
     let manifest = read(&rt, rt.alloc(), MOUNTS);
-    for (uri, verdict) in [
+    let rows = [
         ("file:a", Verdict::NoSum),
         ("file:b", Verdict::Trusted(ABC)),
         ("file:c", Verdict::Logged),
-    ] {
-        assert!(rt; decide(&manifest, uri) == verdict, "{uri}");
-    }
+    ];
+    expect_verdicts(&rt, &manifest, &rows);
 }
 
 #[test]
 fn the_last_mount_with_the_most_parts_serves(rt: HostRuntime) {
     let manifest = read(&rt, rt.alloc(), MOUNTS);
-    for (path, kind, name) in [
+    let rows = [
         ("/a/b/c", "file", "second/c"),
         ("/a/b", "file", "second"),
         ("/a/bc", "file", "/above/bc"),
@@ -134,9 +149,8 @@ fn the_last_mount_with_the_most_parts_serves(rt: HostRuntime) {
         ("/tmp/x", "nothing", ""),
         ("/elsewhere/x", "nothing", ""),
         ("/l/x", "no key", "default"),
-    ] {
-        assert!(rt; leads(rt.alloc(), &manifest, path, kind, name), "{path}");
-    }
+    ];
+    expect_places(&rt, rt.alloc(), &manifest, &rows);
 }
 
 #[test]
@@ -155,7 +169,10 @@ fn names_have_at_most_512_bytes_before_a_key_is_sought(rt: HostRuntime) -> Resul
         ("/l/", 506, "bad path", ""),
     ] {
         let path = joined(alloc, mount, "x", count)?;
-        assert!(rt; leads(alloc, &manifest, path.as_str(), kind, name), "{mount}");
+        assert!(rt;
+            leads(alloc, &manifest, path.as_str(), kind, name),
+            "{mount}"
+        );
     }
     Ok(())
 }

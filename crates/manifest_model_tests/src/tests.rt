@@ -22,7 +22,10 @@ sgx.trusted_files = [
 sgx.allowed_files = [ \"file:app/notes\" ]
 ";
 
-const ABC: [u8; 32] = [0xba, 0x78, 0x16, 0xbf, 0x8f, 0x01, 0xcf, 0xea, 0x41, 0x41, 0x40, 0xde, 0x5d, 0xae, 0x22, 0x23, 0xb0, 0x03, 0x61, 0xa3, 0x96, 0x17, 0x7a, 0x9c, 0xb4, 0x10, 0xff, 0x61, 0xf2, 0x00, 0x15, 0xad];
+const ABC: [u8; 32] = [
+    0xba, 0x78, 0x16, 0xbf, 0x8f, 0x01, 0xcf, 0xea, 0x41, 0x41, 0x40, 0xde, 0x5d, 0xae, 0x22, 0x23,
+    0xb0, 0x03, 0x61, 0xa3, 0x96, 0x17, 0x7a, 0x9c, 0xb4, 0x10, 0xff, 0x61, 0xf2, 0x00, 0x15, 0xad,
+];
 
 // Whether these bytes are a manifest, or are refused so, with that text.
 fn says(alloc: Global, bytes: &[u8], kind: &str, what: &str) -> bool {
@@ -104,7 +107,13 @@ fn expect_realistic(rt: &impl Abort, manifest: &Manifest) {
     assert!(rt; has_allowed(manifest, 0, "file:app/notes"));
     for (k, kind, path, name, key) in [
         (0, MountKind::Chroot, "/", Some("."), "default"),
-        (1, MountKind::Chroot, "/lib", Some("/opt/gramine"), "default"),
+        (
+            1,
+            MountKind::Chroot,
+            "/lib",
+            Some("/opt/gramine"),
+            "default",
+        ),
         (2, MountKind::Chroot, "/app", Some("app"), "default"),
         (3, MountKind::Encrypted, "/data", Some("data"), "disk"),
     ] {
@@ -175,29 +184,81 @@ fn refuses_at_the_first_place(rt: HostRuntime) {
         ("a = 2024-01-01", "field", "a"),
         ("sgx = 1\nfs = 2", "field", "sgx"),
         ("fs = 2", "field", "fs"),
-        ("sgx.file_check_policy = 1", "field", "sgx.file_check_policy"),
+        (
+            "sgx.file_check_policy = 1",
+            "field",
+            "sgx.file_check_policy",
+        ),
         ("sgx.file_check_policy = \"all\"", "policy", "all"),
-        ("sgx.trusted_files = \"file:a\"", "field", "sgx.trusted_files"),
-        ("sgx.trusted_files = [ \"file:a\", 1 ]", "field", "sgx.trusted_files[1]"),
-        ("sgx.trusted_files = [ { sha256 = 1 } ]", "field", "sgx.trusted_files[0].uri"),
-        ("sgx.trusted_files = [ { uri = \"dev:a\", sha256 = 1 } ]", "uri", "dev:a"),
-        ("sgx.trusted_files = [ { uri = \"file:a\", sha256 = 1 } ]", "field", "sgx.trusted_files[0].sha256"),
-        ("sgx.trusted_files = [ { uri = \"file:a\", sha256 = \"00\" } ]", "sum", "file:a"),
+        (
+            "sgx.trusted_files = \"file:a\"",
+            "field",
+            "sgx.trusted_files",
+        ),
+        (
+            "sgx.trusted_files = [ \"file:a\", 1 ]",
+            "field",
+            "sgx.trusted_files[1]",
+        ),
+        (
+            "sgx.trusted_files = [ { sha256 = 1 } ]",
+            "field",
+            "sgx.trusted_files[0].uri",
+        ),
+        (
+            "sgx.trusted_files = [ { uri = \"dev:a\", sha256 = 1 } ]",
+            "uri",
+            "dev:a",
+        ),
+        (
+            "sgx.trusted_files = [ { uri = \"file:a\", sha256 = 1 } ]",
+            "field",
+            "sgx.trusted_files[0].sha256",
+        ),
+        (
+            "sgx.trusted_files = [ { uri = \"file:a\", sha256 = \"00\" } ]",
+            "sum",
+            "file:a",
+        ),
         ("sgx.trusted_files = [ \"file:a/\" ]", "uri", "file:a/"),
         ("sgx.trusted_files = [ \"file:\" ]", "uri", "file:"),
-        ("sgx.allowed_files = [ \"file:a\", 1 ]", "field", "sgx.allowed_files[1]"),
+        (
+            "sgx.allowed_files = [ \"file:a\", 1 ]",
+            "field",
+            "sgx.allowed_files[1]",
+        ),
         ("sgx.allowed_files = [ \"a\" ]", "uri", "a"),
         ("fs.root = 1", "field", "fs.root"),
         ("fs.root.type = 1", "field", "fs.root.type"),
         ("fs.root.uri = \"file:\"", "uri", "file:"),
         ("fs.mounts = [ 1 ]", "field", "fs.mounts[0]"),
-        ("fs.mounts = [ { path = \"a\", uri = \"file:a\" } ]", "field", "fs.mounts[0].path"),
-        ("fs.mounts = [ { path = \"/a\" } ]", "field", "fs.mounts[0].uri"),
-        ("fs.mounts = [ { path = \"/a\", uri = \"file:\" } ]", "uri", "file:"),
-        ("fs.mounts = [ { path = \"/a\", uri = \"file:a\", key_name = 1 } ]", "field", "fs.mounts[0].key_name"),
+        (
+            "fs.mounts = [ { path = \"a\", uri = \"file:a\" } ]",
+            "field",
+            "fs.mounts[0].path",
+        ),
+        (
+            "fs.mounts = [ { path = \"/a\" } ]",
+            "field",
+            "fs.mounts[0].uri",
+        ),
+        (
+            "fs.mounts = [ { path = \"/a\", uri = \"file:\" } ]",
+            "uri",
+            "file:",
+        ),
+        (
+            "fs.mounts = [ { path = \"/a\", uri = \"file:a\", key_name = 1 } ]",
+            "field",
+            "fs.mounts[0].key_name",
+        ),
         ("fs.insecure__keys = 1", "field", "fs.insecure__keys"),
         ("fs.insecure__keys.a = 1", "field", "fs.insecure__keys.a"),
-        ("fs.insecure__keys.b = \"1\"\nfs.insecure__keys.a = \"2\"", "key", "a"),
+        (
+            "fs.insecure__keys.b = \"1\"\nfs.insecure__keys.a = \"2\"",
+            "key",
+            "a",
+        ),
         (TWO_SUMS, "two sums", "file:b/../a"),
     ] {
         assert!(rt; says(rt.alloc(), text.as_bytes(), kind, what), "{text}");

@@ -18,7 +18,13 @@ fn rendered(alloc: Global, template: &str, values: &[(Text, Text)]) -> Option<Te
 }
 
 // Whether a template is refused so, at this place.
-fn refuses(alloc: Global, template: &str, values: &[(Text, Text)], kind: &str, place: usize) -> bool {
+fn refuses(
+    alloc: Global,
+    template: &str,
+    values: &[(Text, Text)],
+    kind: &str,
+    place: usize,
+) -> bool {
     match render(alloc, template, values) {
         Ok(_text) => false,
         Err(RenderFault::Unclosed { at }) => kind == "unclosed" && at == place,
@@ -66,7 +72,10 @@ fn renders_values_comments_and_raw_text(rt: HostRuntime) -> Result<(), Fail> {
         ("{%raw%}{%endraw%}", ""),
     ] {
         let found = rendered(alloc, template, &values);
-        assert!(rt; found.is_some_and(|found| found.as_str() == text), "{template}");
+        assert!(rt;
+            found.is_some_and(|found| found.as_str() == text),
+            "{template}"
+        );
     }
     Ok(())
 }
@@ -118,7 +127,8 @@ fn writes_16777216_bytes_and_no_more(rt: HostRuntime) -> Result<(), Fail> {
         ("x{{q}}{{q}}{{q}}{{q}}", "too long", 16),
         (
             "{{q}}{{q}}{{q}}{{q}}{{e}}{%raw%}é{%endraw%}",
-            "too long", 25,
+            "too long",
+            25,
         ),
     ] {
         assert!(rt; refuses(alloc, template, &values, kind, at), "{template}");
