@@ -78,12 +78,7 @@ fn joined(alloc: Global, front: &str, unit: &str, count: usize) -> Result<String
 }
 
 // Each row has a path, the kind of its place and a name.
-fn expect_places(
-    rt: &impl Abort,
-    alloc: Global,
-    manifest: &Manifest,
-    rows: &[(&str, &str, &str)],
-) {
+fn expect_places(rt: &impl Abort, alloc: Global, manifest: &Manifest, rows: &[(&str, &str, &str)]) {
     for (path, kind, name) in rows {
         assert!(rt; leads(alloc, manifest, path, kind, name), "{path}");
     }

@@ -175,9 +175,16 @@ const TWO_SUMS: &str = "sgx.trusted_files = [
 ]
 ";
 
+// Each row has a text, the kind of its refusal and what is named.
+fn expect_refusals(rt: &impl Abort, alloc: Global, rows: &[(&str, &str, &str)]) {
+    for (text, kind, what) in rows {
+        assert!(rt; says(alloc, text.as_bytes(), kind, what), "{text}");
+    }
+}
+
 #[test]
-fn refuses_at_the_first_place(rt: HostRuntime) {
-    for (text, kind, what) in [
+fn refuses_a_table_at_the_first_place(rt: HostRuntime) {
+    let rows = [
         ("a = ", "not toml", ""),
         ("a = 1\na = 2", "not toml", ""),
         ("sgx = 1\nx.y = [ 1, [ 2.5 ] ]", "field", "x.y[1][0]"),
@@ -190,6 +197,13 @@ fn refuses_at_the_first_place(rt: HostRuntime) {
             "sgx.file_check_policy",
         ),
         ("sgx.file_check_policy = \"all\"", "policy", "all"),
+    ];
+    expect_refusals(&rt, rt.alloc(), &rows);
+}
+
+#[test]
+fn refuses_files_at_the_first_place(rt: HostRuntime) {
+    let rows = [
         (
             "sgx.trusted_files = \"file:a\"",
             "field",
@@ -228,6 +242,14 @@ fn refuses_at_the_first_place(rt: HostRuntime) {
             "sgx.allowed_files[1]",
         ),
         ("sgx.allowed_files = [ \"a\" ]", "uri", "a"),
+        (TWO_SUMS, "two sums", "file:b/../a"),
+    ];
+    expect_refusals(&rt, rt.alloc(), &rows);
+}
+
+#[test]
+fn refuses_mounts_and_keys_at_the_first_place(rt: HostRuntime) {
+    let rows = [
         ("fs.root = 1", "field", "fs.root"),
         ("fs.root.type = 1", "field", "fs.root.type"),
         ("fs.root.uri = \"file:\"", "uri", "file:"),
@@ -259,10 +281,8 @@ fn refuses_at_the_first_place(rt: HostRuntime) {
             "key",
             "a",
         ),
-        (TWO_SUMS, "two sums", "file:b/../a"),
-    ] {
-        assert!(rt; says(rt.alloc(), text.as_bytes(), kind, what), "{text}");
-    }
+    ];
+    expect_refusals(&rt, rt.alloc(), &rows);
 }
 
 #[test]
