@@ -68,34 +68,3 @@ pub(crate) fn add_key_stream(key: &Key, text: &mut [u8])
         text[j] ^= pad[j % 16];
     }
 }
-
-#[cfg(test)]
-mod tests {
-    use super::*;
-
-    // Three blocks, the last one short; the wanted bytes are OpenSSL's AES-128-GCM.
-    #[test]
-    fn key_stream_is_added_and_taken_away(rt: HostRuntime) {
-        let mut text = [0; 40];
-        let mut bytes = [0; 16];
-        for i in 0..40 {
-            text[i] = i as u8;
-        }
-        for i in 0..16 {
-            bytes[i] = i as u8;
-        }
-        let plain = text;
-        let key = Key::new(&bytes);
-        add_key_stream(&key, &mut text);
-        assert_eq!(rt;
-            text,
-            [
-                0x49, 0xd7, 0x85, 0x50, 0x9d, 0x9e, 0xa0, 0x8b, 0xeb, 0x80, 0x70, 0x63, 0x6c, 0x8c,
-                0xbe, 0x92, 0xa9, 0xbc, 0x39, 0x3d, 0x20, 0x7f, 0xd4, 0x2f, 0x48, 0x44, 0x2c, 0x45,
-                0x80, 0xaa, 0xe2, 0x49, 0x10, 0x42, 0x94, 0xfc, 0x2e, 0x09, 0xfd, 0x97,
-            ]
-        );
-        add_key_stream(&key, &mut text);
-        assert_eq!(rt; text, plain);
-    }
-}

@@ -5,8 +5,6 @@ mod block;
 mod counter;
 mod gcm;
 mod ghash;
-#[cfg(test)]
-mod plain;
 mod sbox;
 mod tower;
 mod vectors;

@@ -51,136 +51,121 @@ fn read(rt: &impl Abort, alloc: Global, text: &str) -> Manifest {
     }
 }
 
-// Where a path leads, in words.
-fn led(alloc: Global, manifest: &Manifest, path: &str) -> Result<String, Fail> {
-    let led = match resolve(alloc, manifest, path) {
+// Whether a path leads to a place of that kind, or is refused so, with that name.
+fn leads(alloc: Global, manifest: &Manifest, path: &str, kind: &str, wanted: &str) -> bool {
+    match resolve(alloc, manifest, path) {
         Ok(Place::HostFile { uri, name }) => {
-            let uri = uri.as_str();
-            let name = name.as_str();
-            format!(in alloc; "{uri} as {name}")?
+            kind == "file"
+                && name.as_str() == wanted
+                && uri.as_str().strip_prefix("file:") == Some(wanted)
         }
         Ok(Place::Protected { name, key }) => {
-            let name = name.as_str();
-            let which = if key == KEY { "its" } else { "another" };
-            format!(in alloc; "protected {name} with {which} key")?
+            kind == "protected" && name.as_str() == wanted && key == KEY
         }
-        Ok(Place::Nothing) => String::from_str(alloc, "nothing")?,
-        Err(ResolveFault::BadPath) => String::from_str(alloc, "bad path")?,
-        Err(ResolveFault::NoKey { name }) => {
-            let name = name.as_str();
-            format!(in alloc; "no key {name}")?
-        }
-        Err(ResolveFault::Memory) => String::from_str(alloc, "want of memory")?,
-    };
-    Ok(led)
+        Ok(Place::Nothing) => kind == "nothing",
+        Err(ResolveFault::BadPath) => kind == "bad path",
+        Err(ResolveFault::NoKey { name }) => kind == "no key" && name.as_str() == wanted,
+        Err(ResolveFault::Memory) => false,
+    }
 }
 
-fn repeated(alloc: Global, unit: &str, count: usize) -> Result<String, Fail> {
-    let mut text = String::new(alloc);
+fn joined(alloc: Global, front: &str, unit: &str, count: usize) -> Result<String, Fail> {
+    let mut text = String::from_str(alloc, front)?;
     for _ in 0..count {
         text.push_str(unit)?;
     }
     Ok(text)
 }
 
-#[test]
-fn paths_of_the_realistic_manifest_lead_to_its_files(rt: HostRuntime) -> Result<(), Fail> {
-    let alloc = rt.alloc();
-    let manifest = read(&rt, alloc, REALISTIC);
-    for (path, place) in [
-        ("/app/hello", "file:app/hello as app/hello"),
-        ("/app/../app//notes", "file:app/notes as app/notes"),
-        (
-            "/lib/libsysdb.so",
-            "file:/opt/gramine/libsysdb.so as /opt/gramine/libsysdb.so",
-        ),
-        ("/data/x.pf", "protected data/x.pf with its key"),
-        ("/app2/hello", "file:app2/hello as app2/hello"),
-        ("/", "file:. as ."),
-        ("app/hello", "bad path"),
-        ("/app\0", "bad path"),
-        ("", "bad path"),
-    ] {
-        assert_eq!(rt; led(alloc, &manifest, path)?.as_str(), place, "{path}");
+// Each row has a path, the kind of its place and a name.
+fn expect_places(rt: &impl Abort, alloc: Global, manifest: &Manifest, rows: &[(&str, &str, &str)]) {
+    for (path, kind, name) in rows {
+        assert!(rt; leads(alloc, manifest, path, kind, name), "{path}");
     }
-    Ok(())
+}
+
+fn expect_verdicts(rt: &impl Abort, manifest: &Manifest, rows: &[(&str, Verdict)]) {
+    for (uri, verdict) in rows {
+        assert!(rt; decide(manifest, uri) == *verdict, "{uri}");
+    }
+}
+
+#[test]
+fn paths_of_the_realistic_manifest_lead_to_its_files(rt: HostRuntime) {
+    let manifest = read(&rt, rt.alloc(), REALISTIC);
+    let rows = [
+        ("/app/hello", "file", "app/hello"),
+        ("/app/../app//notes", "file", "app/notes"),
+        ("/lib/libsysdb.so", "file", "/opt/gramine/libsysdb.so"),
+        ("/data/x.pf", "protected", "data/x.pf"),
+        ("/app2/hello", "file", "app2/hello"),
+        ("/", "file", "."),
+        ("app/hello", "bad path", ""),
+        ("/app\0", "bad path", ""),
+        ("", "bad path", ""),
+    ];
+    expect_places(&rt, rt.alloc(), &manifest, &rows);
 }
 
 #[test]
 fn the_realistic_manifest_decides_on_its_files(rt: HostRuntime) {
-    let alloc = rt.alloc();
-    let manifest = read(&rt, alloc, REALISTIC);
-    for (uri, verdict) in [
+    let manifest = read(&rt, rt.alloc(), REALISTIC);
+    let rows = [
         ("file:app/hello", Verdict::Trusted(ABC)),
         ("file:app/notes", Verdict::Allowed),
         ("file:app/other", Verdict::Denied),
         ("file:/opt/gramine/libsysdb.so", Verdict::NoSum),
         ("file:./app/hello", Verdict::Denied),
         ("app/hello", Verdict::Denied),
-    ] {
-        assert!(rt; decide(&manifest, uri) == verdict, "{uri}");
-    }
+    ];
+    expect_verdicts(&rt, &manifest, &rows);
 }
 
 #[test]
 fn trusted_comes_before_allowed_and_the_policy_last(rt: HostRuntime) {
-    let alloc = rt.alloc();
-    let manifest = read(&rt, alloc, MOUNTS);
-    for (uri, verdict) in [
+    let manifest = read(&rt, rt.alloc(), MOUNTS);
+    let rows = [
         ("file:a", Verdict::NoSum),
         ("file:b", Verdict::Trusted(ABC)),
         ("file:c", Verdict::Logged),
-    ] {
-        assert!(rt; decide(&manifest, uri) == verdict, "{uri}");
-    }
+    ];
+    expect_verdicts(&rt, &manifest, &rows);
 }
 
 #[test]
-fn the_last_mount_with_the_most_parts_serves(rt: HostRuntime) -> Result<(), Fail> {
-    let alloc = rt.alloc();
-    let manifest = read(&rt, alloc, MOUNTS);
-    for (path, place) in [
-        ("/a/b/c", "file:second/c as second/c"),
-        ("/a/b", "file:second as second"),
-        ("/a/bc", "file:/above/bc as /above/bc"),
-        ("/a", "file:/above as /above"),
-        ("/other", "file:base/other as base/other"),
-        ("/tmp/x", "nothing"),
-        ("/elsewhere/x", "nothing"),
-        ("/l/x", "no key default"),
-    ] {
-        assert_eq!(rt; led(alloc, &manifest, path)?.as_str(), place, "{path}");
-    }
-    Ok(())
+fn the_last_mount_with_the_most_parts_serves(rt: HostRuntime) {
+    let manifest = read(&rt, rt.alloc(), MOUNTS);
+    let rows = [
+        ("/a/b/c", "file", "second/c"),
+        ("/a/b", "file", "second"),
+        ("/a/bc", "file", "/above/bc"),
+        ("/a", "file", "/above"),
+        ("/other", "file", "base/other"),
+        ("/tmp/x", "nothing", ""),
+        ("/elsewhere/x", "nothing", ""),
+        ("/l/x", "no key", "default"),
+    ];
+    expect_places(&rt, rt.alloc(), &manifest, &rows);
 }
 
 #[test]
 fn names_have_at_most_512_bytes_before_a_key_is_sought(rt: HostRuntime) -> Result<(), Fail> {
     let alloc = rt.alloc();
     let manifest = read(&rt, alloc, MOUNTS);
-    let longest = repeated(alloc, "/", 511)?;
-    let path = format!(in alloc; "{longest}a")?;
-    assert_eq!(rt;
-        led(alloc, &manifest, path.as_str())?.as_str(),
-        "file:/above as /above"
-    );
-    let path = format!(in alloc; "{longest}/a")?;
-    assert_eq!(rt; led(alloc, &manifest, path.as_str())?.as_str(), "bad path");
-    let name = repeated(alloc, "x", 505)?;
-    for (mount, place) in [("/a/b/", "file:second/"), ("/l/", "no key default")] {
-        let path = format!(in alloc; "{mount}{name}")?;
+    let path = joined(alloc, "/a", "/", 510)?;
+    assert!(rt; leads(alloc, &manifest, path.as_str(), "file", "/above"));
+    let path = joined(alloc, "/a", "/", 511)?;
+    assert!(rt; leads(alloc, &manifest, path.as_str(), "bad path", ""));
+    let name = joined(alloc, "second/", "x", 505)?;
+    for (mount, count, kind, name) in [
+        ("/a/b/", 505, "file", name.as_str()),
+        ("/a/b/", 506, "bad path", ""),
+        ("/l/", 505, "no key", "default"),
+        ("/l/", 506, "bad path", ""),
+    ] {
+        let path = joined(alloc, mount, "x", count)?;
         assert!(rt;
-            led(alloc, &manifest, path.as_str())?
-                .as_str()
-                .starts_with(place),
-            "{mount}"
-        );
-    }
-    for mount in ["/a/b/", "/l/"] {
-        let path = format!(in alloc; "{mount}x{name}")?;
-        assert_eq!(rt;
-            led(alloc, &manifest, path.as_str())?.as_str(),
-            "bad path",
+            leads(alloc, &manifest, path.as_str(), kind, name),
             "{mount}"
         );
     }
@@ -192,5 +177,5 @@ fn a_path_has_a_normal_form(rt: HostRuntime) {
     let Ok(path) = normal(rt.alloc(), "/a/../b//") else {
         panic!(rt; "no memory");
     };
-    assert_eq!(rt; path.as_str(), "/b");
+    assert!(rt; path.as_str() == "/b");
 }

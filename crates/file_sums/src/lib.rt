@@ -6,8 +6,6 @@ mod fault;
 mod laws;
 mod lines;
 mod summing;
-#[cfg(test)]
-mod tests;
 
 pub use collecting::{Sums, sum_all};
 pub use fault::{AllFault, SumFault};

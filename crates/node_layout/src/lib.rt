@@ -10,11 +10,7 @@ mod metadata;
 mod opening;
 mod path;
 mod places;
-#[cfg(test)]
-mod places_tests;
 mod sealing;
-#[cfg(test)]
-mod tests;
 
 pub use damage::{Damage, Kind};
 pub use entries::{entry, set_entry};

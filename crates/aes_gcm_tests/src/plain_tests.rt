@@ -1,8 +1,7 @@
-//! AES-128-GCM step by step, with no tables but the S-box, and the crate's own on the same random texts.
+//! AES-128-GCM step by step, with no tables but the S-box, and aes_gcm on the same random texts.
 ghost use Rattle.std.specs.Prelude.{◌≤◌, length};
 
-use crate::block::Key;
-use crate::gcm::{open_in_place, seal_in_place};
+use aes_gcm::{Key, open_in_place, seal_in_place};
 use std::process::Abort;
 
 // The product of two bytes (FIPS 197, 4.2).
@@ -145,72 +144,70 @@ fn seal(s_box: &[u8; 256], key: &[u8; 16], aad: &[u8], text: &mut [u8]) -> u128
     block_product(hash ^ lengths, h) ^ cipher(s_box, &round_keys, 1)
 }
 
-// A small generator (xorshift).
-fn next_random(state: u64) -> u64 {
-    let state = state ^ state << 13;
-    let state = state ^ state >> 7;
-    state ^ state << 17
-}
-
-fn fill_random(bytes: &mut [u8], seed: u64) {
+// Random bytes, the same at each call with this seed.
+fn fill_random(bytes: &mut [u8], seed: u32) {
     let mut state = seed;
-    for i in 0..bytes.len() {
-        state = next_random(state);
-        bytes[i] = (state >> 32 & 0xff) as u8;
+    for byte in bytes {
+        state = state.wrapping_mul(1_664_525).wrapping_add(1);
+        *byte = (state >> 24) as u8;
     }
 }
 
 // Seals random bytes both ways, and opens them again.
-fn expect_alike(rt: &impl Abort, s_box: &[u8; 256], aad_len: usize, text_len: usize, seed: u64)
-    requires aad { aad_len ≤ 1024 }
-    requires text { text_len ≤ 65536 }
+fn expect_alike(
+    rt: &impl Abort,
+    s_box: &[u8; 256],
+    aad: &[u8],
+    text: &mut [u8],
+    other: &mut [u8],
+    seed: u32,
+)
+    requires aad { length aad.now ≤ 65536 }
+    requires text { length text.old ≤ 65536 }
+    requires other { length other.old ≤ 65536 }
 {
     let mut key = [0; 16];
-    let mut aad = [0; 1024];
-    let mut text = [0; 65536];
-    fill_random(&mut key, seed);
-    fill_random(&mut aad[..aad_len], seed ^ 1);
-    fill_random(&mut text[..text_len], seed ^ 2);
-    let plain = text;
-    let mut other = text;
-    let aad = &aad[..aad_len];
-    let tag = seal_in_place(&Key::new(&key), aad, &mut text[..text_len]);
-    let wanted = seal(s_box, &key, aad, &mut other[..text_len]);
-    assert_eq!(rt;
-        u128::from_be_bytes(tag),
-        wanted,
-        "tag of {aad_len} and {text_len} bytes"
-    );
-    assert!(rt;
-        text[..text_len] == other[..text_len],
-        "ciphertext of {text_len} bytes"
-    );
-    assert!(rt;
-        open_in_place(&Key::new(&key), aad, &mut text[..text_len], &tag),
-        "{text_len} bytes open"
-    );
-    assert!(rt;
-        text[..text_len] == plain[..text_len],
-        "opened text of {text_len} bytes"
-    );
+    fill_random(&mut key, seed ^ 1);
+    fill_random(text, seed);
+    fill_random(other, seed);
+    let wanted = seal(s_box, &key, aad, other);
+    let key = Key::new(&key);
+    let tag = seal_in_place(&key, aad, text);
+    assert!(rt; u128::from_be_bytes(tag) == wanted && *text == *other);
+    fill_random(other, seed);
+    assert!(rt; open_in_place(&key, aad, text, &tag) && *text == *other);
 }
 
-// Every length up to three groups of blocks, and random ones up to the longest, with and without an AAD.
+// Every length up to three groups of blocks, and some up to the longest, with and without an AAD.
 #[test]
 fn texts_of_all_lengths_seal_as_step_by_step(rt: HostRuntime) {
     let s_box = s_box();
-    for text_len in 0..193usize {
-        expect_alike(&rt, &s_box, 0, text_len, 7 + text_len as u64);
-        expect_alike(&rt, &s_box, text_len, text_len, 1007 + text_len as u64);
+    let mut aad = [0; 1024];
+    let mut text = [0; 65536];
+    let mut other = [0; 65536];
+    fill_random(&mut aad, 7);
+    for len in 0..193usize {
+        let seed = len as u32;
+        expect_alike(&rt, &s_box, &[], &mut text[..len], &mut other[..len], seed);
+        expect_alike(
+            &rt,
+            &s_box,
+            &aad[..len],
+            &mut text[..len],
+            &mut other[..len],
+            seed,
+        );
     }
-    let mut state: u64 = 0x9e37_79b9_7f4a_7c15;
-    for _ in 0..20usize {
-        state = next_random(state);
-        let aad_len = (state >> 16 & 0x3ff) as usize;
-        let text_len = (state >> 32 & 0xffff) as usize;
-        expect_alike(&rt, &s_box, aad_len, text_len, state);
-        expect_alike(&rt, &s_box, 0, text_len, state);
+    for aad_len in [0, 13, 1000, 1024] {
+        for len in [1001, 4096, 30_011, 65_533, 65_536] {
+            expect_alike(
+                &rt,
+                &s_box,
+                &aad[..aad_len],
+                &mut text[..len],
+                &mut other[..len],
+                len as u32,
+            );
+        }
     }
-    expect_alike(&rt, &s_box, 0, 65536, state);
-    expect_alike(&rt, &s_box, 1024, 65536, state);
 }

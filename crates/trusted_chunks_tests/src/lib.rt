@@ -1,0 +1,5 @@
+//! Tests of trusted_chunks. They stand apart, so that each of the two crates is proved once.
+#![tactic(auto)]
+
+#[cfg(test)]
+mod tests;
