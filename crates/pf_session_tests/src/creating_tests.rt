@@ -6,12 +6,6 @@ use std::alloc::Global;
 use std::process::Abort;
 use std::test::Fail;
 
-fn first_nonce() -> [u8; 32] {
-    let mut nonce = [0; 32];
-    nonce[16..].copy_from_slice(&[1; 16]);
-    nonce
-}
-
 // Why `a.pf` was not created, if it wasn't.
 fn created(alloc: Global, host: &mut MemHost, count: u8) -> Result<Option<CreateFault>, Fail> {
     let mut random = words_of(alloc, count)?;
@@ -33,7 +27,8 @@ fn begun(alloc: Global, host: &mut MemHost, count: u8) -> Result<Option<BesideFa
 fn expect_new(rt: &impl Abort, session: &Session) {
     assert_eq!(rt; session.size(), 0);
     assert_eq!(rt; session.path().as_str(), "a.pf");
-    assert_eq!(rt; session.nonce(), &first_nonce());
+    assert!(rt; session.nonce().starts_with(&[0; 16]));
+    assert!(rt; session.nonce().ends_with(&[1; 16]));
     assert_eq!(rt; session.dirty(), 0);
     assert!(rt; !session.changed() && !session.broken());
 }

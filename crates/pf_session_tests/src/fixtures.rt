@@ -46,3 +46,13 @@ pub(crate) fn write(
     assert!(rt; !session.broken());
     assert_eq!(rt; session.write(host, random, at, from), Ok(AT_ONCE));
 }
+
+pub(crate) fn flush(
+    rt: &impl Abort,
+    session: &mut Session,
+    host: &mut MemHost,
+    random: &mut ListWords,
+) {
+    assert!(rt; !session.broken());
+    assert_eq!(rt; session.flush(host, random), Ok(()));
+}

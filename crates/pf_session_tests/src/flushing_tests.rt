@@ -11,9 +11,17 @@ fn sealed_host(rt: &impl Abort, alloc: Global) -> Result<MemHost, Fail> {
     let mut host = MemHost::new(alloc);
     let mut random = words_of(alloc, 7)?;
     let mut session = new_file(rt, alloc, &mut host, &mut random);
-    write(rt, &mut session, &mut host, &mut random, 0, &[1; 8000]);
-    assert_eq!(rt; session.close(&mut host, &mut random), Ok(()));
+    fill(rt, &mut session, &mut host, &mut random);
+    close(rt, session, &mut host, &mut random);
     Ok(host.after_crash(Tear::Kept)?)
+}
+
+fn fill(rt: &impl Abort, session: &mut Session, host: &mut MemHost, random: &mut ListWords) {
+    write(rt, session, host, random, 0, &[1; 8000]);
+}
+
+fn close(rt: &impl Abort, session: Session, host: &mut MemHost, random: &mut ListWords) {
+    assert_eq!(rt; session.close(host, random), Ok(()));
 }
 
 fn reopened(rt: &impl Abort, alloc: Global, host: &mut MemHost) -> Session {
@@ -73,16 +81,20 @@ fn begun(rt: &impl Abort, alloc: Global, host: &mut MemHost, random: &mut ListWo
     }
 }
 
+fn publish(rt: &impl Abort, session: Session, host: &mut MemHost, random: &mut ListWords) {
+    assert!(rt; !session.broken() && session.beside());
+    assert_eq!(rt; session.publish(host, random), Ok(()));
+}
+
 #[test]
 fn what_is_published_takes_the_name(rt: HostRuntime) -> Result<(), Fail> {
     let alloc = rt.alloc();
     let mut host = MemHost::new(alloc);
     let mut random = words_of(alloc, 7)?;
     let mut session = begun(&rt, alloc, &mut host, &mut random);
-    write(&rt, &mut session, &mut host, &mut random, 0, &[1; 8000]);
+    fill(&rt, &mut session, &mut host, &mut random);
     assert_eq!(rt; host.bytes("a.pf"), None);
-    assert!(rt; !session.broken() && session.beside());
-    assert_eq!(rt; session.publish(&mut host, &mut random), Ok(()));
+    publish(&rt, session, &mut host, &mut random);
     expect_byte(&rt, alloc, &mut host, 1);
     Ok(())
 }

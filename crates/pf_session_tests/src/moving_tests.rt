@@ -1,5 +1,5 @@
 //! Moves of protected files, and what a crash leaves of them.
-use crate::fixtures::{EACH_TEAR, KEY, new_file, words_of, write};
+use crate::fixtures::{EACH_TEAR, KEY, flush, new_file, words_of, write};
 use pf_io::{ListWords, MemHost, Tear};
 use pf_session::{MoveFault, OpenFault, Session};
 use std::alloc::Global;
@@ -14,15 +14,18 @@ fn sealed_file(
     random: &mut ListWords,
 ) -> Session {
     let mut session = new_file(rt, alloc, host, random);
-    write(rt, &mut session, host, random, 0, &[5; 5000]);
-    assert!(rt; !session.broken());
-    assert_eq!(rt; session.flush(host, random), Ok(()));
+    fill(rt, &mut session, host, random);
+    flush(rt, &mut session, host, random);
     session
 }
 
-// The first byte becomes 6, which makes no node dirty.
+fn fill(rt: &impl Abort, session: &mut Session, host: &mut MemHost, random: &mut ListWords) {
+    write(rt, session, host, random, 0, &[5; 5000]);
+}
+
+// The last byte before the data node becomes 6, which makes no node dirty.
 fn change(rt: &impl Abort, session: &mut Session, host: &mut MemHost, random: &mut ListWords) {
-    write(rt, session, host, random, 0, &[6]);
+    write(rt, session, host, random, 3071, &[6]);
 }
 
 fn move_to(
@@ -37,10 +40,11 @@ fn move_to(
     session.move_to(alloc, host, random, new)
 }
 
-// It opens under its own name as path; `None` where it is absent, else the first byte of its content of 5000 bytes.
-fn first_byte(rt: &impl Abort, alloc: Global, host: &mut MemHost, name: &str) -> Option<u8> {
+// It opens under its own name as path; `None` where it is absent, else the byte of its content that a change makes 6, and the
+// one behind it.
+fn bytes_at(rt: &impl Abort, alloc: Global, host: &mut MemHost, name: &str) -> Option<[u8; 2]> {
     match Session::open(alloc, host, &KEY, name, Some(name)) {
-        Ok(session) => Some(first_of(rt, session, host)),
+        Ok(session) => Some(bytes_of(rt, session, host)),
         Err(fault) => {
             assert!(rt; matches!(fault, OpenFault::NotFound));
             None
@@ -48,14 +52,13 @@ fn first_byte(rt: &impl Abort, alloc: Global, host: &mut MemHost, name: &str) ->
     }
 }
 
-fn first_of(rt: &impl Abort, session: Session, host: &mut MemHost) -> u8 {
+fn bytes_of(rt: &impl Abort, session: Session, host: &mut MemHost) -> [u8; 2] {
     let mut session = session;
-    let mut to = [255; 5000];
     assert!(rt; !session.broken());
     assert_eq!(rt; session.size(), 5000);
-    assert_eq!(rt; session.read(host, 0, &mut to), Ok(5000));
-    assert!(rt; to.iter().skip(1).all(|byte| *byte == 5));
-    to[0]
+    let mut to = [0; 2];
+    assert_eq!(rt; session.read(host, 3071, &mut to), Ok(2));
+    to
 }
 
 // A move makes so many calls where the session was flushed before it, and more where it was not.
@@ -94,6 +97,10 @@ fn stop_move(
     Ok(())
 }
 
+fn bytes_if(there: bool, first: u8) -> Option<[u8; 2]> {
+    if there { Some([first, 5]) } else { None }
+}
+
 // The last call takes the old name away, and the one before it gives the new name.
 fn expect_moved(
     rt: &impl Abort,
@@ -103,24 +110,12 @@ fn expect_moved(
     all: u64,
     changed: bool,
 ) {
-    let old = first_byte(rt, alloc, left, "a.pf");
-    let new = first_byte(rt, alloc, left, "b.pf");
-    assert_eq!(rt; old.is_some(), calls < all, "{calls} calls");
-    assert_eq!(rt;
-        new.is_some(),
-        calls.saturating_add(1) >= all,
-        "{calls} calls"
-    );
     let flushed = changed && calls.saturating_add(CALLS) > all;
-    let content = if flushed { 6 } else { 5 };
-    assert!(rt;
-        matches!(old, None) || old == Some(content),
-        "{calls} calls"
-    );
-    assert!(rt;
-        matches!(new, None) || new == Some(content),
-        "{calls} calls"
-    );
+    let first = if flushed { 6 } else { 5 };
+    let old = bytes_if(calls < all, first);
+    let new = bytes_if(calls.saturating_add(1) >= all, first);
+    assert_eq!(rt; bytes_at(rt, alloc, left, "a.pf"), old, "{calls} calls");
+    assert_eq!(rt; bytes_at(rt, alloc, left, "b.pf"), new, "{calls} calls");
 }
 
 #[test]
