@@ -5,8 +5,6 @@ mod answer;
 mod counts;
 mod record;
 mod script;
-#[cfg(test)]
-mod tests;
 
 pub use answer::Answer;
 pub use script::ScriptHost;

@@ -1,31 +1,20 @@
-// Crashes of a host in memory after each call of a script, tried with each tear.
+// Calls of a host in memory, and its crashes after each call of a script, tried with each tear.
+use crate::calls::{Call, SCRIPT, expect_each, make_call};
 use pf_io::{Host, HostFault, MemHost, Tear, write_by_side_file};
 use std::alloc::Global;
 use std::test::Fail;
 
 const EACH_TEAR: [Tear; 3] = [Tear::Kept, Tear::Lost, Tear::Fill(b'-')];
 
-// Changes `a`, and then puts `b` in its place.
-fn script<H: Host>(host: &mut H) -> Result<(), HostFault> {
-    host.write_at("a", 1, b"XY")?;
-    host.write_at("a", 5, b"Z")?;
-    host.sync("a")?;
-    host.cut("a", 3)?;
-    host.write_at("a", 4, b"Q")?;
-    host.make("b")?;
-    host.write_at("b", 0, b"new")?;
-    host.swap_name("b", "a")?;
-    host.sync("a")?;
-    host.remove("a")
-}
-
-// The host after the first calls of the script and a crash.
+// The host after the first calls of the script and a crash. The others are made too, and change nothing.
 fn crashed(alloc: Global, calls: u64, tear: Tear) -> Result<MemHost, Fail> {
     let mut host = MemHost::new(alloc);
     host.put("a", b"abcd")?;
     host.put("c", b"other")?;
     host.stop_at(calls);
-    let _ = script(&mut host);
+    for call in SCRIPT {
+        let _ = make_call(&mut host, &call);
+    }
     Ok(host.after_crash(tear)?)
 }
 
@@ -106,29 +95,30 @@ fn a_host_in_memory_stops_where_it_is_told_to(rt: HostRuntime) -> Result<(), Fai
     host.put("a", b"abc")?;
     host.stop_at(1);
     host.stop_at(2);
-    assert_eq!(rt; host.write_at("a", 0, b"x"), Ok(()));
-    assert_eq!(rt; host.write_at("a", 1, b"y"), Err(HostFault));
-    for call in [host.sync("a"), host.remove("a"), host.make("b")] {
-        assert_eq!(rt; call, Err(HostFault));
-    }
+    expect_each(&rt, &mut host, &[Call::Write("a", 0, b"x")], Ok(()));
+    expect_each(&rt, &mut host, &SCRIPT, Err(HostFault));
     assert_eq!(rt; host.bytes("a"), Some(b"xbc".as_slice()));
     assert_eq!(rt; host.starved(), 0);
     let mut host = host.after_crash(Tear::Kept)?;
     assert_eq!(rt; host.len("a"), Ok(Some(3)));
-    assert_eq!(rt; host.remove("a"), Ok(()));
     Ok(())
 }
+
+// Calls that find no file under their name, and a swap of a name with itself.
+const IDLE: [Call; 6] = [
+    Call::Write("b", 0, b"x"),
+    Call::Cut("b", 0),
+    Call::Sync("b"),
+    Call::Swap("b", "a"),
+    Call::Swap("a", "a"),
+    Call::Remove("b"),
+];
 
 #[test]
 fn calls_on_absent_names_change_nothing(rt: HostRuntime) -> Result<(), Fail> {
     let mut host = MemHost::new(rt.alloc());
     host.put("a", b"abc")?;
-    assert_eq!(rt; host.write_at("b", 0, b"x"), Ok(()));
-    assert_eq!(rt; host.cut("b", 0), Ok(()));
-    assert_eq!(rt; host.sync("b"), Ok(()));
-    assert_eq!(rt; host.swap_name("b", "a"), Ok(()));
-    assert_eq!(rt; host.swap_name("a", "a"), Ok(()));
-    assert_eq!(rt; host.remove("b"), Ok(()));
+    expect_each(&rt, &mut host, &IDLE, Ok(()));
     assert_eq!(rt; host.bytes("a"), Some(b"abc".as_slice()));
     assert_eq!(rt; host.bytes("b"), None);
     Ok(())

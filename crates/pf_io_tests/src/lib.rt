@@ -1,9 +1,9 @@
-//! Tests of pf_io. They stand apart, so that each of the two crates is proved once.
+//! Tests of pf_io, and of the host of pf_fakes. They stand apart, so that each crate is proved once.
 #![tactic(auto)]
 
 #[cfg(test)]
-mod crash_tests;
+mod calls;
 #[cfg(test)]
-mod disk_tests;
+mod crash_tests;
 #[cfg(test)]
 mod tests;

@@ -1,3 +1,5 @@
+use crate::calls::{SCRIPT, expect_each, opened};
+use pf_fakes::{Answer, ScriptHost};
 use pf_io::{
     Bytes, Host, HostFault, ListWords, MemHost, MemSink, MemSource, Sink, Source, StreamFault,
     Text, Words, WordsFault, is_name, is_target, read_number,
@@ -96,18 +98,6 @@ fn texts_and_bytes_are_owned(rt: HostRuntime) -> Result<(), Fail> {
     Ok(())
 }
 
-// What a host has of a name, through its bound.
-pub(crate) fn opened<H: Host>(
-    host: &mut H,
-    name: &str,
-    at: u64,
-) -> Result<(Option<u64>, usize, [u8; 4]), HostFault> {
-    let len = host.len(name)?;
-    let mut read = [9; 4];
-    let n = host.read_at(name, at, &mut read)?;
-    Ok((len, n, read))
-}
-
 #[test]
 fn a_host_in_memory_has_what_was_put(rt: HostRuntime) -> Result<(), Fail> {
     let mut host = MemHost::new(rt.alloc());
@@ -177,5 +167,34 @@ fn listed_words_come_in_order_and_end(rt: HostRuntime) -> Result<(), Fail> {
     assert_eq!(rt; words.next16(), Err(WordsFault));
     words.push([3; 16])?;
     assert_eq!(rt; words.next16(), Ok([3; 16]));
+    Ok(())
+}
+
+#[test]
+fn a_scripted_host_takes_the_next_answer(rt: HostRuntime) -> Result<(), Fail> {
+    let mut host = ScriptHost::new(rt.alloc());
+    for bytes in [b"hello".as_slice(), b"he"] {
+        host.answer(Answer::Len(Some(5)))?;
+        host.answer(Answer::Given(Bytes::copy(rt.alloc(), bytes)?))?;
+    }
+    for _ in 0..10 {
+        host.answer(Answer::Done)?;
+    }
+    assert_eq!(rt; opened(&mut host, "a", 1), Ok((Some(5), 4, *b"hell")));
+    assert_eq!(rt; opened(&mut host, "a", 1), Ok((Some(5), 2, *b"he\t\t")));
+    expect_each(&rt, &mut host, &SCRIPT, Ok(()));
+    assert_eq!(rt; host.starved(), 0);
+    Ok(())
+}
+
+#[test]
+fn a_missing_answer_and_one_of_another_form_are_faults(rt: HostRuntime) -> Result<(), Fail> {
+    let mut host = ScriptHost::new(rt.alloc());
+    host.answer(Answer::Done)?;
+    assert_eq!(rt; opened(&mut host, "a", 0), Err(HostFault));
+    host.answer(Answer::Fail)?;
+    host.answer(Answer::Len(None))?;
+    expect_each(&rt, &mut host, &SCRIPT, Err(HostFault));
+    assert_eq!(rt; host.starved(), 0);
     Ok(())
 }

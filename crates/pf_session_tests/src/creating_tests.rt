@@ -6,12 +6,6 @@ use std::alloc::Global;
 use std::process::Abort;
 use std::test::Fail;
 
-fn first_nonce() -> [u8; 32] {
-    let mut nonce = [0; 32];
-    nonce[16..].copy_from_slice(&[1; 16]);
-    nonce
-}
-
 // Why `a.pf` was not created, if it wasn't.
 fn created(alloc: Global, host: &mut MemHost, count: u8) -> Result<Option<CreateFault>, Fail> {
     let mut random = words_of(alloc, count)?;
@@ -33,7 +27,8 @@ fn begun(alloc: Global, host: &mut MemHost, count: u8) -> Result<Option<BesideFa
 fn expect_new(rt: &impl Abort, session: &Session) {
     assert_eq!(rt; session.size(), 0);
     assert_eq!(rt; session.path().as_str(), "a.pf");
-    assert_eq!(rt; session.nonce(), &first_nonce());
+    assert!(rt; session.nonce().starts_with(&[0; 16]));
+    assert!(rt; session.nonce().ends_with(&[1; 16]));
     assert_eq!(rt; session.dirty(), 0);
     assert!(rt; !session.changed() && !session.broken());
 }
@@ -51,46 +46,6 @@ fn is_absent(alloc: Global, host: &mut MemHost) -> bool {
         Ok(_session) => false,
         Err(fault) => matches!(fault, OpenFault::NotFound),
     }
-}
-
-#[test]
-fn what_was_created_opens_as_an_empty_version(rt: HostRuntime) -> Result<(), Fail> {
-    let alloc = rt.alloc();
-    let mut host = MemHost::new(alloc);
-    let mut random = words_of(alloc, 2)?;
-    match Session::create(alloc, &mut host, &mut random, &KEY, "a.pf", "a.pf") {
-        Ok(session) => expect_new(&rt, &session),
-        Err(_fault) => panic!(rt; "not created"),
-    }
-    expect_empty(&rt, alloc, &mut host);
-    assert_eq!(rt; host.bytes("a.pf.new"), None);
-    assert_eq!(rt; host.starved(), 0);
-    Ok(())
-}
-
-#[test]
-fn want_of_words_and_failing_calls_leave_the_name_absent(rt: HostRuntime) -> Result<(), Fail> {
-    let alloc = rt.alloc();
-    for count in 0..2 {
-        let mut host = MemHost::new(alloc);
-        assert_eq!(rt; created(alloc, &mut host, count)?, Some(CreateFault::Words));
-        assert_eq!(rt; begun(alloc, &mut host, count)?, Some(BesideFault::Words));
-        assert_eq!(rt; host.bytes("a.pf.new"), None);
-        assert!(rt; is_absent(alloc, &mut host));
-    }
-    for call in 0..6 {
-        let mut host = MemHost::new(alloc);
-        host.fail_at(call)?;
-        assert_eq!(rt; created(alloc, &mut host, 2)?, Some(CreateFault::Host));
-        assert!(rt; is_absent(alloc, &mut host));
-    }
-    for call in 0..3 {
-        let mut host = MemHost::new(alloc);
-        host.fail_at(call)?;
-        assert_eq!(rt; begun(alloc, &mut host, 2)?, Some(BesideFault::Host));
-        assert!(rt; is_absent(alloc, &mut host));
-    }
-    Ok(())
 }
 
 // A creation makes six calls. A crash after any of them leaves the name absent, and after the last one an empty version.
@@ -149,26 +104,4 @@ fn a_creation_beside_a_name_leaves_the_name(rt: HostRuntime) -> Result<(), Fail>
         }
     }
     Ok(())
-}
-
-#[test]
-fn a_nonce_is_drawn_once(rt: HostRuntime) -> Result<(), Fail> {
-    let alloc = rt.alloc();
-    let mut host = MemHost::new(alloc);
-    let mut random = words_of(alloc, 4)?;
-    match Session::create(alloc, &mut host, &mut random, &KEY, "a.pf", "a.pf") {
-        Ok(mut session) => draw_twice(&rt, &mut session, &mut random),
-        Err(_fault) => panic!(rt; "not created"),
-    }
-    Ok(())
-}
-
-fn draw_twice(rt: &impl Abort, session: &mut Session, random: &mut ListWords) {
-    let mut nonce = [2; 32];
-    nonce[16..].copy_from_slice(&[3; 16]);
-    for _ in 0..2 {
-        assert!(rt; !session.broken());
-        assert_eq!(rt; session.draw(random), Ok(nonce));
-    }
-    assert_eq!(rt; session.nonce(), &first_nonce());
 }

@@ -1,6 +1,6 @@
 //! What the tests of sessions share.
 use pf_io::{ListWords, MemHost, Tear};
-use pf_session::{Session, WriteFault, Written};
+use pf_session::{Session, Written};
 use std::alloc::Global;
 use std::process::Abort;
 use std::test::Fail;
@@ -9,7 +9,7 @@ pub(crate) const KEY: [u8; 16] = [7; 16];
 
 pub(crate) const EACH_TEAR: [Tear; 3] = [Tear::Kept, Tear::Lost, Tear::Fill(b'-')];
 
-pub(crate) const AT_ONCE: Written = Written {
+const AT_ONCE: Written = Written {
     flushed_before: false,
 };
 
@@ -34,13 +34,7 @@ pub(crate) fn new_file(
     }
 }
 
-pub(crate) fn reopened(rt: &impl Abort, alloc: Global, host: &mut MemHost) -> Session {
-    match Session::open(alloc, host, &KEY, "a.pf", Some("a.pf")) {
-        Ok(session) => session,
-        Err(_fault) => panic!(rt; "not opened"),
-    }
-}
-
+// Writes with no flush before.
 pub(crate) fn write(
     rt: &impl Abort,
     session: &mut Session,
@@ -48,9 +42,9 @@ pub(crate) fn write(
     random: &mut ListWords,
     at: u64,
     from: &[u8],
-) -> Result<Written, WriteFault> {
+) {
     assert!(rt; !session.broken());
-    session.write(host, random, at, from)
+    assert_eq!(rt; session.write(host, random, at, from), Ok(AT_ONCE));
 }
 
 pub(crate) fn flush(
@@ -61,5 +55,4 @@ pub(crate) fn flush(
 ) {
     assert!(rt; !session.broken());
     assert_eq!(rt; session.flush(host, random), Ok(()));
-    assert!(rt; !session.changed());
 }

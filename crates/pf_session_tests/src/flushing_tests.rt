@@ -1,30 +1,40 @@
 //! Sealings of a content, and what a crash leaves of them.
-ghost use Rattle.std.specs.Prelude.{◌≡◌, true};
-
-use crate::fixtures::{AT_ONCE, EACH_TEAR, KEY, flush, new_file, reopened, words_of, write};
-use node_layout::{Damage, Kind};
-use pf_io::{Host, ListWords, MemHost, Tear};
-use pf_session::{FlushFault, Session};
+use crate::fixtures::{EACH_TEAR, KEY, new_file, words_of, write};
+use pf_io::{ListWords, MemHost, Tear};
+use pf_session::Session;
 use std::alloc::Global;
 use std::process::Abort;
 use std::test::Fail;
 
-// A host whose file has 8000 bytes 1 in three nodes beside node 0: the root and two data nodes.
+// A host whose file has 8000 bytes 1 in three nodes beside node 0: the root and two data nodes. A closing seals them.
 fn sealed_host(rt: &impl Abort, alloc: Global) -> Result<MemHost, Fail> {
     let mut host = MemHost::new(alloc);
     let mut random = words_of(alloc, 7)?;
     let mut session = new_file(rt, alloc, &mut host, &mut random);
-    let written = write(rt, &mut session, &mut host, &mut random, 0, &[1; 8000]);
-    assert_eq!(rt; written, Ok(AT_ONCE));
-    flush(rt, &mut session, &mut host, &mut random);
+    fill(rt, &mut session, &mut host, &mut random);
+    close(rt, session, &mut host, &mut random);
     Ok(host.after_crash(Tear::Kept)?)
+}
+
+fn fill(rt: &impl Abort, session: &mut Session, host: &mut MemHost, random: &mut ListWords) {
+    write(rt, session, host, random, 0, &[1; 8000]);
+}
+
+fn close(rt: &impl Abort, session: Session, host: &mut MemHost, random: &mut ListWords) {
+    assert_eq!(rt; session.close(host, random), Ok(()));
+}
+
+fn reopened(rt: &impl Abort, alloc: Global, host: &mut MemHost) -> Session {
+    match Session::open(alloc, host, &KEY, "a.pf", Some("a.pf")) {
+        Ok(session) => session,
+        Err(_fault) => panic!(rt; "not opened"),
+    }
 }
 
 // Opens the file and puts a byte 2 into its first data node, by four calls.
 fn changed(rt: &impl Abort, alloc: Global, host: &mut MemHost, random: &mut ListWords) -> Session {
     let mut session = reopened(rt, alloc, host);
-    let written = write(rt, &mut session, host, random, 3072, &[2]);
-    assert_eq!(rt; written, Ok(AT_ONCE));
+    write(rt, &mut session, host, random, 3072, &[2]);
     session
 }
 
@@ -34,6 +44,7 @@ fn expect_byte(rt: &impl Abort, alloc: Global, host: &mut MemHost, byte: u8) {
     let mut to = [0; 2];
     assert_eq!(rt; session.read(host, 3072, &mut to), Ok(2));
     assert_eq!(rt; to, [byte, 1]);
+    assert!(rt; session.holds(2) && !session.holds(3));
 }
 
 // Behind the four calls of the change the flush makes eight. A crash after fewer leaves the last version, and after all of
@@ -62,60 +73,17 @@ fn a_crash_leaves_the_last_version_or_the_next_one(rt: HostRuntime) -> Result<()
     Ok(())
 }
 
-#[test]
-fn a_short_node_breaks_the_session(rt: HostRuntime) -> Result<(), Fail> {
-    let alloc = rt.alloc();
-    let mut host = sealed_host(&rt, alloc)?;
-    let mut random = words_of(alloc, 4)?;
-    let mut session = changed(&rt, alloc, &mut host, &mut random);
-    assert_eq!(rt; host.cut("a.pf", 12_300), Ok(()));
-    assert!(rt; !session.broken());
-    let damage = Damage {
-        node: 3,
-        kind: Kind::Short,
-    };
-    assert_eq!(rt;
-        session.flush(&mut host, &mut random),
-        Err(FlushFault::Damaged(damage))
-    );
-    assert!(rt; session.broken());
-    assert_eq!(rt; session.close(&mut host, &mut random), Ok(()));
-    Ok(())
-}
-
-#[test]
-fn a_closing_seals_what_was_changed(rt: HostRuntime) -> Result<(), Fail> {
-    let alloc = rt.alloc();
-    let mut host = sealed_host(&rt, alloc)?;
-    let mut random = words_of(alloc, 4)?;
-    let session = changed(&rt, alloc, &mut host, &mut random);
-    assert_eq!(rt; session.close(&mut host, &mut random), Ok(()));
-    expect_byte(&rt, alloc, &mut host, 2);
-    Ok(())
-}
-
 // A session on an empty content that stands beside its name.
-fn begun(rt: &impl Abort, alloc: Global, host: &mut MemHost, random: &mut ListWords) -> Session
-    ensures { result.beside ≡ true }
-{
+fn begun(rt: &impl Abort, alloc: Global, host: &mut MemHost, random: &mut ListWords) -> Session {
     match Session::create_beside(alloc, host, random, &KEY, "a.pf", "a.pf") {
         Ok(session) => session,
         Err(_fault) => panic!(rt; "not begun"),
     }
 }
 
-fn put_beside(
-    rt: &impl Abort,
-    session: &mut Session,
-    host: &mut MemHost,
-    random: &mut ListWords,
-    from: &[u8],
-)
-    requires { session.old.beside ≡ true }
-    ensures { session.new.beside ≡ true }
-{
-    assert!(rt; !session.broken());
-    assert_eq!(rt; session.write(host, random, 0, from), Ok(AT_ONCE));
+fn publish(rt: &impl Abort, session: Session, host: &mut MemHost, random: &mut ListWords) {
+    assert!(rt; !session.broken() && session.beside());
+    assert_eq!(rt; session.publish(host, random), Ok(()));
 }
 
 #[test]
@@ -124,10 +92,9 @@ fn what_is_published_takes_the_name(rt: HostRuntime) -> Result<(), Fail> {
     let mut host = MemHost::new(alloc);
     let mut random = words_of(alloc, 7)?;
     let mut session = begun(&rt, alloc, &mut host, &mut random);
-    put_beside(&rt, &mut session, &mut host, &mut random, &[1; 8000]);
+    fill(&rt, &mut session, &mut host, &mut random);
     assert_eq!(rt; host.bytes("a.pf"), None);
-    assert!(rt; !session.broken());
-    assert_eq!(rt; session.publish(&mut host, &mut random), Ok(()));
+    publish(&rt, session, &mut host, &mut random);
     expect_byte(&rt, alloc, &mut host, 1);
     Ok(())
 }

@@ -2,8 +2,6 @@
 #![tactic(auto)]
 
 #[cfg(test)]
-mod changing_tests;
-#[cfg(test)]
 mod creating_tests;
 #[cfg(test)]
 mod fixtures;
@@ -11,5 +9,3 @@ mod fixtures;
 mod flushing_tests;
 #[cfg(test)]
 mod moving_tests;
-#[cfg(test)]
-mod opening_tests;

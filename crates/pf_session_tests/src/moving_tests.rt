@@ -1,17 +1,10 @@
 //! Moves of protected files, and what a crash leaves of them.
-use crate::fixtures::{AT_ONCE, EACH_TEAR, KEY, flush, new_file, words_of, write};
-use node_layout::{Damage, Kind};
-use pf_io::{Host, ListWords, MemHost, Tear};
+use crate::fixtures::{EACH_TEAR, KEY, flush, new_file, words_of, write};
+use pf_io::{ListWords, MemHost, Tear};
 use pf_session::{MoveFault, OpenFault, Session};
 use std::alloc::Global;
 use std::process::Abort;
 use std::test::Fail;
-
-fn nonce_of(first: u8, second: u8) -> [u8; 32] {
-    let mut nonce = [first; 32];
-    nonce[16..].copy_from_slice(&[second; 16]);
-    nonce
-}
 
 // A session on `a.pf` with a sealed content of 5000 bytes 5, which takes six words.
 fn sealed_file(
@@ -21,17 +14,18 @@ fn sealed_file(
     random: &mut ListWords,
 ) -> Session {
     let mut session = new_file(rt, alloc, host, random);
-    assert_eq!(rt;
-        write(rt, &mut session, host, random, 0, &[5; 5000]),
-        Ok(AT_ONCE)
-    );
+    fill(rt, &mut session, host, random);
     flush(rt, &mut session, host, random);
     session
 }
 
-// The first byte becomes 6, which makes no node dirty.
+fn fill(rt: &impl Abort, session: &mut Session, host: &mut MemHost, random: &mut ListWords) {
+    write(rt, session, host, random, 0, &[5; 5000]);
+}
+
+// The last byte before the data node becomes 6, which makes no node dirty.
 fn change(rt: &impl Abort, session: &mut Session, host: &mut MemHost, random: &mut ListWords) {
-    assert_eq!(rt; write(rt, session, host, random, 0, &[6]), Ok(AT_ONCE));
+    write(rt, session, host, random, 3071, &[6]);
 }
 
 fn move_to(
@@ -46,10 +40,11 @@ fn move_to(
     session.move_to(alloc, host, random, new)
 }
 
-// It opens under its own name as path; `None` where it is absent, else the first byte of its content of 5000 bytes.
-fn first_byte(rt: &impl Abort, alloc: Global, host: &mut MemHost, name: &str) -> Option<u8> {
+// It opens under its own name as path; `None` where it is absent, else the byte of its content that a change makes 6, and the
+// one behind it.
+fn bytes_at(rt: &impl Abort, alloc: Global, host: &mut MemHost, name: &str) -> Option<[u8; 2]> {
     match Session::open(alloc, host, &KEY, name, Some(name)) {
-        Ok(session) => Some(first_of(rt, session, host)),
+        Ok(session) => Some(bytes_of(rt, session, host)),
         Err(fault) => {
             assert!(rt; matches!(fault, OpenFault::NotFound));
             None
@@ -57,111 +52,13 @@ fn first_byte(rt: &impl Abort, alloc: Global, host: &mut MemHost, name: &str) ->
     }
 }
 
-fn first_of(rt: &impl Abort, session: Session, host: &mut MemHost) -> u8 {
+fn bytes_of(rt: &impl Abort, session: Session, host: &mut MemHost) -> [u8; 2] {
     let mut session = session;
-    let mut to = [255; 5000];
     assert!(rt; !session.broken());
     assert_eq!(rt; session.size(), 5000);
-    assert_eq!(rt; session.read(host, 0, &mut to), Ok(5000));
-    assert!(rt; to.iter().skip(1).all(|byte| *byte == 5));
-    to[0]
-}
-
-#[test]
-fn a_moved_file_has_its_content_under_the_new_name_and_path(rt: HostRuntime) -> Result<(), Fail> {
-    let alloc = rt.alloc();
-    let mut host = MemHost::new(alloc);
-    let mut random = words_of(alloc, 8)?;
-    let mut session = sealed_file(&rt, alloc, &mut host, &mut random);
-    let moved = move_to(&rt, alloc, &mut session, &mut host, &mut random, "b.pf");
-    assert_eq!(rt; moved, Ok(()));
-    assert_eq!(rt; session.path().as_str(), "b.pf");
-    assert_eq!(rt; session.nonce(), &nonce_of(6, 7));
-    assert!(rt; !session.changed() && !session.broken());
-    assert_eq!(rt; first_byte(&rt, alloc, &mut host, "a.pf"), None);
-    assert_eq!(rt; first_byte(&rt, alloc, &mut host, "b.pf"), Some(5));
-    assert_eq!(rt; host.bytes("b.pf.new"), None);
-    assert_eq!(rt; host.starved(), 0);
-    Ok(())
-}
-
-// Two words are the nonce of the flush, two the keys of its dirty nodes, and two the nonce of the move.
-#[test]
-fn what_was_changed_is_flushed_under_words_of_its_own(rt: HostRuntime) -> Result<(), Fail> {
-    let alloc = rt.alloc();
-    let mut host = MemHost::new(alloc);
-    let mut random = words_of(alloc, 12)?;
-    let mut session = sealed_file(&rt, alloc, &mut host, &mut random);
-    change(&rt, &mut session, &mut host, &mut random);
-    let written = write(&rt, &mut session, &mut host, &mut random, 4000, &[5]);
-    assert_eq!(rt; written, Ok(AT_ONCE));
-    let moved = move_to(&rt, alloc, &mut session, &mut host, &mut random, "b.pf");
-    assert_eq!(rt; moved, Ok(()));
-    assert_eq!(rt; session.nonce(), &nonce_of(10, 11));
-    assert_eq!(rt; session.dirty(), 0);
-    assert_eq!(rt; first_byte(&rt, alloc, &mut host, "b.pf"), Some(6));
-    Ok(())
-}
-
-fn draw(rt: &impl Abort, session: &mut Session, random: &mut ListWords) -> [u8; 32] {
-    assert!(rt; !session.broken());
-    match session.draw(random) {
-        Ok(nonce) => nonce,
-        Err(_fault) => panic!(rt; "not drawn"),
-    }
-}
-
-#[test]
-fn a_nonce_that_was_drawn_stays_for_the_next_flush(rt: HostRuntime) -> Result<(), Fail> {
-    let alloc = rt.alloc();
-    let mut host = MemHost::new(alloc);
-    let mut random = words_of(alloc, 12)?;
-    let mut session = sealed_file(&rt, alloc, &mut host, &mut random);
-    assert_eq!(rt; draw(&rt, &mut session, &mut random), nonce_of(6, 7));
-    let moved = move_to(&rt, alloc, &mut session, &mut host, &mut random, "b.pf");
-    assert_eq!(rt; moved, Ok(()));
-    assert_eq!(rt; session.nonce(), &nonce_of(8, 9));
-    assert_eq!(rt; draw(&rt, &mut session, &mut random), nonce_of(6, 7));
-    change(&rt, &mut session, &mut host, &mut random);
-    let moved = move_to(&rt, alloc, &mut session, &mut host, &mut random, "c.pf");
-    assert_eq!(rt; moved, Ok(()));
-    assert_eq!(rt; session.nonce(), &nonce_of(10, 11));
-    assert_eq!(rt; first_byte(&rt, alloc, &mut host, "c.pf"), Some(6));
-    Ok(())
-}
-
-#[test]
-fn a_short_node_breaks_the_session_and_leaves_the_old_name(rt: HostRuntime) -> Result<(), Fail> {
-    let alloc = rt.alloc();
-    let mut host = MemHost::new(alloc);
-    let mut random = words_of(alloc, 8)?;
-    let mut session = sealed_file(&rt, alloc, &mut host, &mut random);
-    assert_eq!(rt; host.cut("a.pf", 8_200), Ok(()));
-    let damage = Damage {
-        node: 2,
-        kind: Kind::Short,
-    };
-    let moved = move_to(&rt, alloc, &mut session, &mut host, &mut random, "b.pf");
-    assert_eq!(rt; moved, Err(MoveFault::Damaged(damage)));
-    assert!(rt; session.broken());
-    assert!(rt; host.bytes("a.pf").is_some());
-    assert_eq!(rt; host.bytes("b.pf"), None);
-    Ok(())
-}
-
-#[test]
-fn nothing_stays_pending_at_the_new_recovery_name(rt: HostRuntime) -> Result<(), Fail> {
-    let alloc = rt.alloc();
-    let mut host = MemHost::new(alloc);
-    let mut random = words_of(alloc, 8)?;
-    let mut session = sealed_file(&rt, alloc, &mut host, &mut random);
-    assert_eq!(rt; host.make("b.pf.recovery"), Ok(()));
-    assert_eq!(rt; host.write_at("b.pf.recovery", 0, b"pending"), Ok(()));
-    let moved = move_to(&rt, alloc, &mut session, &mut host, &mut random, "b.pf");
-    assert_eq!(rt; moved, Ok(()));
-    let left = host.after_crash(Tear::Lost)?;
-    assert_eq!(rt; left.bytes("b.pf.recovery"), Some(&b"pending"[..]));
-    Ok(())
+    let mut to = [0; 2];
+    assert_eq!(rt; session.read(host, 3071, &mut to), Ok(2));
+    to
 }
 
 // A move makes so many calls where the session was flushed before it, and more where it was not.
@@ -200,6 +97,10 @@ fn stop_move(
     Ok(())
 }
 
+fn bytes_if(there: bool, first: u8) -> Option<[u8; 2]> {
+    if there { Some([first, 5]) } else { None }
+}
+
 // The last call takes the old name away, and the one before it gives the new name.
 fn expect_moved(
     rt: &impl Abort,
@@ -209,24 +110,12 @@ fn expect_moved(
     all: u64,
     changed: bool,
 ) {
-    let old = first_byte(rt, alloc, left, "a.pf");
-    let new = first_byte(rt, alloc, left, "b.pf");
-    assert_eq!(rt; old.is_some(), calls < all, "{calls} calls");
-    assert_eq!(rt;
-        new.is_some(),
-        calls.saturating_add(1) >= all,
-        "{calls} calls"
-    );
     let flushed = changed && calls.saturating_add(CALLS) > all;
-    let content = if flushed { 6 } else { 5 };
-    assert!(rt;
-        matches!(old, None) || old == Some(content),
-        "{calls} calls"
-    );
-    assert!(rt;
-        matches!(new, None) || new == Some(content),
-        "{calls} calls"
-    );
+    let first = if flushed { 6 } else { 5 };
+    let old = bytes_if(calls < all, first);
+    let new = bytes_if(calls.saturating_add(1) >= all, first);
+    assert_eq!(rt; bytes_at(rt, alloc, left, "a.pf"), old, "{calls} calls");
+    assert_eq!(rt; bytes_at(rt, alloc, left, "b.pf"), new, "{calls} calls");
 }
 
 #[test]
