@@ -1,5 +1,5 @@
 -- Checks, one after another.
-use Rattle.std.proofs.Common.{ℕ, List, ◌≡◌, ◌∙◌, ◌⊎◌, inl, inr, Option, Some, None, Result, Err, IsErrAnd, MatchResult, refl, sym, ap, subst}
+use Rattle.std.proofs.Common.{ℕ, List, ◌≡◌, ◌∙◌, ◌⊎◌, inl, inr, Option, Some, None, Result, Ok, Err, IsErrAnd, MatchResult, refl, sym, ap, subst}
 use Rattle.std.specs.Option.{option_or}
 use Rattle.std.proofs.lemmas.Result.{err_from_is_err_and}
 use Rattle.manifest_model.specs.declared.fault.ManifestFault.{ManifestFault}
@@ -26,7 +26,19 @@ refuses P whole r fault is refused =
     let p = err_from_is_err_and r is in
     subst (λ x. MatchResult x P (Stops whole)) (sym p.1) (subst (Stops whole) (sym p.2) (inr refused))
 
-or_none : (o : Option ManifestFault) → option_or o None ≡ o
+-- the first check refuses, or what is behind it decides
+pub first : (a rest : Option ManifestFault) (fault : ManifestFault) → a ≡ Some fault → option_or a rest ≡ Some fault
+first a rest fault refused = rw refused refl
+
+pub behind : (a rest o : Option ManifestFault) → a ≡ None → rest ≡ o → option_or a rest ≡ o
+behind a rest o none e = rw none e
+
+-- a whole that is one check, with what is known of it said in another way
+pub checks_as : {A : Type 0} (P Q : A → Type 0) (part whole : Option ManifestFault) (r : Result A ManifestFault) → whole ≡ part → ((x : A) → P x → Q x) → Checks part P r → Checks whole Q r
+checks_as P Q part whole (Ok x) same turn checked = (same ∙ checked.0, turn x checked.1)
+checks_as P Q part whole (Err fault) same turn stops = subst (λ w. Stops w fault) (sym same) stops
+
+pub or_none : (o : Option ManifestFault) → option_or o None ≡ o
 or_none None = refl
 or_none (Some f) = refl
 

@@ -10,3 +10,7 @@ pub mod Deciding
 pub mod SumLists
 pub mod Resummed
 pub mod Sorting
+pub mod Taking
+pub mod Walking
+pub mod ItemRead
+pub mod MountRead

@@ -4,9 +4,10 @@ use Rattle.std.proofs.lemmas.List.{take_all, take_more, map-append}
 use Rattle.std.proofs.Common.{◌-◌, ◌<◌, get_or, drop, ◌≡◌, ◌≢◌, ◌∙◌, ◌↔◌, ℕ, suc, ◌+◌, ◌≤◌, append-nil, append_assoc, Bool, true, false, not, ◌==◌, nat_le, cond, List, [], ◌∷◌, ◌++◌, length, map, take, All, IsTrue, refl, sym, ap, arith}
 use Rattle.std.specs.Bool.{Decides}
 use Rattle.std.proofs.lemmas.Bool.Decides.{Decides-and, Decides-by_and, Decides-not, Decides-eqb, nat_tests, Decides-like, same_from_decides}
-use Rattle.std.specs.List.{list_all, join_with_byte}
+use Rattle.std.specs.List.{list_all, join_with_byte, fold}
+use Rattle.std.proofs.lemmas.List.Sums.{fold-append}
 use Rattle.pf_io.specs.Names.{IsName, SLASH}
-use Rattle.manifest_model.specs.Names.{is_name, behind, name_of}
+use Rattle.manifest_model.specs.Names.{is_name, behind, name_of, go}
 
 pub join-behind : (p : List ℕ) (ps : List (List ℕ)) → join_with_byte SLASH (p ∷ ps) ≡ p ++ behind ps
 join-behind p [] = sym (append-nil p)
@@ -42,3 +43,11 @@ pub behind_step : (ps : List (Bor (List ℕ))) (i : ℕ) (d : Bor (List ℕ)) (s
 behind_step ps i d start old slashed new l before slash part =
     let more : map (λ (p : Bor (List ℕ)). p.now) (take (i + 1) ps) ≡ map (λ (p : Bor (List ℕ)). p.now) (take i ps) ++ (get_or ps i d).now ∷ [] = ap (map (λ (p : Bor (List ℕ)). p.now)) (take_more ps i d l) ∙ map-append (λ (p : Bor (List ℕ)). p.now) (take i ps) (get_or ps i d ∷ []) in
     rw (part, slash, before, more, behind-more (map (λ (p : Bor (List ℕ)). p.now) (take i ps)) (get_or ps i d).now) (simp append_assoc)
+
+-- one more part of a name
+pub parts_more : (absolute : Bool) (ps : List (Bor (List ℕ))) (i : ℕ) (d : Bor (List ℕ)) (old new : List (List ℕ)) → i < length ps → old ≡ fold (go absolute) [] (map (λ p. p.now) (take i ps)) → new ≡ go absolute old (get_or ps i d).now
+    → new ≡ fold (go absolute) [] (map (λ p. p.now) (take (i + 1) ps))
+parts_more absolute ps i d old new l before one =
+    let now : Bor (List ℕ) → List ℕ = λ p. p.now in
+    let more : map now (take (i + 1) ps) ≡ map now (take i ps) ++ now (get_or ps i d) ∷ [] = ap (map now) (take_more ps i d l) ∙ map-append now (take i ps) (get_or ps i d ∷ []) in
+    one ∙ ap (λ kept. go absolute kept (get_or ps i d).now) before ∙ sym (fold-append (go absolute) [] (map now (take i ps)) (now (get_or ps i d) ∷ [])) ∙ sym (ap (fold (go absolute) []) more)

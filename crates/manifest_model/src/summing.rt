@@ -19,8 +19,8 @@ fn summed_item(alloc: Global, uri: &str, sum: &[u8; 32]) -> Result<Value, Memory
 {
     let digits = hex::encode(alloc, &sum[..])?;
     let mut fields = Table::new(alloc);
-    fields.insert(String::from_str(alloc, "sha256")?, Value::String(digits))?;
-    fields.insert(String::from_str(alloc, "uri")?, Value::string(alloc, uri)?)?;
+    drop(fields.insert(String::from_str(alloc, "sha256")?, Value::String(digits))?);
+    drop(fields.insert(String::from_str(alloc, "uri")?, Value::string(alloc, uri)?)?);
     Ok(Value::Table(fields))
 }
 

@@ -69,7 +69,8 @@ fn trusted_item(alloc: Global, place: &Place<'_>, item: &Value) -> Result<Truste
     }
     let uri = needed_text(alloc, &Place::Key(place, "uri"), uri_field(item))?;
     let name = file_in(alloc, uri)?;
-    let text = wanted_text(alloc, &Place::Key(place, "sha256"), item.get("sha256"))?;
+    let sum_field = item.get("sha256");
+    let text = wanted_text(alloc, &Place::Key(place, "sha256"), sum_field)?;
     let sum = sum_in(alloc, uri, text)?;
     Ok(Trusted {
         uri: Text::copy(alloc, uri)?,

@@ -1,8 +1,9 @@
 use Rattle.std.proofs.Common.{◌≡◌, ◌∙◌, ◌∷◌, None, sym, ap}
-use Rattle.toml.specs.View.{view}
+use Rattle.toml.specs.View.{view, items_view, array_view}
 use Rattle.manifest_model.specs.Places.{place_text, at_item}
-use Rattle.manifest_model.specs.Mounting.{mount_refusal}
-use Rattle.manifest_model.proofs.Steps.{place_text-Item, mounts_more, mounts_next}
+use Rattle.manifest_model.specs.Mounting.{mount_refusal, mounts_refusal}
+use Rattle.manifest_model.proofs.Checking.{fails}
+use Rattle.manifest_model.proofs.Steps.{place_text-Item, mounts_more, mounts_stop_at, mounts_next}
 use Rattle.manifest_model.proofs.mounting.mount_items.Goals as goal
 
 pub loop-k-preserved : goal.loop-k-preserved
@@ -15,3 +16,12 @@ loop-k-preserved c =
       refused = c.loop-k.invariant.refused ∙ mounts_next (place_text c.args.place.now) vs k v c.loop-k-test.true c.item-item.is none;
       mounts = c.in_ok-push-2.ensures.items ∙ rw (c.loop-k.invariant.mounts, c.in_ok-mount_item.ensures.1) (ap (λ ms. c.args.root ∷ ms) (sym (mounts_more vs k v c.loop-k-test.true c.item-item.is)));
     }
+
+pub returns-in_err-mount_item : goal.returns-in_err-mount_item
+returns-in_err-mount_item c =
+    let place = place_text c.args.place.now in
+    let vs = c.deref-item-items.result.now in
+    let v = view c.item-item.result in
+    let whole : mounts_refusal place 0 (array_view c.args.items.now) ≡ mounts_refusal place 0 (items_view vs) = ap (λ ws. mounts_refusal place 0 (items_view ws)) (sym c.deref-item-items.ensures.value) in
+    fails _ _ (mounts_refusal place 0 (array_view c.args.items.now)) c.from_residual-in_err-mount_item.result c.in_err-mount_item.field-0.0
+    (λ f refused. whole ∙ c.loop-k.invariant.refused ∙ mounts_stop_at place vs c.loop-k.k c.item-item.result f c.loop-k-test.true c.item-item.is (sym (ap (λ p. mount_refusal p v) (place_text-Item _ c.loop-k.k)) ∙ refused)) c.from_residual-in_err-mount_item.ensures.1 c.in_err-mount_item.ensures
