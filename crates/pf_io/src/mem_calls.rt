@@ -1,5 +1,5 @@
 // What each call does to the storage of a host in memory. Want of memory changes nothing.
-ghost use Rattle.std.specs.Prelude.{◌≡◌, [], List, ℕ, Some, None, IfOk, OnOk, OnErr, option_map, length, take};
+ghost use Rattle.std.specs.Prelude.{◌≡◌, ◌+◌, ◌≤◌, [], List, ℕ, Some, None, IfOk, OnOk, OnErr, option_map, length, take, vec_len, vec_capacity};
 ghost use Rattle.pf_io.specs.Host.{LengthWas, Gave, Wrote, WasCut, Synced, Made, Swapped, Removed, ReadsFrom, KeepsRest, length_of, contents};
 ghost use Rattle.pf_io.specs.Replay.{Call, Put, write_stored, cut_stored, settled_stored, moved_by, answers_of};
 ghost use Rattle.pf_io.specs.Storage.{look, bytes_of, stored_of, events_of, event_of, StoresAfter, Sets, Records, IsTorn};
@@ -45,6 +45,20 @@ pub(crate) fn give(
     Ok(n)
 }
 
+// A copy of the name, and room for one file more.
+fn room_for(
+    alloc: Global,
+    files: &mut Vec<Entry>,
+    name: &[u8],
+) -> Result<Vec<u8>, AllocError>
+    ensures copy { IfOk result (λ copy. copy.items ≡ name.now) }
+    ensures same { files.new.items ≡ files.old.items }
+    ensures room { OnOk result (vec_len files.new + 1 ≤ vec_capacity files.new) }
+{
+    files.reserve(1)?;
+    name.to_vec(alloc)
+}
+
 // Gives the name this file, or none, and records the event.
 fn set_file(
     alloc: Global,
@@ -58,8 +72,7 @@ fn set_file(
     ensures same { OnErr result (files.new.items ≡ files.old.items) }
     ensures records { Records result (λ _. event_of event) (events_of told.old.items) (events_of told.new.items) }
 {
-    let copy = name.to_vec(alloc)?;
-    files.reserve(1)?;
+    let copy = room_for(alloc, files, name)?;
     told.push(event)?;
     remove_all(files, name);
     if let Some(file) = file {
