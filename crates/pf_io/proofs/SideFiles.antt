@@ -159,7 +159,7 @@ count_is start end len left is rest = omega (arith, is, rest)
 pub piece_is : (start end : ℕ) (bytes : List ℕ) → end ≡ min (length bytes) (start + PIECE) → take (end - start) (drop start bytes) ≡ take PIECE (drop start bytes)
 piece_is start end bytes is = ap (λ (n : ℕ). take n (drop start bytes)) (count_is start end (length bytes) (length (drop start bytes)) is (length-drop start bytes)) ∙ take_min PIECE (drop start bytes)
 
--- (A lemma of its own: `omega` would look into the states of the host.)
+-- a lemma of its own, where no state of a host is in reach of `omega`
 piece_short : (start : ℕ) (bytes : List ℕ) → length (take PIECE (drop start bytes)) ≤ PIECE
 piece_short start bytes = omega (arith, length-take PIECE (drop start bytes))
 

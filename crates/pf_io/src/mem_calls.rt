@@ -46,11 +46,7 @@ pub(crate) fn give(
 }
 
 // A copy of the name, and room for one file more.
-fn room_for(
-    alloc: Global,
-    files: &mut Vec<Entry>,
-    name: &[u8],
-) -> Result<Vec<u8>, AllocError>
+fn room_for(alloc: Global, files: &mut Vec<Entry>, name: &[u8]) -> Result<Vec<u8>, AllocError>
     ensures copy { IfOk result (λ copy. copy.items ≡ name.now) }
     ensures same { files.new.items ≡ files.old.items }
     ensures room { OnOk result (vec_len files.new + 1 ≤ vec_capacity files.new) }
