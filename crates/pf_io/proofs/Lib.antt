@@ -11,6 +11,7 @@ mod SideEnds
 mod Exemplified
 mod Stored
 mod Recorded
+mod Calling
 mod Stepping
 mod Reading
 mod Sources

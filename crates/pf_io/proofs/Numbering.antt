@@ -1,5 +1,5 @@
 -- What std's parsing answers for a text without a sign or a leading zero.
-use Rattle.std.proofs.Common.{◌≡◌, ◌≢◌, ◌↔◌, ℕ, zero, suc, ◌<◌, ◌^◌, List, [], ◌∷◌, length, get_or, Option, Some, Result, Ok, Err, OkIff, arith, sym, ap, subst, refl, ◌∙◌}
+use Rattle.std.proofs.Common.{◌≡◌, ◌≢◌, ◌↔◌, ℕ, zero, suc, ◌<◌, ◌^◌, List, [], ◌∷◌, length, get_or, Option, Some, None, Result, Ok, Err, OkIff, arith, sym, ap, subst, refl, ◌∙◌}
 use Rattle.std.specs.Fmt.{decimal}
 use Rattle.std.specs.Result.{result_ok}
 use Rattle.std.specs.Str.{IsUtf8}
@@ -12,6 +12,9 @@ use Rattle.pf_io.specs.Numbers.{Spells}
 spelt_plain : (text : List ℕ) (number : ℕ) → text ≡ decimal number → number < 2 ^ 64 → (get_or text 0 0 ≢ 43) × (get_or text 0 0 ≡ 48 → length text ≡ 1)
 spelt_plain text zero is small = let one : text ≡ 48 ∷ [] = is ∙ decimal_digit 0 (omega arith) in subst (λ t. (get_or t 0 0 ≢ 43) × (get_or t 0 0 ≡ 48 → length t ≡ 1)) (sym one) (λ e. omega (arith, e), λ _. refl)
 spelt_plain text (suc n) is small = let first : 48 < get_or (decimal (suc n)) 0 0 = first_decimal (suc n) (omega arith) small in let same : get_or text 0 0 ≡ get_or (decimal (suc n)) 0 0 = ap (λ t. get_or t 0 0) is in (λ e. omega (arith, e, same, first), λ e. absurd (omega (arith, e, same, first)))
+
+pub none_some : {A : Type 0} (x : A) → ◌≡◌ {A = Option A} None (Some x) → ⊥
+none_some x e = cc
 
 -- what spells a number has no sign and no leading zero
 pub plain_from_number : (text : List ℕ) (number : ℕ) → Spells text number → (get_or text 0 0 ≢ 43) × (get_or text 0 0 ≡ 48 → length text ≡ 1)

@@ -159,6 +159,10 @@ count_is start end len left is rest = omega (arith, is, rest)
 pub piece_is : (start end : ℕ) (bytes : List ℕ) → end ≡ min (length bytes) (start + PIECE) → take (end - start) (drop start bytes) ≡ take PIECE (drop start bytes)
 piece_is start end bytes is = ap (λ (n : ℕ). take n (drop start bytes)) (count_is start end (length bytes) (length (drop start bytes)) is (length-drop start bytes)) ∙ take_min PIECE (drop start bytes)
 
+-- a lemma of its own, where no state of a host is in reach of `omega`
+piece_short : (start : ℕ) (bytes : List ℕ) → length (take PIECE (drop start bytes)) ≤ PIECE
+piece_short start bytes = omega (arith, length-take PIECE (drop start bytes))
+
 written_piece : (start : ℕ) (bytes : List ℕ) → start ≤ length bytes → overwrite start (take PIECE (drop start bytes)) (take start bytes) ≡ take (start + PIECE) bytes
 written_piece start bytes le = overwrite_end start (take PIECE (drop start bytes)) (take start bytes) (length-take-le start bytes le) ∙ sym (take-add start PIECE bytes)
 
@@ -174,7 +178,7 @@ pub wrote_more : (T E : Type 0) (x : T) (side : Name) (bytes : List ℕ) (count 
 wrote_more T E x side bytes count old mid new within was faults told counts disk = record {
   faults = faults ∙ was.faults;
   wrote = advanced_then side (wrote_pieces side bytes count) (Wrote side start piece ∷ []) (Fills (take start bytes)) grows (Fills (take (suc count * PIECE) bytes)) old mid new was.wrote
-      (advanced_call side (Wrote side start piece) (Changes side (Writes {T = T} {E = E} start piece (Ok x))) grows mid new told (counts_write side start piece mid new (omega (arith, length-take PIECE (drop start bytes))) counts) disk
+      (advanced_call side (Wrote side start piece) (Changes side (Writes {T = T} {E = E} start piece (Ok x))) grows mid new told (counts_write side start piece mid new (piece_short start bytes) counts) disk
       (λ d e does. record { file = λ file was. follows_at _ _ _ file was does.there; others = does.others }))
       (λ o p q fills grow made.
       let was = fills made in
@@ -205,7 +209,7 @@ pieces_failed T E e side bytes count n old mid new lt was told counts disk =
     halted_front side (wrote_pieces side bytes (suc count)) more.0 (wrote_pieces side bytes n) old new
     (ap (λ (k : ℕ). wrote_pieces side bytes k) (all_pieces count n lt) ∙ more.1)
     (halted_then side (wrote_pieces side bytes count) (Wrote side start piece ∷ []) (Fills (take start bytes)) old mid new was.wrote
-    (halted_call side (Wrote side start piece) (Changes side (Writes {T = T} {E = E} start piece (Err e))) mid new told (counts_write side start piece mid new (omega (arith, length-take PIECE (drop start bytes))) counts) disk
+    (halted_call side (Wrote side start piece) (Changes side (Writes {T = T} {E = E} start piece (Err e))) mid new told (counts_write side start piece mid new (piece_short start bytes) counts) disk
     (λ d e does. does.others)))
 
 -- all pieces were written

@@ -94,8 +94,11 @@ impl Handles {
             return Ok(None);
         };
         let id = id_of(&metadata);
-        let known = self.find(name).map(|open| open.id);
-        if known.is_some_and(|known| known != id) {
+        let is_moved = match self.find(name) {
+            Some(open) => open.id != id,
+            None => false,
+        };
+        if is_moved {
             self.let_go(name)?;
         }
         if self.file(id).is_ok() {

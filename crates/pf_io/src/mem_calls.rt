@@ -1,5 +1,5 @@
 // What each call does to the storage of a host in memory. Want of memory changes nothing.
-ghost use Rattle.std.specs.Prelude.{◌≡◌, [], List, ℕ, Some, None, IfOk, OnOk, OnErr, option_map, length, take};
+ghost use Rattle.std.specs.Prelude.{◌≡◌, ◌+◌, ◌≤◌, [], List, ℕ, Some, None, IfOk, OnOk, OnErr, option_map, length, take, vec_len, vec_capacity};
 ghost use Rattle.pf_io.specs.Host.{LengthWas, Gave, Wrote, WasCut, Synced, Made, Swapped, Removed, ReadsFrom, KeepsRest, length_of, contents};
 ghost use Rattle.pf_io.specs.Replay.{Call, Put, write_stored, cut_stored, settled_stored, moved_by, answers_of};
 ghost use Rattle.pf_io.specs.Storage.{look, bytes_of, stored_of, events_of, event_of, StoresAfter, Sets, Records, IsTorn};
@@ -45,23 +45,34 @@ pub(crate) fn give(
     Ok(n)
 }
 
+// A copy of the name, and room for one file more.
+fn room_for(alloc: Global, files: &mut Vec<Entry>, name: &[u8]) -> Result<Vec<u8>, AllocError>
+    ensures copy { IfOk result (λ copy. copy.items ≡ name.now) }
+    ensures same { files.new.items ≡ files.old.items }
+    ensures room { OnOk result (vec_len files.new + 1 ≤ vec_capacity files.new) }
+{
+    files.reserve(1)?;
+    name.to_vec(alloc)
+}
+
 // Gives the name this file, or none, and records the event.
 fn set_file(
+    alloc: Global,
     files: &mut Vec<Entry>,
     told: &mut Vec<Told>,
     event: Told,
-    name: Vec<u8>,
+    name: &[u8],
     file: Option<StoredFile>,
 ) -> Result<(), AllocError>
-    ensures sets { OnOk result (Sets name.items (option_map stored_of file) files.old.items files.new.items) }
+    ensures sets { OnOk result (Sets name.now (option_map stored_of file) files.old.items files.new.items) }
     ensures same { OnErr result (files.new.items ≡ files.old.items) }
     ensures records { Records result (λ _. event_of event) (events_of told.old.items) (events_of told.new.items) }
 {
-    files.reserve(1)?;
+    let copy = room_for(alloc, files, name)?;
     told.push(event)?;
-    remove_all(files, &name);
+    remove_all(files, name);
     if let Some(file) = file {
-        files.push(Entry { name, file })?;
+        files.push(Entry { name: copy, file })?;
     }
     Ok(())
 }
@@ -93,9 +104,10 @@ pub(crate) fn write(
     ensures stores { StoresAfter files.new.items told.new.items }
     ensures records { Records result (λ _. Call (Wrote name.now at from.now)) (events_of told.old.items) (events_of told.new.items) }
 {
-    let next = next_written(alloc, files, name.as_bytes(), at, from)?;
-    let event = Told::Write(name.as_bytes().to_vec(alloc)?, at, from.to_vec(alloc)?);
-    set_file(files, told, event, name.as_bytes().to_vec(alloc)?, next)
+    let name = name.as_bytes();
+    let next = next_written(alloc, files, name, at, from)?;
+    let event = Told::Write(name.to_vec(alloc)?, at, from.to_vec(alloc)?);
+    set_file(alloc, files, told, event, name, next)
 }
 
 fn next_cut(
@@ -123,9 +135,10 @@ pub(crate) fn cut(
     ensures stores { StoresAfter files.new.items told.new.items }
     ensures records { Records result (λ _. Call (WasCut name.now len)) (events_of told.old.items) (events_of told.new.items) }
 {
-    let next = next_cut(alloc, files, name.as_bytes(), len)?;
-    let event = Told::Cut(name.as_bytes().to_vec(alloc)?, len);
-    set_file(files, told, event, name.as_bytes().to_vec(alloc)?, next)
+    let name = name.as_bytes();
+    let next = next_cut(alloc, files, name, len)?;
+    let event = Told::Cut(name.to_vec(alloc)?, len);
+    set_file(alloc, files, told, event, name, next)
 }
 
 fn next_synced(
@@ -151,9 +164,10 @@ pub(crate) fn sync(
     ensures stores { StoresAfter files.new.items told.new.items }
     ensures records { Records result (λ _. Call (Synced name.now)) (events_of told.old.items) (events_of told.new.items) }
 {
-    let next = next_synced(alloc, files, name.as_bytes())?;
-    let event = Told::Sync(name.as_bytes().to_vec(alloc)?);
-    set_file(files, told, event, name.as_bytes().to_vec(alloc)?, next)
+    let name = name.as_bytes();
+    let next = next_synced(alloc, files, name)?;
+    let event = Told::Sync(name.to_vec(alloc)?);
+    set_file(alloc, files, told, event, name, next)
 }
 
 pub(crate) fn make(
@@ -166,15 +180,10 @@ pub(crate) fn make(
     ensures stores { StoresAfter files.new.items told.new.items }
     ensures records { Records result (λ _. Call (Made name.now)) (events_of told.old.items) (events_of told.new.items) }
 {
+    let name = name.as_bytes();
     let file = StoredFile::settled(alloc, &[])?;
-    let event = Told::Make(name.as_bytes().to_vec(alloc)?);
-    set_file(
-        files,
-        told,
-        event,
-        name.as_bytes().to_vec(alloc)?,
-        Some(file),
-    )
+    let event = Told::Make(name.to_vec(alloc)?);
+    set_file(alloc, files, told, event, name, Some(file))
 }
 
 pub(crate) fn put(
@@ -190,7 +199,7 @@ pub(crate) fn put(
 {
     let file = StoredFile::settled(alloc, bytes)?;
     let event = Told::Place(name.to_vec(alloc)?, bytes.to_vec(alloc)?);
-    set_file(files, told, event, name.to_vec(alloc)?, Some(file))
+    set_file(alloc, files, told, event, name, Some(file))
 }
 
 pub(crate) fn remove(
@@ -203,8 +212,9 @@ pub(crate) fn remove(
     ensures stores { StoresAfter files.new.items told.new.items }
     ensures records { Records result (λ _. Call (Removed name.now)) (events_of told.old.items) (events_of told.new.items) }
 {
-    let event = Told::Remove(name.as_bytes().to_vec(alloc)?);
-    set_file(files, told, event, name.as_bytes().to_vec(alloc)?, None)
+    let name = name.as_bytes();
+    let event = Told::Remove(name.to_vec(alloc)?);
+    set_file(alloc, files, told, event, name, None)
 }
 
 // A copy of the file that a swap moves; `None` where it moves none.
@@ -236,13 +246,16 @@ pub(crate) fn swap(
     ensures stores { StoresAfter files.new.items told.new.items }
     ensures records { Records result (λ _. Call (Swapped from.now to.now)) (events_of told.old.items) (events_of told.new.items) }
 {
-    let event = Told::Swap(from.as_bytes().to_vec(alloc)?, to.as_bytes().to_vec(alloc)?);
-    let Some(file) = moving(alloc, files, from.as_bytes(), to.as_bytes())? else {
+    let from = from.as_bytes();
+    let to = to.as_bytes();
+    let moved = moving(alloc, files, from, to)?;
+    let event = Told::Swap(from.to_vec(alloc)?, to.to_vec(alloc)?);
+    let Some(file) = moved else {
         told.push(event)?;
         return Ok(());
     };
-    set_file(files, told, event, to.as_bytes().to_vec(alloc)?, Some(file))?;
-    remove_all(files, from.as_bytes());
+    set_file(alloc, files, told, event, to, Some(file))?;
+    remove_all(files, from);
     Ok(())
 }
 

@@ -63,10 +63,11 @@ impl OpenFiles {
         if self.files.len() < most {
             return;
         }
-        let first = self.files.iter().find(|open| !open.is_lost);
-        if let Some(id) = first.map(|open| open.id) {
-            self.forget_id(id);
-        }
+        let Some(first) = self.files.iter().find(|open| !open.is_lost) else {
+            return;
+        };
+        let id = first.id;
+        self.forget_id(id);
     }
 
     /// Closes the file of a name.
@@ -94,8 +95,10 @@ impl OpenFiles {
 
     /// Marks a file of which a sync failed.
     pub(crate) fn lose(&mut self, id: FileId) {
-        if let Some(open) = self.files.iter_mut().find(|open| open.id == id) {
-            open.is_lost = true;
+        for open in self.files.iter_mut() {
+            if open.id == id {
+                open.is_lost = true;
+            }
         }
     }
 }

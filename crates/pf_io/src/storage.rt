@@ -88,16 +88,10 @@ fn overwritten(alloc: Global, old: &[u8], at: usize, from: &[u8]) -> Result<Vec<
     let Some(end) = at.checked_add(from.len()) else {
         return Err(AllocError);
     };
-    let mut bytes = if at <= old.len() {
-        old[..at].to_vec(alloc)?
-    } else {
-        old.to_vec(alloc)?
-    };
+    let mut bytes = old.to_vec(alloc)?;
     bytes.resize(at, 0)?;
     bytes.extend_from_slice(from)?;
-    if end < old.len() {
-        bytes.extend_from_slice(&old[end..])?;
-    }
+    bytes.extend_from_slice(&old[end.min(old.len())..])?;
     Ok(bytes)
 }
 
@@ -111,15 +105,10 @@ fn unkept_from(alloc: Global, kept: &[bool], at: usize, n: usize) -> Result<Vec<
     let Some(end) = at.checked_add(n) else {
         return Err(AllocError);
     };
-    let mut marks = if at <= kept.len() {
-        kept[..at].to_vec(alloc)?
-    } else {
-        kept.to_vec(alloc)?
-    };
+    let mut marks = kept.to_vec(alloc)?;
+    marks.truncate(at);
     marks.resize(end, false)?;
-    if end < kept.len() {
-        marks.extend_from_slice(&kept[end..])?;
-    }
+    marks.extend_from_slice(&kept[end.min(kept.len())..])?;
     Ok(marks)
 }
 

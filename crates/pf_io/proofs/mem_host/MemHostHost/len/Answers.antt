@@ -1,6 +1,8 @@
-use Rattle.std.proofs.Common.{refl, ap, Some}
+use Rattle.std.proofs.Common.{refl, sym, ap, Some}
 use Rattle.pf_io.specs.Disk.{reading}
 use Rattle.pf_io.specs.Replay.{Trace, disk_of}
+use Rattle.pf_io.proofs.Calling.{fault_call, made_call, stores_in, length_carried}
+use Rattle.pf_io.proofs.Faulted.{nothing_done}
 use Rattle.pf_io.proofs.Recorded.{carried, told_recorded, keeps_recorded}
 use Rattle.pf_io.proofs.Stepping.{stays_step}
 use Rattle.pf_io.proofs.mem_host.MemHostHost.len.Goals as goal
@@ -13,3 +15,51 @@ returns-clause-files c = ap (λ (t : Trace). Some (reading (disk_of t))) (keeps_
 
 pub returns-clause-disk : goal.returns-clause-disk
 returns-clause-disk c = stays_step c.count_starved.result _ _ _ (carried c.count_starved.result c.answer_length-outcome.result _ _ _ _ c.answer_length-outcome.ensures.records c.count_starved.ensures.value c.count_starved.ensures.error) (λ value t. refl)
+
+pub invariant_of-self : goal.invariant_of-self
+invariant_of-self c = record { stores = c.args.self.now.stores }
+
+pub returns-then-is_to_fail-clause-cause : goal.returns-then-is_to_fail-clause-cause
+returns-then-is_to_fail-clause-cause c = record { later = c.raise.ensures.later; still = tt; once = c.raise.ensures.counted }
+
+pub returns-then-is_to_fail-clause-counts : goal.returns-then-is_to_fail-clause-counts
+returns-then-is_to_fail-clause-counts c = record { reads = refl; writes = refl; widest = refl }
+
+pub returns-then-is_to_fail-clause-told : goal.returns-then-is_to_fail-clause-told
+returns-then-is_to_fail-clause-told c = refl
+
+pub returns-then-is_to_fail-clause-files : goal.returns-then-is_to_fail-clause-files
+returns-then-is_to_fail-clause-files c = refl
+
+pub returns-then-is_to_fail-clause-honest : goal.returns-then-is_to_fail-clause-honest
+returns-then-is_to_fail-clause-honest c = tt
+
+pub returns-then-is_to_fail-clause-disk : goal.returns-then-is_to_fail-clause-disk
+returns-then-is_to_fail-clause-disk c = nothing_done _ _ refl
+
+pub returns-then-is_to_fail-clause-records : goal.returns-then-is_to_fail-clause-records
+returns-then-is_to_fail-clause-records c = refl
+
+pub returns-then-is_to_fail-clause-call : goal.returns-then-is_to_fail-clause-call
+returns-then-is_to_fail-clause-call c = fault_call (record {}) c.is_to_fail.result c.deref.result.now c.is_to_fail.ensures.fails c.deref.ensures.value c.if-is_to_fail.true c.is_to_fail.ensures.counts refl refl refl
+
+pub answer_length-outcome-requires : goal.answer_length-outcome-requires
+answer_length-outcome-requires c = stores_in c.args.self.now.files.items c.deref-2.result.now c.args.self.now.told.items c.deref-2.ensures.value c.args.self.now.stores
+
+pub invariant_of-self-2 : goal.invariant_of-self-2
+invariant_of-self-2 c = record { stores = stores_in c.deref-2.result.now c.args.self.now.files.items c.answer_length-outcome.new.told.items (sym c.deref-2.ensures.value) c.answer_length-outcome.ensures.stores }
+
+pub returns-clause-cause : goal.returns-clause-cause
+returns-clause-cause c = c.count_starved.ensures.cause
+
+pub returns-clause-counts : goal.returns-clause-counts
+returns-clause-counts c = record { reads = refl; writes = refl; widest = refl }
+
+pub returns-clause-honest : goal.returns-clause-honest
+returns-clause-honest c = length_carried c.count_starved.result c.answer_length-outcome.result c.args.self.now.files.items c.deref-2.result.now c.args.self.now.told.items c.args.name.now c.deref-2.ensures.value c.args.self.now.stores c.answer_length-outcome.ensures.answer c.count_starved.ensures.value
+
+pub returns-clause-records : goal.returns-clause-records
+returns-clause-records c = carried c.count_starved.result c.answer_length-outcome.result _ _ _ _ c.answer_length-outcome.ensures.records c.count_starved.ensures.value c.count_starved.ensures.error
+
+pub returns-clause-call : goal.returns-clause-call
+returns-clause-call c = made_call c.count_starved.result c.is_to_fail.result c.deref.result.now c.is_to_fail.ensures.fails c.deref.ensures.value c.if-is_to_fail.false c.is_to_fail.ensures.counts refl refl c.count_starved.ensures.starves
