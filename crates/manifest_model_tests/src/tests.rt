@@ -183,7 +183,7 @@ fn expect_refusals(rt: &impl Abort, alloc: Global, rows: &[(&str, &str, &str)]) 
 }
 
 #[test]
-fn refuses_a_table_at_the_first_place(rt: HostRuntime) {
+fn refuses_tables_and_allowed_files_at_the_first_place(rt: HostRuntime) {
     let rows = [
         ("a = ", "not toml", ""),
         ("a = 1\na = 2", "not toml", ""),
@@ -197,12 +197,18 @@ fn refuses_a_table_at_the_first_place(rt: HostRuntime) {
             "sgx.file_check_policy",
         ),
         ("sgx.file_check_policy = \"all\"", "policy", "all"),
+        (
+            "sgx.allowed_files = [ \"file:a\", 1 ]",
+            "field",
+            "sgx.allowed_files[1]",
+        ),
+        ("sgx.allowed_files = [ \"a\" ]", "uri", "a"),
     ];
     expect_refusals(&rt, rt.alloc(), &rows);
 }
 
 #[test]
-fn refuses_files_at_the_first_place(rt: HostRuntime) {
+fn refuses_trusted_files_at_the_first_place(rt: HostRuntime) {
     let rows = [
         (
             "sgx.trusted_files = \"file:a\"",
@@ -236,12 +242,6 @@ fn refuses_files_at_the_first_place(rt: HostRuntime) {
         ),
         ("sgx.trusted_files = [ \"file:a/\" ]", "uri", "file:a/"),
         ("sgx.trusted_files = [ \"file:\" ]", "uri", "file:"),
-        (
-            "sgx.allowed_files = [ \"file:a\", 1 ]",
-            "field",
-            "sgx.allowed_files[1]",
-        ),
-        ("sgx.allowed_files = [ \"a\" ]", "uri", "a"),
         (TWO_SUMS, "two sums", "file:b/../a"),
     ];
     expect_refusals(&rt, rt.alloc(), &rows);

@@ -1,6 +1,8 @@
 //! The place calls on the numbers that docs/FORMAT.md lists, and an entry that is put and read.
 
-use node_layout::{data_place, entry, mht_parent, mht_place, node_count, parent_of, set_entry, slot_of};
+use node_layout::{
+    data_place, entry, mht_parent, mht_place, node_count, parent_of, set_entry, slot_of,
+};
 
 #[test]
 fn places_and_counts_are_as_listed(rt: HostRuntime) {
