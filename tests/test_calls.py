@@ -85,9 +85,8 @@ def test_more_files_are_read_in_turn_than_stay_open():
 def test_each_call_changes_a_file():
     with driver() as host:
         host.said([("0 make a", DONE), ("0 len a", length(0)), ("0 write a 2 xyz", DONE), ("0 write a 1 w", DONE)])
-        host.opened(0, "a", b"\0wxyz")
         host.said([("0 cut a 9", DONE)])
-        host.opened(0, "a", b"\0wxyz" + bytes(4))
+        host.opened(0, "a", b"\0wxyz")
         host.said([("0 cut a 3", DONE), ("0 sync a", DONE), ("0 make b", DONE), ("0 swap a b", DONE), ("0 len a", ABSENT)])
         same(got("b"), b"\0wx", "the file")
         host.said([("0 swap b b", DONE)])

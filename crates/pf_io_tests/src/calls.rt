@@ -13,7 +13,7 @@ pub(crate) enum Call {
     Remove(&'static str),
 }
 
-pub(crate) fn make_call<H: Host>(host: &mut H, call: &Call) -> Result<(), HostFault> {
+fn make_call<H: Host>(host: &mut H, call: &Call) -> Result<(), HostFault> {
     match call {
         Call::Write(name, at, bytes) => host.write_at(name, *at, bytes),
         Call::Cut(name, len) => host.cut(name, *len),
@@ -37,6 +37,12 @@ pub(crate) const SCRIPT: [Call; 10] = [
     Call::Sync("a"),
     Call::Remove("a"),
 ];
+
+pub(crate) fn make_each<H: Host>(host: &mut H, calls: &[Call]) {
+    for call in calls {
+        let _ = make_call(host, call);
+    }
+}
 
 pub(crate) fn expect_each<H: Host>(
     rt: &impl Abort,

@@ -1,5 +1,5 @@
 // Calls of a host in memory, and its crashes after each call of a script, tried with each tear.
-use crate::calls::{Call, SCRIPT, expect_each, make_call};
+use crate::calls::{Call, SCRIPT, expect_each, make_each};
 use pf_io::{Host, HostFault, MemHost, Tear, write_by_side_file};
 use std::alloc::Global;
 use std::test::Fail;
@@ -12,9 +12,7 @@ fn crashed(alloc: Global, calls: u64, tear: Tear) -> Result<MemHost, Fail> {
     host.put("a", b"abcd")?;
     host.put("c", b"other")?;
     host.stop_at(calls);
-    for call in SCRIPT {
-        let _ = make_call(&mut host, &call);
-    }
+    make_each(&mut host, &SCRIPT);
     Ok(host.after_crash(tear)?)
 }
 

@@ -1,8 +1,8 @@
 use crate::calls::{SCRIPT, expect_each, opened};
 use pf_fakes::{Answer, ScriptHost};
 use pf_io::{
-    Bytes, Host, HostFault, ListWords, MemHost, MemSink, MemSource, Sink, Source, StreamFault,
-    Text, Words, WordsFault, is_name, is_target, read_number,
+    Bytes, HostFault, MemHost, MemSink, MemSource, Sink, Source, StreamFault, Text, is_name,
+    is_target, read_number,
 };
 use std::test::Fail;
 
@@ -83,51 +83,51 @@ fn numbers_have_no_sign_and_no_leading_zero(rt: HostRuntime) {
 }
 
 #[test]
-fn texts_and_bytes_are_owned(rt: HostRuntime) -> Result<(), Fail> {
+fn texts_are_owned(rt: HostRuntime) -> Result<(), Fail> {
     let text = Text::copy(rt.alloc(), "na\u{ef}ve")?;
-    assert_eq!(rt; text.as_str(), "na\u{ef}ve");
     let joined = Text::joined(rt.alloc(), text.as_str(), ".new")?;
-    assert_eq!(rt; joined.as_str(), "na\u{ef}ve.new");
     let plain = String::from(joined);
     assert_eq!(rt; Text::from(plain).as_str(), "na\u{ef}ve.new");
+    Ok(())
+}
+
+#[test]
+fn bytes_are_owned(rt: HostRuntime) -> Result<(), Fail> {
     let mut bytes = Bytes::zeroed(rt.alloc(), 3)?;
     bytes.as_mut_slice()[1] = 7;
-    assert_eq!(rt; bytes.as_slice(), [0, 7, 0].as_slice());
-    let list = Vec::from(Bytes::copy(rt.alloc(), b"xyz")?);
-    assert_eq!(rt; Bytes::from(list).as_slice(), b"xyz".as_slice());
+    let list = Vec::from(bytes);
+    assert_eq!(rt; Bytes::from(list).as_slice(), [0, 7, 0].as_slice());
     Ok(())
 }
 
 #[test]
 fn a_host_in_memory_has_what_was_put(rt: HostRuntime) -> Result<(), Fail> {
     let mut host = MemHost::new(rt.alloc());
-    assert_eq!(rt; opened(&mut host, "a", 0), Ok((None, 0, [9; 4])));
     host.put("a", b"old")?;
     host.put("b", b"other")?;
     host.put("a", b"newer")?;
-    assert_eq!(rt; opened(&mut host, "a", 0), Ok((Some(5), 4, *b"newe")));
-    assert_eq!(rt;
-        opened(&mut host, "a", 3),
-        Ok((Some(5), 2, [b'e', b'r', 9, 9]))
-    );
-    assert_eq!(rt; opened(&mut host, "a", u64::MAX), Ok((Some(5), 0, [9; 4])));
-    assert_eq!(rt; host.bytes("b"), Some(b"other".as_slice()));
-    assert_eq!(rt; host.bytes("c"), None);
-    assert_eq!(rt; host.starved(), 0);
+    for (name, at, want) in [
+        ("a", 0, (Some(5), 4, *b"newe")),
+        ("a", 3, (Some(5), 2, *b"er\t\t")),
+        ("a", u64::MAX, (Some(5), 0, [9; 4])),
+        ("b", 0, (Some(5), 4, *b"othe")),
+        ("c", 0, (None, 0, [9; 4])),
+    ] {
+        assert_eq!(rt; opened(&mut host, name, at), Ok(want));
+    }
     Ok(())
 }
 
+// Each opening makes two calls.
 #[test]
 fn a_host_in_memory_fails_where_it_is_told_to(rt: HostRuntime) -> Result<(), Fail> {
     let mut host = MemHost::new(rt.alloc());
     host.put("a", b"abc")?;
     host.fail_at(3)?;
     host.fail_at(1)?;
-    assert_eq!(rt; host.len("a"), Ok(Some(3)));
-    assert_eq!(rt; host.read_at("a", 0, &mut [0; 2]), Err(HostFault));
-    assert_eq!(rt; host.read_at("a", 0, &mut [0; 2]), Ok(2));
-    assert_eq!(rt; host.len("a"), Err(HostFault));
-    assert_eq!(rt; host.len("a"), Ok(Some(3)));
+    for want in [Err(HostFault), Err(HostFault), Ok((Some(3), 3, *b"abc\t"))] {
+        assert_eq!(rt; opened(&mut host, "a", 0), want);
+    }
     assert_eq!(rt; host.starved(), 0);
     Ok(())
 }
@@ -155,19 +155,6 @@ fn a_sink_in_memory_keeps_what_it_takes(rt: HostRuntime) {
     assert_eq!(rt; sink.write(b"c"), Ok(()));
     assert_eq!(rt; sink.bytes(), b"abc".as_slice());
     assert_eq!(rt; sink.starved(), 0);
-}
-
-#[test]
-fn listed_words_come_in_order_and_end(rt: HostRuntime) -> Result<(), Fail> {
-    let mut words = ListWords::new(rt.alloc());
-    words.push([1; 16])?;
-    words.push([2; 16])?;
-    assert_eq!(rt; words.next16(), Ok([1; 16]));
-    assert_eq!(rt; words.next16(), Ok([2; 16]));
-    assert_eq!(rt; words.next16(), Err(WordsFault));
-    words.push([3; 16])?;
-    assert_eq!(rt; words.next16(), Ok([3; 16]));
-    Ok(())
 }
 
 #[test]
