@@ -7,13 +7,7 @@ use Rattle.manifest_model.proofs.Checking.{fails}
 use Rattle.manifest_model.proofs.Steps.{place_text-Path, at_path}
 use Rattle.manifest_model.proofs.MountRead.{Rooted, root_stops, list_stops, mounts_listed, none_listed}
 use Rattle.manifest_model.proofs.mounting.mounts_of.Goals as goal
-use Rattle.manifest_model.proofs.mounting.mounts_of.Goals.{In_ok-root, In_ok-root-2, In_ok-items}
-
-root_form : (c : In_ok-root) → wants as_table (codes "fs.root") (get_member (codes "root") (table_view c.args.fs.now)) ≡ None
-root_form c = at_path (wants as_table) _ c.member.result (get_member (codes "root") (table_view c.args.fs.now)) None c.member.ensures c.in_ok-root.ensures.0
-
-root_is : (c : In_ok-root) → table_view c.in_ok-root.root.now ≡ members_in (get_member (codes "root") (table_view c.args.fs.now))
-root_is c = c.in_ok-root.ensures.1 ∙ ap members_in c.member.ensures
+use Rattle.manifest_model.proofs.mounting.mounts_of.Goals.{In_ok-root-2, In_ok-items}
 
 rooted : (c : In_ok-root-2) → Rooted (table_view c.args.fs.now) (table_view c.in_ok-root.root.now)
 rooted c = record {
@@ -28,7 +22,7 @@ list_form c = at_path (wants as_array) _ c.member-2.result (get_member (codes "m
 pub returns-in_err-root-2 : goal.returns-in_err-root-2
 returns-in_err-root-2 c =
     fails _ _ (mounting_refusal (table_view c.args.fs.now)) c.from_residual-in_err-root-2.result c.in_err-root-2.field-0.0
-    (λ f e. root_stops _ _ f (root_form (goal.at.returns-in_err-root-2 c).In_ok-root) (root_is (goal.at.returns-in_err-root-2 c).In_ok-root) e) c.from_residual-in_err-root-2.ensures.1 c.in_err-root-2.ensures
+    (λ f e. root_stops _ _ f (at_path (wants as_table) _ c.member.result (get_member (codes "root") (table_view c.args.fs.now)) None c.member.ensures c.in_ok-root.ensures.0) (c.in_ok-root.ensures.1 ∙ ap members_in c.member.ensures) e) c.from_residual-in_err-root-2.ensures.1 c.in_err-root-2.ensures
 
 pub returns-in_err-items : goal.returns-in_err-items
 returns-in_err-items c =
