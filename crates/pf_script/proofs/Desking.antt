@@ -16,7 +16,7 @@ use Rattle.pf_script.specs.Book.{Book, Seal}
 use Rattle.pf_script.specs.BookActs.{Act}
 use Rattle.pf_script.specs.BookSeats.{Covers, CoversEach, CoversBoth, KeepsUnder}
 use Rattle.pf_script.specs.Desk.{DeskState, session_at, IsSeated, IsSeatOf, IsLikeDesk, IsDesk, Shows, IsStateOf}
-use Rattle.pf_script.specs.DeskSteps.{MaySeal, Unfolds, in_the_end, then_more, SomeSeatTurn, SomeTurn, TurnsTo, SeatAsks, SeatCaused, DeskCaused, LeavesSeat, AsksFew, Asks, IsChange, Admits, HasItsName, OtherHas, Concerns, ConcernsDesk, CoversSome, CoversDesk, KeepsNames, KeepsSession, NothingDone, IsBrokenSession, BreaksSeat, SeatIdle, FlushesUnder, SeatWants, Wants, WhereWanting, WhereReplied, SeatGoes, DeskGoes}
+use Rattle.pf_script.specs.DeskSteps.{MaySeal, Unfolds, in_the_end, then_more, SomeSeatTurn, SomeTurn, TurnsTo, SeatAsks, SeatCaused, DeskCaused, LeavesSeat, AsksFew, Asks, IsChange, Admits, HasItsName, OtherHas, Concerns, ConcernsDesk, CoversSome, CoversDesk, KeepsNames, KeepsSession, NothingDone, IsBrokenSession, BreaksSeat, StillShows, SeatStillShows, DeskStillShows, SeatIdle, FlushesUnder, SeatWants, Wants, WhereWanting, WhereReplied, SeatGoes, DeskGoes}
 use Rattle.pf_script.specs.Script.{Seat, Empty, ScriptState, seat_at, IsTaken, state_with, seat_of_line, name_of_line}
 use Rattle.pf_script.specs.Turns.{Seen, SeatTurn, Caused, Turn, on_seat, on_carried, SaysTaken}
 use Rattle.pf_script.specs.Words.{SEATS}
@@ -226,6 +226,7 @@ module _ (old : DeskState) (desk : IsDesk old) (k : ℕ) (below : k < SEATS) (ta
     wants_on : SeatWants old.key line (session_at old k) left before after random random' → Wants line old new before after random random'
     wants_on wants = record {
       takes = wants.takes;
+      early = wants.early;
       shows = told_weaker (SeatStillShows old.key (session_at old k) left) (DeskStillShows old new) before after wants.shows (λ given still state is_state unforged j. shown state is_state j (still state.sealed (seat_at state k) (is_state.shows k) unforged));
       ends = ⊎_elim (λ idle. inl (nothing idle)) (λ breaks. inr (broken breaks.0 breaks.1 breaks.2)) wants.ends;
       flushes = λ j session is_seat is. flushed j session (same_seat j k (sym is_seat ∙ names)) is;
@@ -283,6 +284,7 @@ module _ (old : DeskState) (desk : IsDesk old) (k : ℕ) (below : k < SEATS) (ta
       counts = goes.counts;
       wordless = goes.wordless;
       few = few_on;
+      silent = λ blank. let e : ◌≡◌ {A = Option ℕ} (Some k) None = sym names ∙ ap seat_of_line blank in absurd (cc);
       wants = all_wants result goes.wants;
     }
 
