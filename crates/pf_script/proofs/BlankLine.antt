@@ -30,5 +30,6 @@ blank_goes desk host words = record {
   counts = (refl, refl);
   wordless = λ wordless. refl;
   few = λ k none. absurd (cc);
+  silent = λ blank. (refl, refl);
   wants = tt;
 }

@@ -68,13 +68,13 @@ module _ (old : SessionState) (step : Step) (before after : HostState) (random r
         on_words = seen.on_words;
         left = left_unflushed blame first (subst (λ (f : FlushFault). UndamagedFlush (Err f) old before) (sym (same_fault fault (fault_of blame) said)) undamaged) seals key_is name_is broken;
       }))
-  in_unflushed new fault first undamaged (was_ended these words seen seals same dirty said) = absurd (cc)
+  in_unflushed new fault first undamaged (was_ended these words seen swapped seals same dirty said) = absurd (cc)
 
   pub in_after : (mid new : SessionState) (between : HostState) (one : Result (Unit {0}) TreeFault) → IsOfScript mid → IsFlushedFirst step old.tree → FlushEnds (Ok tt) old mid before between random random' → StepGoes one step mid new between after
       → ChangeIn step old new (outcome_of true one) before after random random'
   in_after mid new between one of_mid first (not_begun words fewer seen same stays said) goes = absurd (cc)
   in_after mid new between one of_mid first (not_ended blame these words seen blames seals key_is name_is broken said) goes = absurd (cc)
-  in_after mid new between one of_mid first (was_ended these words seen seals same dirty said) goes = record {
+  in_after mid new between one of_mid first (was_ended these words seen swapped seals same dirty said) goes = record {
     these = these ++ goes.steps.these;
     words = words;
     told = told_on these goes.steps.these before between after seen.told goes.steps.answered.told;

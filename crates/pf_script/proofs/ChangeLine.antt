@@ -19,7 +19,7 @@ use Rattle.pf_session.specs.declared.fault.FlushFault.{FlushFault}
 use Rattle.pf_session.specs.declared.fault.Written.{Written}
 use Rattle.pf_script.specs.BookSeats.{Covers, KeepsUnder}
 use Rattle.pf_script.specs.Desk.{IsSeated, seat_on, IsLikeOwn}
-use Rattle.pf_script.specs.DeskSteps.{in_the_end, CountsFault, SeatAsks, SeatCaused, IsChange, TakesNone, FlushesUnder, Admits, LeftAtFault, LeftAtDamage, LeftAtWords, SeatGoes, is_host_fault, is_words_fault, LeavesSeat}
+use Rattle.pf_script.specs.DeskSteps.{in_the_end, CountsFault, SeatAsks, SeatCaused, IsChange, WantsEarly, TakesNone, FlushesUnder, Admits, LeftAtFault, LeftAtDamage, LeftAtWords, SeatGoes, is_host_fault, is_words_fault, LeavesSeat}
 use Rattle.pf_script.specs.Rules.{NoneRefuses, rules}
 use Rattle.pf_script.specs.Script.{OwnSeat, Seat, Own}
 use Rattle.pf_script.specs.SeatReplies.{flush_reply}
@@ -77,7 +77,7 @@ module _ (key : List ℕ) (old : SessionState) (seated : IsSeated key old) (whol
   flush_after new result before after random random' (lacked words fewer seen same stays said) = same_after new same
   flush_after new result before after random random' (failed blame these words seen blames seals key_is name_is broken said) =
       record { key_is = key_is; name_is = name_is; clean = λ also unchanged. absurd (false_true new.broken broken also) }
-  flush_after new result before after random random' (done these words seen seals same dirty said) =
+  flush_after new result before after random random' (done these words seen swapped seals same dirty said) =
       record { key_is = ap (λ (s : SessionState). s.key) same; name_is = ap (λ (s : SessionState). s.name) same; clean = λ also unchanged. dirty }
 
   change_after : (E : Type 0) (Refused : E → Type 0) (IsNone : Type 0) (of_flush : FlushFault → E) (of_tree : TreeFault → E) (step : Step) (result : Result Written E) (new : SessionState) (before after : HostState) (random random' : WordsState)
@@ -130,9 +130,24 @@ change_damage key seat (lines.Move k name) given damage changes comes = absurd c
 change_damage key seat (lines.Draw k) given damage changes comes = absurd changes
 change_damage key seat (lines.Close k) given damage changes comes = absurd changes
 
+-- a change may want memory behind its calls
+never_early : (line : ScriptLine) → IsChange line → WantsEarly line → ⊥
+never_early lines.Blank changes early = changes
+never_early (lines.Create k name) changes early = changes
+never_early (lines.Open k name) changes early = changes
+never_early (lines.View k path) changes early = changes
+never_early (lines.Read k at count) changes early = changes
+never_early (lines.Write k at bytes) changes early = early
+never_early (lines.Fill k at count byte) changes early = early
+never_early (lines.Size k size) changes early = early
+never_early (lines.Flush k) changes early = changes
+never_early (lines.Move k name) changes early = changes
+never_early (lines.Draw k) changes early = changes
+never_early (lines.Close k) changes early = changes
+
 -- what a change that failed leaves in its seat
 module _ (old new : SessionState) (random random' : WordsState) where
-  fault_leaves : (line : ScriptLine) → IsChange line → new.broken ≡ true → LeftAtFault line (Some old) (Some new) × LeftAtDamage line (Some old) (Some new)
+  fault_leaves : (line : ScriptLine) → IsChange line → new.broken ≡ true → LeftAtFault line (Some old) (Some new) random random' × LeftAtDamage line (Some old) (Some new) random random'
   fault_leaves lines.Blank changes broken = absurd changes
   fault_leaves (lines.Create k name) changes broken = absurd changes
   fault_leaves (lines.Open k name) changes broken = absurd changes
@@ -289,6 +304,7 @@ module _ (key : List ℕ) (line : ScriptLine) (old new : SessionState) (whole : 
         goes_wanting key false line old before after random random' aside takes_few (record {}) new
         (record {
           takes = takes;
+          early = λ first. absurd (never_early line changes first);
           shows = shows_broken key old new before after (λ given. ChangeTold step old new given seen.words Wanted) seen.told (breaks refl).0 key_is name_is;
           ends = inr (changes, (breaks refl).0, admits);
           flushes = λ session is. flushes_of line old session before after is (breaks refl).1;

@@ -197,13 +197,13 @@ module _ (old : SessionState) (mine : IsOfScript old) (step : Step) (before afte
         came = record { these = these; told = seen.told; comes = flush_comes old.name these blame blames };
         leaves = broken;
       }))
-  seen_unflushed new fault first (done these words seen seals same dirty said) = absurd (cc)
+  seen_unflushed new fault first (done these words seen swapped seals same dirty said) = absurd (cc)
 
   pub seen_after : (mid new : SessionState) (between : HostState) (one : Result (Unit {0}) TreeFault) → IsOfScript mid → mid.tree.size ≡ old.tree.size → IsFlushedFirst step old.tree → FlushCase (Ok tt) old mid before between random random' → StepGoes one step mid new between after
       → ChangeSeen step old new (outcome_of true one) before after random random'
   seen_after mid new between one of_mid size_is first (lacked words fewer seen same stays said) goes = absurd (cc)
   seen_after mid new between one of_mid size_is first (failed blame these words seen blames seals key_is name_is broken said) goes = absurd (cc)
-  seen_after mid new between one of_mid size_is first (done these words seen seals same dirty said) goes = record {
+  seen_after mid new between one of_mid size_is first (done these words seen swapped seals same dirty said) goes = record {
     words = words;
     taken = seen.taken;
     on_host = subst (λ b. CountsFault b before.faults after.faults) (host_same true one) (subst (λ n. CountsFault (host_of one) n after.faults) seen.on_host (counts_of one between.faults after.faults goes.cause));

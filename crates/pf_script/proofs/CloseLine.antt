@@ -2,6 +2,7 @@
 use Rattle.std.proofs.Common.{◌≡◌, ◌⊎◌, inl, inr, Bool, true, false, List, [], ◌∷◌, ℕ, refl, sym, ◌∙◌, ap, subst, Some, None, Result, Ok, Err}
 use Rattle.std.proofs.lemmas.List.{append-nil}
 use Rattle.node_tree.specs.Sheet.{Sheet}
+use Rattle.pf_io.specs.Disk.{Name}
 use Rattle.pf_io.specs.Host.{Answer, HostState, Both, OnDisk, ReadsAsImage}
 use Rattle.pf_io.specs.Words.{WordsState}
 use Rattle.pf_io.proofs.Telling.{told_none}
@@ -18,13 +19,13 @@ use Rattle.pf_script.specs.Rules.{NoneRefuses, rules}
 use Rattle.pf_script.specs.Script.{OwnSeat, Seat, Empty, Own}
 use Rattle.pf_script.specs.SeatReplies.{flush_reply}
 use Rattle.pf_script.specs.SeatSteps.{Seals}
-use Rattle.pf_script.specs.Turns.{Blame, ByHost, ByDamage, SeatTurn, accepted, host_failed, was_damaged, words_failed, let_go as lets_go, flushed_last as flushes_last, not_sealed, of_close, no_last_flush, on_carried, BlamesFlush, Caused}
+use Rattle.pf_script.specs.Turns.{Blame, ByHost, ByDamage, SeatTurn, accepted, host_failed, was_damaged, words_failed, let_go as lets_go, flushed_last as flushes_last, not_sealed, of_close, no_last_flush, on_carried, BlamesFlush, TookItsName, Caused}
 use Rattle.pf_script.specs.declared.line.ScriptLine.TheVariants as lines
 use Rattle.pf_script.specs.declared.reply.Reply.{Reply}
 use Rattle.pf_script.specs.declared.reply.Reply.TheVariants as replies
 use Rattle.pf_script.proofs.CallKeeping.{close_keeps}
 use Rattle.pf_script.proofs.FlushLine.{flush_act, like_short}
-use Rattle.pf_script.proofs.Flushed.{SealsOwn, TooFewToFlush, FlushCase, lacked, failed, done, flush_case, host_blamed, fault_of}
+use Rattle.pf_script.proofs.Flushed.{HasSwapped, SealsOwn, TooFewToFlush, FlushCase, lacked, failed, done, flush_case, host_blamed, fault_of}
 use Rattle.pf_script.proofs.Liking.{like_some}
 use Rattle.pf_script.proofs.Refusing.{at_last, not_empty, none_taken}
 use Rattle.pf_script.proofs.SeatCalls.{seen_by, SheetTurns, whole_turns, goes_out, host_reply, words_reply, false_true}
@@ -43,6 +44,22 @@ module _ (key : List ℕ) (k : ℕ) (old : SessionState) where
   -- no rule refuses on a seat that is like the session
   passes_like : (seat : Seat) → IsLike seat (Some old) → NoneRefuses (rules key false seat (lines.Close k) [])
   passes_like seat like = let on = like_some seat old like in subst (λ (s : Seat). NoneRefuses (rules key false s (lines.Close k) [])) (sym on.seat_is) (none_to_close key k on.own)
+
+  -- where nothing was to seal, no version took the name
+  idle_caused : (old.changed ≡ false) ⊎ (old.broken ≡ true) → (seat : Seat) → IsLike seat (Some old) → Caused key false seat (lines.Close k) [] (replies.Closed old.broken)
+  idle_caused why seat like =
+      let on = like_some seat old like in
+      (passes_like seat like, subst (λ (s : Seat). TookItsName s []) (sym on.seat_is) (λ whole was_changed. absurd (none_to_seal why (sym on.like.broken_is ∙ whole) (sym (on.like.changed_is (sym on.like.broken_is ∙ whole)) ∙ was_changed))))
+    where
+      none_to_seal : (old.changed ≡ false) ⊎ (old.broken ≡ true) → old.broken ≡ false → old.changed ≡ true → ⊥
+      none_to_seal (inl clean) whole was_changed = false_true old.changed was_changed clean
+      none_to_seal (inr broken) whole was_changed = false_true old.broken broken whole
+
+  -- a version that was sealed has taken it
+  done_caused : (lost : Bool) (these : List Answer) → HasSwapped old.name these → (seat : Seat) → IsLike seat (Some old) → Caused key false seat (lines.Close k) these (replies.Closed lost)
+  done_caused lost these swapped seat like =
+      let on = like_some seat old like in
+      (passes_like seat like, subst (λ (s : Seat). TookItsName s these) (sym on.seat_is) (λ whole was_changed. subst (λ (n : Name). HasSwapped n these) (sym on.like.name_is) swapped))
 
   failed_caused : (these : List Answer) (blame : Blame) → BlamesFlush old.name these blame → (seat : Seat) → IsLike seat (Some old) → Caused key false seat (lines.Close k) these (flush_reply (fault_of blame))
   failed_caused these ByHost blames seat like = passes_like seat like
@@ -116,10 +133,10 @@ module _ (key : List ℕ) (k : ℕ) (old : SessionState) where
         subst (λ (r : Result (Unit {0}) FlushFault). SeatGoes key false (lines.Close k) (Ok (close_result false r)) (Some old) None before after random random') (sym said)
         (goes_out key false (lines.Close k) (flush_reply (fault_of blame)) old before after random random' aside (λ none. absurd none, tt) these words (host_blamed blame) false seen (host_reply blame) (words_reply blame)
         (whole_turns key false (lines.Close k) (seen_by these words (host_blamed blame) false) (flush_reply (fault_of blame)) old None these whole (failed_turns whole was_changed these words blame seals blames)) (failed_caused these blame blames) (failed_leaves blame) books)
-    by_case result mid whole was_changed (done these words seen seals same dirty said) =
+    by_case result mid whole was_changed (done these words seen swapped seals same dirty said) =
         subst (λ (r : Result (Unit {0}) FlushFault). SeatGoes key false (lines.Close k) (Ok (close_result false r)) (Some old) None before after random random') (sym said)
         (goes_out key false (lines.Close k) (replies.Closed false) old before after random random' aside (λ none. absurd none, tt) these words false false seen refl refl
-        (whole_turns key false (lines.Close k) (seen_by these words false false) (replies.Closed false) old None these whole (done_turns whole was_changed mid these words seals)) passes_like
+        (whole_turns key false (lines.Close k) (seen_by these words false false) (replies.Closed false) old None these whole (done_turns whole was_changed mid these words seals)) (done_caused false these swapped)
         (subst (λ (b : Bool). LeavesSeat (lines.Close k) (replies.Closed b) (Some old) None random random') whole (to_close k old)) books)
 
 pub close_goes : (key : List ℕ) (k : ℕ) (old : SessionState) (result : Result (Unit {0}) FlushFault) (before after : HostState) (random random' : WordsState) → IsSeated key old
@@ -138,7 +155,7 @@ close_goes key k old result before after random random' seated goes aside reads 
           taken = subst (λ (w : WordsState). Both random.left w.left (AreTaken [])) (sym same) (none_taken random);
           on_host = ap (λ (h : HostState). h.faults) stays;
           on_words = ap (λ (w : WordsState). w.faults) same;
-        }) refl refl (idle_turns key k old old.broken refl why) (passes_like key k old) (to_close k old) books)
+        }) refl refl (idle_turns key k old old.broken refl why) (idle_caused key k old why) (to_close k old) books)
     by_end (flushed_last mid was_changed whole flushes) =
         subst (λ (b : Bool). SeatGoes key false (lines.Close k) (Ok (close_result b result)) (Some old) None before after random random') (sym whole)
         (by_case key k old before after random random' aside books result mid whole was_changed (flush_case old seated.of_script mid before after random random' result flushes))

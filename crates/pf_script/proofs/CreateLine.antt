@@ -195,7 +195,7 @@ module _ (key : List ℕ) (k : ℕ) (name : Name) (utf8 : IsUtf8 name) (before a
       (record {
         goes = empty_wants key line name refl None before after random random'
             (both_weaker Unchanged (KeepsUnder CoversNone CoversNone (λ n. n ≡ name)) before.honest after.honest (stays_so stays) (λ a b only. only_reads CoversNone a b (λ n. n ≡ name) only)) (spares_given key line name refl before after aside) tt (λ n none. absurd none) (λ none. absurd none, tt)
-            (λ takes. takes) refl (stays_so stays) (ap (λ (h : HostState). h.faults) stays) same (told_by (λ given. Unit {0}) [] before after (told_none before after (ap (λ (h : HostState). h.given) stays)) tt);
+            (λ takes. takes) refl stays same;
         booked = tt;
       })
   by_case result aside reads keeps (look_up_failed good fails same said) =
@@ -203,7 +203,7 @@ module _ (key : List ℕ) (k : ℕ) (name : Name) (utf8 : IsUtf8 name) (before a
       subst (λ (r : Result SessionState CreateFault). Both (create_result name r) (made_seat r)) (sym said)
       (empty_idle key line name refl before after random random' (λ none. absurd none, tt) replies.HostFault [] [] true false fails.disk
       (record { told = fails.asked.asked.told; taken = none_taken_now same; on_host = fails.asked.asked.faults; on_words = ap (λ (w : WordsState). w.faults) same }) refl refl
-      (λ standing. host_failed none (record { host = refl; random = refl }) (not_asked k name refl) refl) none refl (λ a is calm. absurd (no_host_fault calm)))
+      (λ standing. host_failed none (record { host = refl; random = refl }) (not_asked k name refl refl) refl) none refl (λ a is calm. absurd (no_host_fault calm)))
   by_case result aside reads keeps (was_there size good looks same said) =
       let given = LengthWas name (Some size) ∷ [] in
       let first : IsFirst (rules key false Empty line given) (whys.Exists name) =

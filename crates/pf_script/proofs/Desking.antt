@@ -226,6 +226,7 @@ module _ (old : DeskState) (desk : IsDesk old) (k : ℕ) (below : k < SEATS) (ta
     wants_on : SeatWants old.key line (session_at old k) left before after random random' → Wants line old new before after random random'
     wants_on wants = record {
       takes = wants.takes;
+      early = wants.early;
       shows = told_weaker (SeatStillShows old.key (session_at old k) left) (DeskStillShows old new) before after wants.shows (λ given still state is_state unforged j. shown state is_state j (still state.sealed (seat_at state k) (is_state.shows k) unforged));
       ends = ⊎_elim (λ idle. inl (nothing idle)) (λ breaks. inr (broken breaks.0 breaks.1 breaks.2)) wants.ends;
       flushes = λ j session is_seat is. flushed j session (same_seat j k (sym is_seat ∙ names)) is;
@@ -283,6 +284,7 @@ module _ (old : DeskState) (desk : IsDesk old) (k : ℕ) (below : k < SEATS) (ta
       counts = goes.counts;
       wordless = goes.wordless;
       few = few_on;
+      silent = λ blank. let e : ◌≡◌ {A = Option ℕ} (Some k) None = sym names ∙ ap seat_of_line blank in absurd (cc);
       wants = all_wants result goes.wants;
     }
 

@@ -17,7 +17,7 @@ no_reads n host = record { reads = omega arith; writes = refl; widest = omega ar
 
 -- nothing was asked
 none_asked : (line : ScriptLine) (old : Option SessionState) (host : HostState) → AsksFew line old host host
-none_asked lines.Blank old host = refl
+none_asked lines.Blank old host = tt
 none_asked (lines.Create k name) old host = tt
 none_asked (lines.Open k name) old host = no_reads 1 host
 none_asked (lines.View k path) old host = refl

@@ -1,7 +1,8 @@
 -- What a flush of a session seals, as a seat of a script sees it.
-use Rattle.std.proofs.Common.{◌≡◌, Bool, true, false, List, [], ◌∷◌, ◌++◌, ℕ, ◌+◌, ◌*◌, ◌<◌, ◌≤◌, refl, ◌∙◌, ap, subst, None, Result, Ok, Err, length}
+use Rattle.std.proofs.Common.{◌≡◌, Bool, true, false, List, [], ◌∷◌, ◌++◌, ℕ, ◌+◌, ◌*◌, ◌<◌, ◌≤◌, refl, ◌∙◌, sym, ap, subst, None, Result, Ok, Err, length}
 use Rattle.std.proofs.lemmas.List.FromFn.{length-map-range_with_len}
-use Rattle.std.proofs.lemmas.List.Elements.{Contains-push}
+use Rattle.std.proofs.lemmas.List.Elements.{Contains-push, Contains-append_right}
+use Rattle.std.specs.Prelude.{Contains}
 use Rattle.node_layout.specs.Places.{node_count}
 use Rattle.node_layout.specs.declared.damage.Damage.{Damage}
 use Rattle.node_tree.specs.Backing.{now, plain_now}
@@ -22,6 +23,7 @@ use Rattle.pf_session.specs.Drawing.{WordsCame, nonce_words}
 use Rattle.pf_session.specs.Flushing.{Seals as SealsNext, FlushShort, FlushGoes, no_words, had_words, SealGoes, node_short, call_failed, flushed}
 use Rattle.pf_session.specs.Sealing.{Replaces, StandsNext}
 use Rattle.pf_session.specs.State.{SessionState}
+use Rattle.pf_session.specs.Steps.{clean_nodes, seal_steps, steps_by, flush_steps}
 use Rattle.pf_session.specs.declared.fault.FlushFault.{FlushFault}
 use Rattle.pf_session.specs.declared.fault.FlushFault.TheVariants as faults
 use Rattle.pf_script.specs.BookSeats.{IsOfScript}
@@ -93,12 +95,16 @@ SealsOwn old words P = SealsWith old words (λ base next. P next)
 abbrev pub TooFewToFlush : SessionState → List (List ℕ) → Type 0
 TooFewToFlush old words = length words < nonce_words old.drawn + length old.tree.dirty
 
+-- the version has taken the name
+abbrev pub HasSwapped : Name → List Answer → Type 0
+HasSwapped name these = Contains these (Answer.Swapped (side_of name) name)
+
 -- how a flush ended, with what it left on the disk
 pub data FlushEnds (result : Result (Unit {0}) FlushFault) (old new : SessionState) (before after : HostState) (random random' : WordsState) : Type 0 where
   not_begun : (words : List (List ℕ)) → TooFewToFlush old words → SeenOf [] words false true before after random random' → new ≡ old → after ≡ before → result ≡ Err faults.Words → FlushEnds result old new before after random random'
   not_ended : (blame : Blame) (these : List Answer) (words : List (List ℕ)) → SeenOf these words (host_blamed blame) false before after random random' → BlamesFlush old.name these blame
       → SealsWith old words (λ base next. Replaces false old.key old.name base next before after) → new.key ≡ old.key → new.name ≡ old.name → new.broken ≡ true → result ≡ Err (fault_of blame) → FlushEnds result old new before after random random'
-  was_ended : (these : List Answer) (words : List (List ℕ)) → SeenOf these words false false before after random random' → SealsWith old words (λ base next. StandsOn next new × Replaces true old.key old.name base next before after × StandsNext old.key old.name base next before after) → {nonce : List ℕ} {tree : TreeState}
+  was_ended : (these : List Answer) (words : List (List ℕ)) → SeenOf these words false false before after random random' → HasSwapped old.name these → SealsWith old words (λ base next. StandsOn next new × Replaces true old.key old.name base next before after × StandsNext old.key old.name base next before after) → {nonce : List ℕ} {tree : TreeState}
       → new ≡ record old { nonce = nonce; drawn = None; tree = tree; changed = false } → new.tree.dirty ≡ [] → result ≡ Ok tt → FlushEnds result old new before after random random'
 
 -- how a flush ended: no word came; or it sealed and failed; or it sealed
@@ -106,7 +112,7 @@ pub data FlushCase (result : Result (Unit {0}) FlushFault) (old new : SessionSta
   lacked : (words : List (List ℕ)) → TooFewToFlush old words → SeenOf [] words false true before after random random' → new ≡ old → after ≡ before → result ≡ Err faults.Words → FlushCase result old new before after random random'
   failed : (blame : Blame) (these : List Answer) (words : List (List ℕ)) → SeenOf these words (host_blamed blame) false before after random random' → BlamesFlush old.name these blame → SealsOwn old words (λ next. Unit {0})
       → new.key ≡ old.key → new.name ≡ old.name → new.broken ≡ true → result ≡ Err (fault_of blame) → FlushCase result old new before after random random'
-  done : (these : List Answer) (words : List (List ℕ)) → SeenOf these words false false before after random random' → SealsOwn old words (λ next. StandsOn next new) → {nonce : List ℕ} {tree : TreeState}
+  done : (these : List Answer) (words : List (List ℕ)) → SeenOf these words false false before after random random' → HasSwapped old.name these → SealsOwn old words (λ next. StandsOn next new) → {nonce : List ℕ} {tree : TreeState}
       → new ≡ record old { nonce = nonce; drawn = None; tree = tree; changed = false } → new.tree.dirty ≡ [] → result ≡ Ok tt → FlushCase result old new before after random random'
 
 module _ (old : SessionState) (mine : IsOfScript old) (new : SessionState) (before after : HostState) (random random' : WordsState) where
@@ -131,6 +137,19 @@ module _ (old : SessionState) (mine : IsOfScript old) (new : SessionState) (befo
     kind_is = short.kind_is;
   }
 
+  -- by its last call a flush takes the name
+  swaps : (nonce : List ℕ) (keys blocks : List (List ℕ)) (mid : TreeState) → HasSwapped old.name (flush_steps old nonce keys blocks mid)
+  swaps nonce keys blocks mid = subst (λ (b : Bool). HasSwapped old.name (steps_by b old nonce keys blocks mid)) (sym mine.named) at_the_end
+    where
+      inside : List Answer
+      inside = copied old.name (side_of old.name) (clean_nodes old) blocks ++ seal_steps old.key old.path nonce (side_of old.name) old.tree.dirty keys mid
+
+      last : Answer
+      last = Answer.Swapped (side_of old.name) old.name
+
+      at_the_end : HasSwapped old.name (steps_by false old nonce keys blocks mid)
+      at_the_end = Contains-append_right (Made (side_of old.name) ∷ []) (inside ++ last ∷ []) last (Contains-push inside last)
+
   pub seal_ends : (result : Result (Unit {0}) FlushFault) (nonce : List ℕ) (keys : List (List ℕ)) → WordsCame old.drawn (length old.tree.dirty) nonce keys random random' → SealGoes result nonce keys old new before after
       → FlushEnds result old new before after random random'
   seal_ends result nonce keys came (node_short damage named short seals same said) =
@@ -148,6 +167,7 @@ module _ (old : SessionState) (mine : IsOfScript old) (new : SessionState) (befo
   seal_ends result nonce keys came (flushed mid is_done beside settled seals same said) =
       was_ended _ (came.words ++ keys)
       (record { told = is_done.asked.told; taken = came.took.told; on_host = is_done.asked.faults; on_words = came.took.calm })
+      (swaps nonce keys is_done.blocks mid)
       (λ base linked backed.
       let on = seals base linked backed in
       (on.next, seals_own true nonce keys base came on, (on.on_next refl, on.named mine.named, subst (λ (n : Name). StandsNext old.key n base on.next before after) (file_named old mine) (on.stands refl))))
@@ -172,4 +192,4 @@ module _ (old : SessionState) (mine : IsOfScript old) (new : SessionState) (befo
       by_end (not_begun words fewer seen same stays said) = lacked words fewer seen same stays said
       by_end (not_ended blame these words seen blames seals key_is name_is broken said) =
           failed blame these words seen blames (λ base linked backed. let on = seals base linked backed in (on.0, on.1, tt)) key_is name_is broken said
-      by_end (was_ended these words seen seals same dirty said) = done these words seen (λ base linked backed. let on = seals base linked backed in (on.0, on.1, on.2.0)) same dirty said
+      by_end (was_ended these words seen swapped seals same dirty said) = done these words seen swapped (λ base linked backed. let on = seals base linked backed in (on.0, on.1, on.2.0)) same dirty said

@@ -11,7 +11,7 @@ use Rattle.pf_script.proofs.Flushed.{length_now}
 
 -- the seat of a session on a sheet is like it
 pub like_on : (sheet : Sheet) (own : SessionState) → IsLikeOwn (seat_on sheet own) own
-like_on sheet own = record { key_is = refl; name_is = refl; broken_is = refl; as_large = λ whole. length_now sheet own.tree }
+like_on sheet own = record { key_is = refl; name_is = refl; broken_is = refl; as_large = λ whole. length_now sheet own.tree; changed_is = λ whole. refl }
 
 -- a seat that shows a session is like it
 pub like_shown : (sealed : List Sheet) (seat : Seat) (session : Option SessionState) → Shows sealed seat session → IsLike seat session
@@ -22,7 +22,7 @@ like_shown sealed seat session (whole_file sheet own whole among linked kept is 
 like_shown sealed seat session (broken_file shown own broken as_broken key name is some) =
     subst (λ (s : Seat). IsLike s session) (sym is)
     (subst (λ (o : Option SessionState). IsLike (Own shown) o) (sym some)
-    (record { key_is = key; name_is = name; broken_is = as_broken ∙ sym broken; as_large = λ whole. let e : true ≡ false = sym broken ∙ whole in absurd (cc) }))
+    (record { key_is = key; name_is = name; broken_is = as_broken ∙ sym broken; as_large = λ whole. let e : true ≡ false = sym broken ∙ whole in absurd (cc); changed_is = λ whole. let e : true ≡ false = sym broken ∙ whole in absurd (cc) }))
 
 pub like_state : (state : ScriptState) (desk : DeskState) → IsStateOf state desk → IsLikeDesk state desk
 like_state state desk is_state = record { key_is = is_state.key_is; like = λ k. like_shown state.sealed _ (session_at desk k) (is_state.shows k) }

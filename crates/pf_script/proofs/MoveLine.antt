@@ -85,7 +85,7 @@ module _ (old : SessionState) (mine : IsOfScript old) (whole : old.broken ≡ fa
   ended_first : (keys : List (List ℕ)) (middle : WordsState) → old.changed ≡ true → mid.tree.size ≡ old.tree.size → IsDrawn nonce middle random' → FlushEnds (Ok tt) old mid start between random middle → FlushedFirst old mid nonce start between random random'
   ended_first keys middle was size_is drawn (not_begun words fewer seen same stays said) = absurd (cc)
   ended_first keys middle was size_is drawn (not_ended blame these words seen blames seals key_is name_is broken said) = absurd (cc)
-  ended_first keys middle was size_is drawn (was_ended these words seen seals same dirty said) = record {
+  ended_first keys middle was size_is drawn (was_ended these words seen swapped seals same dirty said) = record {
     these = these;
     told = seen.told;
     on_host = seen.on_host;
@@ -338,7 +338,7 @@ module _ (key : List ℕ) (k : ℕ) (to : Name) (old : SessionState) (seated : I
     unflushed : (start : HostState) (fault : FlushFault) → IsFree to before start → (fails : FlushFails fault old new start after random random') → FlushEnds (Err fault) old new start after random fails.between
         → SeatGoes key false line (move_reply (Err (move_of_flush fault))) (Some old) (Some new) before after random random'
     unflushed start fault free fails (not_begun words fewer seen same stays said) = absurd (never_lacks fault fails.sealed fails.keys old new start after fails.goes said)
-    unflushed start fault free fails (was_ended these words seen seals same dirty said) = absurd (cc)
+    unflushed start fault free fails (was_ended these words seen swapped seals same dirty said) = absurd (cc)
     unflushed start fault free fails (not_ended blame these words seen blames seals key_is name_is broken said) =
         let first = fails.drawn.first in
         let second = fails.drawn.second in
@@ -454,7 +454,7 @@ module _ (key : List ℕ) (k : ℕ) (to : Name) (old : SessionState) (seated : I
         subst (λ (x : Result (Unit {0}) MoveFault). SeatGoes key false line (move_reply x) (Some old) (Some new) before after random random') (sym said)
         (as_before replies.HostFault [] [] true false
         (record { told = fails.asked.asked.told; taken = subst (λ (w : WordsState). Both random.left w.left (AreTaken [])) (sym words) (none_taken random); on_host = fails.asked.asked.faults; on_words = ap (λ (w : WordsState). w.faults) words })
-        refl refl same (λ sealed base. host_failed (move_unasked good base) (record { host = refl; random = refl }) (not_looked_up k to (seat_on base old) refl) refl) (like_passes good [] none_asked) (inl (ap Some same)))
+        refl refl same (λ sealed base. host_failed (move_unasked good base) (record { host = refl; random = refl }) (not_looked_up k to (seat_on base old) refl refl) refl) (like_passes good [] none_asked) (inl (ap Some same, words)))
     move_cases result (was_there size good looks same words said) =
         subst (λ (x : Result (Unit {0}) MoveFault). SeatGoes key false line (move_reply x) (Some old) (Some new) before after random random') (sym said)
         (as_before (replies.Refused whys.TargetExists) (looked (Some size) ∷ []) [] false false

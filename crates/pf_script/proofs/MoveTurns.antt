@@ -174,7 +174,7 @@ module _ (key : List ℕ) (k : ℕ) (to : Name) (old : SessionState) (seated : I
     unflushed : (start : HostState) (fault : FlushFault) → IsFree to before start → (fails : FlushFails fault old new start after random random') → FlushEnds (Err fault) old new start after random fails.between → UndamagedMove (Err (move_of_flush fault)) old before
         → SeatBooked key false line (move_reply (Err (move_of_flush fault))) (Some old) (Some new) before after random random'
     unflushed start fault free fails (not_begun words fewer seen same stays said) undamaged = absurd (never_lacks fault fails.sealed fails.keys old new start after fails.goes said)
-    unflushed start fault free fails (was_ended these words seen seals same dirty said) undamaged = absurd (cc)
+    unflushed start fault free fails (was_ended these words seen swapped seals same dirty said) undamaged = absurd (cc)
     unflushed start fault free fails (not_ended blame these words seen blames seals key_is name_is broken said) undamaged =
         let first = fails.drawn.first in
         let second = fails.drawn.second in
@@ -386,7 +386,7 @@ module _ (key : List ℕ) (k : ℕ) (to : Name) (old : SessionState) (seated : I
     by_case result undamaged (look_up_failed good fails same words said) =
         subst (λ (r : Result (Unit {0}) MoveFault). SeatBooked key false line (move_reply r) (Some old) (Some new) before after random random') (sym said)
         (idle replies.HostFault [] [] true false same fails.disk fails.asked.asked.told (none_taken_now words) fails.asked.asked.faults (ap (λ (w : WordsState). w.faults) words)
-        (λ standing base. host_failed (move_unasked key k to old seated whole good base) (record { host = refl; random = refl }) (not_looked_up k to (seat_on base old) refl) refl) (λ base a is calm. absurd (false_true true refl calm.host)))
+        (λ standing base. host_failed (move_unasked key k to old seated whole good base) (record { host = refl; random = refl }) (not_looked_up k to (seat_on base old) refl refl) refl) (λ base a is calm. absurd (false_true true refl calm.host)))
     by_case result undamaged (was_there size good looks same words said) = subst (λ (r : Result (Unit {0}) MoveFault). SeatBooked key false line (move_reply r) (Some old) (Some new) before after random random') (sym said) (looks_under size good looks same words)
     by_case result undamaged (no_words free fewer same said) =
         subst (λ (r : Result (Unit {0}) MoveFault). SeatBooked key false line (move_reply r) (Some old) (Some new) before after random random') (sym said)

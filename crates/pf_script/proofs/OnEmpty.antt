@@ -128,19 +128,20 @@ module _ (key : List ℕ) (line : ScriptLine) (name : Name) (names : name_of_lin
     }
 
     -- want of memory
-    pub empty_wants : ¬ (TakesNone line) → new ≡ None → KeepsDisk before after → after.faults ≡ before.faults → random' ≡ random → WhereTold before after (λ given. Unit {0}) → SeatGoes key false line (Err (record {})) None new before after random random'
-    empty_wants takes none disk calm same told = record {
+    pub empty_wants : ¬ (TakesNone line) → new ≡ None → after ≡ before → random' ≡ random → SeatGoes key false line (Err (record {})) None new before after random random'
+    empty_wants takes none stays same = record {
       asks = tt;
       caused = tt;
       leaves = tt;
       books = books;
-      counts = (calm, ap (λ (w : WordsState). w.faults) same);
+      counts = (ap (λ (h : HostState). h.faults) stays, ap (λ (w : WordsState). w.faults) same);
       wordless = takes_few.0;
       few = takes_few.1;
       wants = record {
         takes = takes;
-        shows = shows_still key None new before after (λ given. Unit {0}) told (λ given holds sealed seat shows unforged. subst (λ (o : Option SessionState). Shows sealed seat o) (sym none) shows);
-        ends = inl (record { seat = none; disk = disk; words = same });
+        early = λ first. stays;
+        shows = shows_still key None new before after (λ given. Unit {0}) (told_by (λ given. Unit {0}) [] before after (told_none before after (ap (λ (h : HostState). h.given) stays)) tt) (λ given holds sealed seat shows unforged. subst (λ (o : Option SessionState). Shows sealed seat o) (sym none) shows);
+        ends = inl (record { seat = none; disk = both_same Unchanged before.honest after.honest (ap (λ (h : HostState). h.honest) stays) (λ a. unchanged_now a); words = same });
         flushes = λ session is. absurd (cc);
       };
       seated = seated;
@@ -156,8 +157,7 @@ module _ (key : List ℕ) (line : ScriptLine) (name : Name) (names : name_of_lin
   pub empty_unasked : (state : HostState) (random : WordsState) → ¬ (TakesNone line) → SeatGoes key false line (Err (record {})) None None state state random random
   empty_unasked state random takes =
       empty_wants None state state random random
-      (both_same (KeepsUnder CoversNone CoversNone (λ n. n ≡ name)) state.honest state.honest refl (λ a. only_reads CoversNone a a (λ n. n ≡ name) (unchanged_now a))) (spares_none (Concerns false line None) state) tt (λ n none. absurd none) (none_taken_at line None state random) takes refl
-      (both_same Unchanged state.honest state.honest refl (λ a. unchanged_now a)) refl refl (told_by (λ given. Unit {0}) [] state state (told_none state state refl) tt)
+      (both_same (KeepsUnder CoversNone CoversNone (λ n. n ≡ name)) state.honest state.honest refl (λ a. only_reads CoversNone a a (λ n. n ≡ name) (unchanged_now a))) (spares_none (Concerns false line None) state) tt (λ n none. absurd none) (none_taken_at line None state random) takes refl refl refl
 
   -- under a book the seat is empty
   pub empty_under : (seen : Seen) (reply : Reply) (new : Option SessionState) (a b : Honest) → ((book : Book) (seats : List Seal) → Agrees book seats a.now → IsImage a.now (reading a.now) → LineUnder key false line seen reply None new book seats Empty a b)

@@ -133,10 +133,10 @@ module _ (key : List ℕ) (k : ℕ) (name : Name) (utf8 : IsUtf8 name) (before a
       empty_idle key line name refl before after words words (λ wordless. refl, few) (replies.DamagedNode damage) these [] false false only (seen_of these false told calm) refl refl turn (seat_none (opening_rules key name these) none, blames) refl
       (λ a is none_failed. same_over key (reading a.now) false Empty line these [] (replies.DamagedNode damage) [] Empty (of_files a is) (turn (stands_on key (reading a.now))))
 
-  wants_memory : after.faults ≡ before.faults → WhereTold before after (λ given. Unit {0}) → Halves (Err (record {})) None
-  wants_memory calm told = record {
+  wants_memory : after ≡ before → Halves (Err (record {})) None
+  wants_memory stays = record {
     goes = empty_wants key line name refl None before after words words
-        (both_weaker Unchanged (KeepsUnder CoversNone CoversNone (λ n. n ≡ name)) before.honest after.honest only (λ a b only_ab. only_reads CoversNone a b (λ n. n ≡ name) only_ab)) (spares_kept (Concerns false line None) before after only) tt (λ n none. absurd none) (λ wordless. refl, few) (λ takes. takes) refl only calm refl told;
+        (both_weaker Unchanged (KeepsUnder CoversNone CoversNone (λ n. n ≡ name)) before.honest after.honest only (λ a b only_ab. only_reads CoversNone a b (λ n. n ≡ name) only_ab)) (spares_kept (Concerns false line None) before after only) tt (λ n none. absurd none) (λ wordless. refl, few) (λ takes. takes) refl stays refl;
     booked = tt;
   }
 
@@ -351,7 +351,7 @@ module _ (key : List ℕ) (k : ℕ) (name : Name) (utf8 : IsUtf8 name) (before a
   by_case key_length result first either (read_failed size good asked said) = subst (λ (r : Result SessionState OpenFault). Halves (open_result name r) (made_seat r)) (sym said) (host_fails (LengthWas name (Some size) ∷ []) asked.asked.told asked.asked.faults (none_measured key name size good.target))
   by_case key_length result first either (no_names good stays said) =
       subst (λ (r : Result SessionState OpenFault). Halves (open_result name r) (made_seat r)) (sym said)
-      (wants_memory (ap (λ (h : HostState). h.faults) stays) (told_by (λ given. Unit {0}) [] before after (told_none before after (ap (λ (h : HostState). h.given) stays)) tt))
+      (wants_memory stays)
 
 pub open_line : (key : List ℕ) (k : ℕ) (name : Name) (result : Result SessionState OpenFault) (before after : HostState) (words : WordsState) → IsUtf8 name → length key ≡ 16 → Opens key name (Some name) before after result → KeepsDisk before after → CountsReads 1 before after
     → IfOk result (λ session. OpensOnFirst session before after) → IfOk result (λ session. OnDisk before after (OpensEither session)) → BothHalves key (lines.Open k name) (open_result name result) (made_seat result) before after words words

@@ -244,6 +244,7 @@ module _ (key : List ℕ) (k at count : ℕ) (old : SessionState) (seated : IsSe
         goes_wanting key false (lines.Read k at count) old before after words words (aside_kept old.name before after disk) takes (record {}) new
         (record {
           takes = λ none. none;
+          early = λ none. absurd none;
           shows = shows_still key (Some old) (Some new) before after (ReadFacts (Err trees.Memory) at buffer old new) told (shows_as_it_did few);
           ends = inl (record { seat = holds; disk = disk; words = refl });
           flushes = λ session is. kept_flushes (lines.Read k at count) session before after disk;

@@ -98,6 +98,7 @@ nothing_wanting key taken line fault old host words takes seated = record {
   few = (none_taken_at line old host words).1;
   wants = record {
     takes = takes;
+    early = λ first. refl;
     shows = shows_still key old old host host (λ given. Unit {0}) (told_by (λ given. Unit {0}) [] host host (told_none host host refl) tt) (λ given holds sealed seat shows unforged. shows);
     ends = inl (record { seat = keeps_same old; disk = still; words = refl });
     flushes = λ session is. kept_flushes line session host host still;

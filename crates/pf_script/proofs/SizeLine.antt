@@ -178,6 +178,7 @@ module _ (key : List ℕ) (k size : ℕ) (small : size ≤ 2 ^ 32) (old new : Se
         goes_wanting key false (lines.Size k size) old before after random random' seen.aside (λ none. absurd none, tt) (record {}) new
         (record {
           takes = λ none. none;
+          early = λ none. absurd none;
           shows = shows_broken key old new before after (λ given. SizeTold size old new given seen.words seen.outcome) seen.told (seen.breaks is) key_is seen.name_is;
           ends = inr (tt, seen.breaks is, admits);
           flushes = λ session same. flushes_of (lines.Size k size) old session before after same (flushes is);

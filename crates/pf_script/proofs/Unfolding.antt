@@ -94,7 +94,7 @@ module _ (key : List ℕ) (seen : Seen) where
   accepts_none standing seat after line reply acts nothing (flushed_last k own sheet was whole seals) = absurd nothing
 
   fails_none : (blame : Blame) (seat after : Seat) (line : ScriptLine) (acts : List Act) → SealsNothing line → Fails key seen blame seat line acts after → sheets_of acts ≡ []
-  fails_none blame seat after line acts nothing (not_asked k name none) = absurd nothing
+  fails_none blame seat after line acts nothing (not_asked k name idle none) = absurd nothing
   fails_none blame seat after line acts nothing (not_created k name sheet seals) = absurd nothing
   fails_none blame seat after line acts nothing (not_opened k name b none blames) = refl
   fails_none blame seat after line acts nothing (not_read k at count own b none blames) = refl
@@ -105,7 +105,7 @@ module _ (key : List ℕ) (seen : Seen) where
       absurd (no_steps line (length own.content) (some.made ++ next ∷ some.rest) nothing some.of_line)
   fails_none blame seat after line acts nothing (not_sealed own l sheet b left seals blames (of_flush k)) = absurd nothing
   fails_none blame seat after line acts nothing (not_sealed own l sheet b left seals blames (of_close k was whole)) = absurd nothing
-  fails_none blame seat after line acts nothing (not_looked_up k name own none) = absurd nothing
+  fails_none blame seat after line acts nothing (not_looked_up k name own idle none) = absurd nothing
   fails_none blame seat after line acts nothing (not_flushed_to_move k name own words sheet one two b was seals all blames) = absurd nothing
   fails_none blame seat after line acts nothing (not_moved k name own mid words more sheets sheet b first seals all blames) = absurd nothing
 

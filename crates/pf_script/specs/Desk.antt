@@ -46,12 +46,13 @@ seat_on sheet session = record {
   broken = session.broken;
 }
 
--- a seat has the key and the name of a session, is broken where it is, and as large where it is whole
+-- a seat has the key and the name of a session, is broken where it is, and where it is whole as large, and changed where it is
 pub record IsLikeOwn (own : OwnSeat) (session : SessionState) : Type 0 where
   pub key_is : own.key ≡ session.key
   pub name_is : own.name ≡ session.name
   pub broken_is : own.broken ≡ session.broken
   pub as_large : session.broken ≡ false → length own.content ≡ session.tree.size
+  pub changed_is : session.broken ≡ false → own.changed ≡ session.changed
 
 -- so a seat of a script
 abbrev pub IsLike : Seat → Option SessionState → Type 0

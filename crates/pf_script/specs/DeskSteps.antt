@@ -182,6 +182,13 @@ TakesNoWords (lines.View seat path) = ⊤
 TakesNoWords (lines.Read seat at count) = ⊤
 TakesNoWords other = ⊥
 
+-- lines that want memory before their first call alone, so that no answer is lost behind it
+abbrev pub WantsEarly : ScriptLine → Type 0
+WantsEarly (lines.Create seat name) = ⊤
+WantsEarly (lines.Open seat name) = ⊤
+WantsEarly (lines.Move seat name) = ⊤
+WantsEarly other = ⊥
+
 -- lines that change a content
 abbrev pub IsChange : ScriptLine → Type 0
 IsChange (lines.Write seat at bytes) = ⊤
@@ -252,6 +259,7 @@ DeskStillShows old new given = (state : ScriptState) → IsStateOf state old →
 
 pub record SeatWants (key : List ℕ) (line : ScriptLine) (old new : Option SessionState) (before after : HostState) (random random' : WordsState) : Type 0 where
   pub takes : ¬ (TakesNone line)
+  pub early : WantsEarly line → after ≡ before
   pub shows : WhereTold before after (SeatStillShows key old new)
   pub ends : SeatIdle old new before after random random' ⊎ (IsChange line × IsBrokenSession new × IsSomeAnd old (Admits line))
   pub flushes : (session : SessionState) → old ≡ Some session → OnDisk before after (FlushesUnder line session)
@@ -273,6 +281,7 @@ pub record BreaksSeat (line : ScriptLine) (old new : DeskState) : Type 0 where
 -- want of memory; what the host tells goes on
 pub record Wants (line : ScriptLine) (old new : DeskState) (before after : HostState) (random random' : WordsState) : Type 0 where
   pub takes : ¬ (TakesNone line)
+  pub early : WantsEarly line → after ≡ before
   pub shows : WhereTold before after (DeskStillShows old new)
   pub ends : NothingDone old new before after random random' ⊎ BreaksSeat line old new
   pub flushes : (k : ℕ) (session : SessionState) → seat_of_line line ≡ Some k → session_at old k ≡ Some session → OnDisk before after (FlushesUnder line session)
@@ -290,26 +299,26 @@ pub data IsAcceptance : Option SessionState → ScriptLine → Reply → Option 
   to_draw : (k : ℕ) (nonce : List ℕ) (old new : SessionState) → new ≡ record old { drawn = Some nonce } → IsAcceptance (Some old) (lines.Draw k) (replies.Drawn nonce) (Some new)
   to_close : (k : ℕ) (old : SessionState) → IsAcceptance (Some old) (lines.Close k) (replies.Closed old.broken) None
 
--- what a fault of the host leaves there
-abbrev pub LeftAtFault : ScriptLine → Option SessionState → Option SessionState → Type 0
-LeftAtFault lines.Blank old new = ⊥
-LeftAtFault (lines.Create k name) old new = new ≡ old
-LeftAtFault (lines.Open k name) old new = new ≡ old
-LeftAtFault (lines.View k path) old new = ⊥
-LeftAtFault (lines.Read k at count) old new = KeepsSession old new
-LeftAtFault (lines.Write k at bytes) old new = IsBrokenSession new
-LeftAtFault (lines.Fill k at count byte) old new = IsBrokenSession new
-LeftAtFault (lines.Size k n) old new = IsBrokenSession new
-LeftAtFault (lines.Flush k) old new = IsBrokenSession new
-LeftAtFault (lines.Move k name) old new = (new ≡ old) ⊎ IsBrokenSession new
-LeftAtFault (lines.Draw k) old new = ⊥
-LeftAtFault (lines.Close k) old new = new ≡ None
+-- what a fault of the host leaves there; a move whose first call failed has taken no random words
+abbrev pub LeftAtFault : ScriptLine → Option SessionState → Option SessionState → WordsState → WordsState → Type 0
+LeftAtFault lines.Blank old new random random' = ⊥
+LeftAtFault (lines.Create k name) old new random random' = new ≡ old
+LeftAtFault (lines.Open k name) old new random random' = new ≡ old
+LeftAtFault (lines.View k path) old new random random' = ⊥
+LeftAtFault (lines.Read k at count) old new random random' = KeepsSession old new
+LeftAtFault (lines.Write k at bytes) old new random random' = IsBrokenSession new
+LeftAtFault (lines.Fill k at count byte) old new random random' = IsBrokenSession new
+LeftAtFault (lines.Size k n) old new random random' = IsBrokenSession new
+LeftAtFault (lines.Flush k) old new random random' = IsBrokenSession new
+LeftAtFault (lines.Move k name) old new random random' = ((new ≡ old) × (random' ≡ random)) ⊎ IsBrokenSession new
+LeftAtFault (lines.Draw k) old new random random' = ⊥
+LeftAtFault (lines.Close k) old new random random' = new ≡ None
 
 -- what a damage leaves there: none is met where a file is made, and in a move only by calls that break the seat
-abbrev pub LeftAtDamage : ScriptLine → Option SessionState → Option SessionState → Type 0
-LeftAtDamage (lines.Create k name) old new = ⊥
-LeftAtDamage (lines.Move k name) old new = IsBrokenSession new
-LeftAtDamage other old new = LeftAtFault other old new
+abbrev pub LeftAtDamage : ScriptLine → Option SessionState → Option SessionState → WordsState → WordsState → Type 0
+LeftAtDamage (lines.Create k name) old new random random' = ⊥
+LeftAtDamage (lines.Move k name) old new random random' = IsBrokenSession new
+LeftAtDamage other old new random random' = LeftAtFault other old new random random'
 
 -- a session that grew by some steps of a piece, with more to come
 pub record Grown (n : ℕ) (old new : SessionState) : Type 0 where
@@ -342,14 +351,13 @@ LeftAtWords (lines.Close k) old new = new ≡ None
 -- What stands in the seat of a line after its reply, whatever is told or forged. A refusal leaves it, and takes no random words.
 abbrev pub LeavesSeat : ScriptLine → Reply → Option SessionState → Option SessionState → WordsState → WordsState → Type 0
 LeavesSeat line (replies.Refused why) old new random random' = (new ≡ old) × (random' ≡ random)
-LeavesSeat line (replies.DamagedNode damage) old new random random' = LeftAtDamage line old new
-LeavesSeat line replies.HostFault old new random random' = LeftAtFault line old new
+LeavesSeat line (replies.DamagedNode damage) old new random random' = LeftAtDamage line old new random random'
+LeavesSeat line replies.HostFault old new random random' = LeftAtFault line old new random random'
 LeavesSeat line replies.WordsFault old new random random' = LeftAtWords line old new
 LeavesSeat line other old new random random' = IsAcceptance old line other new
 
--- What a line reads at most: a blank one, `view` and `draw` ask for nothing, an opening reads node 0 once, and a read each touched node that was not held.
+-- What a line reads at most: `view` and `draw` ask for nothing, an opening reads once, and a read as often as there are touched nodes that were not held.
 abbrev pub AsksFew : ScriptLine → Option SessionState → HostState → HostState → Type 0
-AsksFew lines.Blank old before after = after ≡ before
 AsksFew (lines.Open k name) old before after = CountsReads 1 before after
 AsksFew (lines.View k path) old before after = after ≡ before
 AsksFew (lines.Read k at count) None before after = after ≡ before
@@ -392,6 +400,7 @@ pub record DeskGoes (line : ScriptLine) (result : Result Reply Memory) (old new 
   pub counts : CountsReply result before after random random'
   pub wordless : TakesNoWords line → random' ≡ random
   pub few : (k : ℕ) → seat_of_line line ≡ Some k → AsksFew line (session_at old k) before after
+  pub silent : line ≡ lines.Blank → (new ≡ old) × (after ≡ before)
   pub wants : WhereWanting result (Wants line old new before after random random')
 
 -- the closing of a seat after the last line: nothing is done for an empty one

@@ -1,5 +1,5 @@
 -- The turns of a script: what a line may be answered, and what it leaves, by cases on the reply.
-use Rattle.std.specs.Prelude.{◌≡◌, ◌⊎◌, ◌↔◌, IsTrue, ℕ, ◌<◌, Bool, true, false, List, [], ◌∷◌, ◌++◌, length, take, drop, Option, Some, None, IfSome}
+use Rattle.std.specs.Prelude.{◌≡◌, ◌⊎◌, ◌↔◌, IsTrue, ℕ, ◌<◌, Bool, true, false, List, [], ◌∷◌, ◌++◌, length, take, drop, Contains, Option, Some, None, IfSome}
 use Rattle.node_layout.specs.Opening.{IsOpenFault}
 use Rattle.node_layout.specs.declared.damage.Damage.{Damage}
 use Rattle.node_layout.specs.declared.damage.Kind.{Kind}
@@ -10,7 +10,8 @@ use Rattle.node_tree.specs.Reading.{IsForeign}
 use Rattle.node_tree.specs.Sheet.{Sheet}
 use Rattle.node_tree.specs.Unforged.{Carries}
 use Rattle.pf_io.specs.Disk.{Name}
-use Rattle.pf_io.specs.Host.{Answer}
+use Rattle.pf_io.specs.Host.{Answer, Swapped}
+use Rattle.pf_io.specs.Names.{side_of}
 use Rattle.pf_session.specs.Carries.{IsLast, IsFirst as IsFirstSheet}
 use Rattle.pf_script.specs.BookActs.{Opening, Creation, Flush, Move, Act}
 use Rattle.pf_script.specs.BookDebts.{seat_of}
@@ -128,7 +129,7 @@ pub data IsSealLine (own : OwnSeat) : ScriptLine → Seat → Type 0 where
 
 -- A line that failed at the host or by a damage: what had been sealed by then, and how far a flush in progress had come. A seat that failed in a change is broken.
 pub data Fails (key : List ℕ) (seen : Seen) : Blame → Seat → ScriptLine → List Act → Seat → Type 0 where
-  not_asked : (k : ℕ) (name : Name) → seen.words ≡ [] → Fails key seen ByHost Empty (lines.Create k name) [] Empty
+  not_asked : (k : ℕ) (name : Name) → seen.given ≡ [] → seen.words ≡ [] → Fails key seen ByHost Empty (lines.Create k name) [] Empty
   not_created : (k : ℕ) (name : Name) (sheet : Sheet) → SealsEmpty name seen.words sheet
       → Fails key seen ByHost Empty (lines.Create k name) (record { deed = Creation (seat_of key name sheet); done = false } ∷ []) Empty
   not_opened : (k : ℕ) (name : Name) (blame : Blame) → seen.words ≡ [] → BlamesOpening key name seen.given blame → Fails key seen blame Empty (lines.Open k name) [] Empty
@@ -148,7 +149,7 @@ pub data Fails (key : List ℕ) (seen : Seen) : Blame → Seat → ScriptLine �
   not_sealed : (own : OwnSeat) (line : ScriptLine) (sheet : Sheet) (blame : Blame) (after : Seat) → Seals own seen.words sheet → BlamesFlush own.name seen.given blame → IsSealLine own line after
       → Fails key seen blame (Own own) line (record { deed = Flush (seat_of own.key own.name sheet); done = false } ∷ []) after
   -- before a move had its words; in its flush, for which it had all its words; in the move itself
-  not_looked_up : (k : ℕ) (name : Name) (own : OwnSeat) → seen.words ≡ [] → Fails key seen ByHost (Own own) (lines.Move k name) [] (Own own)
+  not_looked_up : (k : ℕ) (name : Name) (own : OwnSeat) → seen.given ≡ [] → seen.words ≡ [] → Fails key seen ByHost (Own own) (lines.Move k name) [] (Own own)
   not_flushed_to_move : (k : ℕ) (name : Name) (own : OwnSeat) (words : List (List ℕ)) (sheet : Sheet) (first second : List ℕ) (blame : Blame) → own.changed ≡ true → Seals own words sheet → seen.words ≡ words ++ first ∷ second ∷ []
       → BlamesFlush own.name seen.given blame → Fails key seen blame (Own own) (lines.Move k name) (record { deed = Flush (seat_of own.key own.name sheet); done = false } ∷ []) (Own (broken_seat own))
   not_moved : (k : ℕ) (name : Name) (own mid : OwnSeat) (words more : List (List ℕ)) (sheets : List Sheet) (sheet : Sheet) (blame : Blame) → FlushedToMove own words sheets mid → SealsMoved mid name more sheet → seen.words ≡ words ++ more
@@ -216,10 +217,17 @@ DamageComes key seat (lines.Move k name) given damage = FlushDamage seat given d
 DamageComes key seat (lines.Draw k) given damage = ⊥
 DamageComes key seat (lines.Close k) given damage = FlushDamage seat given damage
 
+-- the version that a closing sealed has taken the name, where there was something to seal
+abbrev pub TookItsName : Seat → List Answer → Type 0
+TookItsName Empty given = ⊥
+TookItsName (Own own) given = own.broken ≡ false → own.changed ≡ true → Contains given (Swapped (side_of own.name) own.name)
+
 -- The cause of a reply by the seat, the line and the answers, also where something is forged: a refusal is that of the first rule that refuses, and behind any other reply none refuses.
+-- A damage comes of a node, and a closing is accepted once its version has the name.
 abbrev pub Caused : List ℕ → Bool → Seat → ScriptLine → List Answer → Reply → Type 0
 Caused key taken seat line given (replies.Refused why) = IsFirst (rules key taken seat line given) why
 Caused key taken seat line given (replies.DamagedNode damage) = NoneRefuses (rules key taken seat line given) × DamageComes key seat line given damage
+Caused key taken seat line given (replies.Closed lost) = NoneRefuses (rules key taken seat line given) × TookItsName seat given
 Caused key taken seat line given other = NoneRefuses (rules key taken seat line given)
 
 -- so for a line of a script; a blank one has no reply
