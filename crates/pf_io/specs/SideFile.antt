@@ -1,5 +1,5 @@
 -- What writing a plain file by way of a side file asks of the host, and what it leaves.
-use Rattle.std.specs.Prelude.{◌≡◌, ◌≢◌, ◌⊎◌, ℕ, zero, suc, ◌+◌, ◌*◌, ◌≤◌, max, List, [], ◌∷◌, ◌++◌, length, fold, take, drop, Option, Some, None}
+use Rattle.std.specs.Prelude.{◌≡◌, ◌≢◌, ◌⊎◌, ℕ, zero, suc, ◌*◌, ◌≤◌, max, List, [], ◌∷◌, ◌++◌, length, fold, take, drop, Option, Some, None}
 use Rattle.std.specs.Int.{div_ceil}
 use Rattle.pf_io.specs.Counts.{counted}
 use Rattle.pf_io.specs.Disk.{Name, File, Disk, Image, IsImageAt, IsSettledFile}

@@ -1,10 +1,10 @@
 -- Two names of protected files do not share their side and recovery files.
-use Rattle.std.proofs.Common.{◌≡◌, ◌≢◌, ℕ, List, [], ◌++◌, refl, sym, ◌∙◌, ap, append_assoc, arith, length, length-append}
+use Rattle.std.proofs.Common.{◌≡◌, ◌≢◌, ℕ, List, [], ◌++◌, refl, sym, ◌∙◌, ap, append_assoc, arith}
 use Rattle.std.specs.Prelude.{fold, codes}
 use Rattle.std.proofs.lemmas.List.{append_cancel_right}
 use Rattle.std.proofs.lemmas.List.Sums.{fold-append}
 use Rattle.pf_io.specs.Disk.{Name}
-use Rattle.pf_io.specs.Names.{recovery_of, IsTarget, last_part, part_with, side_of, side_recovery_of}
+use Rattle.pf_io.specs.Names.{recovery_of, IsTarget, last_part, part_with, side_of}
 use Rattle.pf_session.specs.Aside.{Apart}
 use Rattle.pf_session.proofs.Names.{recovery_side_of}
 

@@ -1,35 +1,33 @@
 -- The sheet as which a file is moved, and what its move leaves on an honest disk.
-use Rattle.std.proofs.Common.{◌≡◌, ◌≢◌, inl, inr, ℕ, ◌+◌, ◌-◌, ◌*◌, ◌<◌, ◌≤◌, Bool, true, false, List, [], ◌∷◌, length, take, replicate, refl, ap, ap₂, ◌∙◌, sym, subst, arith, eqb, ltb, slice_index, Option, Some, None, Result, Ok, Err}
+use Rattle.std.proofs.Common.{◌≡◌, ◌≢◌, inl, inr, ℕ, ◌+◌, ◌-◌, ◌<◌, true, false, List, [], ◌∷◌, length, take, replicate, refl, ap, ◌∙◌, sym, subst, arith, eqb, ltb, slice_index, Option, Some, None, Result, Ok, Err}
 use Rattle.std.specs.Prelude.{Contains, slice_get}
 use Rattle.std.proofs.lemmas.Bool.{cases_lt, cases_eq, cond-true, cond-false, eq-eqb, ne_eqb, lt-ltb}
 use Rattle.std.proofs.lemmas.Option.{same_Some}
 use Rattle.std.proofs.lemmas.List.{ext_get_or, length-append, length-take, length-replicate}
 use Rattle.std.proofs.lemmas.List.FromFn.{length-map-range_with_len, get_or-map-range_with_len}
-use Rattle.node_layout.specs.Metadata.{IsPath, meta_block}
+use Rattle.node_layout.specs.Metadata.{IsPath}
 use Rattle.node_layout.specs.Places.{node_count}
 use Rattle.node_tree.specs.Backing.{Backs, now, plain_now}
 use Rattle.node_tree.specs.Content.{first_text, byte_of}
 use Rattle.node_tree.specs.Next.{NextSheet, IsSealedAs}
-use Rattle.node_tree.specs.Sheet.{Node, Sheet, HasNode, IsLinked, Stands, meta_of, root_of, image_of}
+use Rattle.node_tree.specs.Sheet.{Node, Sheet, HasNode, IsLinked, Stands, root_of}
 use Rattle.node_tree.specs.State.{TreeState, sealed_root}
 use Rattle.node_tree.proofs.Bytes.{first_byte, first_padding}
 use Rattle.node_tree.proofs.Order.{no_member}
 use Rattle.node_tree.proofs.Standing.{within}
-use Rattle.pf_io.specs.Disk.{Name, File, Disk, Image, IsImageAt, IsSettledAt, read_of, reading}
+use Rattle.pf_io.specs.Disk.{Name, File, Disk, Image, read_of, reading}
 use Rattle.pf_io.specs.Host.{HostState, Both, OnDisk, contents}
-use Rattle.pf_io.specs.Moments.{Honest, Ran, Ends, Where}
-use Rattle.pf_io.specs.Names.{recovery_of}
+use Rattle.pf_io.specs.Moments.{Honest, Ran, Where}
 use Rattle.pf_io.proofs.Images.{absent_at}
 use Rattle.pf_io.proofs.Telling.{both_weaker}
 use Rattle.pf_session.specs.State.{SessionState}
-use Rattle.pf_session.specs.Aside.{KeepsApartBoth, LeavesApartBoth, AsideBoth}
+use Rattle.pf_session.specs.Aside.{KeepsApartBoth, LeavesApartBoth}
 use Rattle.pf_session.specs.Backing.{RestsOn}
 use Rattle.pf_session.specs.Copying.{clean_below}
 use Rattle.pf_session.specs.Making.{done_of}
 use Rattle.pf_session.specs.Moving.{renamed, MovedAs, still_there, was_moved, both_there, MovedIf, IsMoved, MovesOn, Carries}
 use Rattle.pf_session.specs.Relocating.{IsCopyOf, RelocatedAs, not_yet, both, new_alone, RelocateImage, RelocateLeaves}
-use Rattle.pf_session.specs.Reopening.{ReadsAs, Stood, HasSheet}
-use Rattle.pf_session.specs.Sealing.{HasNext, HasSealed}
+use Rattle.pf_session.specs.Reopening.{ReadsAs, Stood}
 use Rattle.pf_session.specs.Steps.{node_of}
 use Rattle.pf_session.proofs.Placing.{ran_weaker}
 use Rattle.pf_session.proofs.Replacing.{kept_left, settled_there}

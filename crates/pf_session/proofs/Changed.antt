@@ -7,12 +7,12 @@ use Rattle.pf_io.specs.Host.{HostState, files_of}
 use Rattle.pf_io.specs.Unchanged.{KeepsDisk}
 use Rattle.node_tree.specs.Applying.{Step, from_of, to_of}
 use Rattle.node_tree.specs.Fetching.{host_part}
-use Rattle.node_tree.specs.Marks.{IsChangedCount, MayChange}
+use Rattle.node_tree.specs.Marks.{IsChangedCount}
 use Rattle.node_tree.specs.State.{TreeState, MOST_DIRTY}
 use Rattle.node_tree.specs.Stepping.{Steps, StepsFew, StepDamageComes, BackedStep, StepsStanding}
 use Rattle.node_tree.specs.declared.fault.TreeFault.{TreeFault}
 use Rattle.pf_session.specs.State.{SessionState, file_of}
-use Rattle.pf_session.specs.Changing.{IsRoomy, IsFlushedFirst, Marked, StandingGoes, StepGoes}
+use Rattle.pf_session.specs.Changing.{IsFlushedFirst, Marked, StandingGoes, StepGoes}
 
 -- the step of the tree, by the file's name
 pub record OfTree (one : Result (Unit {0}) TreeFault) (name : Name) (step : Step) (old new : TreeState) (before after : HostState) : Type 0 where

@@ -1,19 +1,18 @@
 -- A side file that is made of a node 0 and of the other nodes of a file.
-use Rattle.std.proofs.Common.{◌≡◌, ◌≢◌, ℕ, ◌+◌, ◌-◌, ◌*◌, ◌<◌, ◌≤◌, List, [], ◌∷◌, ◌++◌, length, refl, ap, ◌∙◌, sym, subst, arith, append_assoc, Option, Some, Result, Ok, Err}
-use Rattle.std.specs.Prelude.{Contains, slice_get}
-use Rattle.pf_io.specs.Counts.{HasCause}
+use Rattle.std.proofs.Common.{◌≡◌, ◌≢◌, ℕ, ◌-◌, ◌*◌, ◌≤◌, List, [], ◌∷◌, ◌++◌, length, ◌∙◌, sym, subst, arith, Option, Some, Result, Ok, Err}
+use Rattle.std.specs.Prelude.{Contains}
 use Rattle.pf_io.specs.Disk.{Name, File, Disk, read_of}
-use Rattle.pf_io.specs.Host.{Answer, Gave, Wrote, Synced, Made, HostState, Both, contents}
+use Rattle.pf_io.specs.Host.{Gave, Made, HostState, Both, contents}
 use Rattle.pf_io.specs.Moments.{Honest, Does, Ran}
-use Rattle.pf_io.specs.Steps.{KeepsOthers, Changes, Writes, Syncs, AtOnce, Makes, overwrite}
+use Rattle.pf_io.specs.Steps.{KeepsOthers, Changes, Writes, Syncs, overwrite}
 use Rattle.pf_io.proofs.Images.{follows_at, others_then}
 use Rattle.pf_session.specs.Aside.{LeavesOthers, ChangesAlone}
 use Rattle.pf_session.specs.Asking.{NoCall, AnotherCall, Asked, Stopped}
-use Rattle.pf_session.specs.Copying.{copied, clean_below, Copied, CopyGoes, HasCopies}
-use Rattle.pf_session.specs.Relocating.{put_steps, copy_steps, PutsNode, PutLeaves, IsCopyOf, HasCopy, CopyMade, CopyFailed, CopyFileGoes}
+use Rattle.pf_session.specs.Copying.{copied, clean_below, Copied, CopyGoes}
+use Rattle.pf_session.specs.Relocating.{put_steps, PutsNode, PutLeaves, IsCopyOf, HasCopy, CopyMade, CopyFailed, CopyFileGoes}
 use Rattle.pf_session.specs.declared.fault.FlushFault.{FlushFault}
 use Rattle.pf_session.specs.declared.fault.FlushFault.TheVariants as faults
-use Rattle.pf_session.proofs.Calls.{asked_then, same_stopped, stopped_then, stopped_more, stopped_first}
+use Rattle.pf_session.proofs.Calls.{asked_then, stopped_then, stopped_more, stopped_first}
 use Rattle.pf_session.proofs.Copied.{any_blocks}
 use Rattle.pf_session.proofs.Disks.{first_change, next_change, next_changes}
 use Rattle.pf_session.proofs.Lists.{clean_member}

@@ -1,6 +1,6 @@
 -- What a creation leaves, by the node 0 that it put under the name.
-use Rattle.std.proofs.Common.{◌≡◌, ◌≢◌, inl, inr, ⊎_elim, ℕ, Bool, true, false, List, [], ◌∷◌, length, replicate, refl, ap, sym, ◌∙◌, subst, arith, append_assoc, length-append, Option, Some, None, Result, Err, IfSome}
-use Rattle.std.specs.Prelude.{codes, is_some, option_map}
+use Rattle.std.proofs.Common.{◌≡◌, inl, inr, ⊎_elim, ℕ, Bool, true, false, List, [], ◌∷◌, length, replicate, refl, ap, sym, ◌∙◌, subst, arith, Option, Some, None, Result, Err, IfSome}
+use Rattle.std.specs.Prelude.{is_some, option_map}
 use Rattle.std.specs.List.{AllByRecursion}
 use Rattle.node_layout.specs.Metadata.{IsPath, meta_text, meta_block}
 use Rattle.node_layout.specs.Places.{node_count}

@@ -1,5 +1,5 @@
 -- The same answers lead two openings to one end.
-use Rattle.std.proofs.Common.{◌≡◌, ◌⊎◌, inl, inr, ℕ, List, [], ◌∷◌, length, take, refl, ap, ap₂, ◌∙◌, sym, arith, subst, Option, Some, None, IfSome, Result, Ok}
+use Rattle.std.proofs.Common.{◌≡◌, ℕ, List, [], ◌∷◌, length, refl, ap, ap₂, ◌∙◌, sym, arith, subst, Option, Some, None, IfSome, Result, Ok}
 use Rattle.std.proofs.lemmas.Option.{same_Some, none-some}
 use Rattle.node_layout.specs.Faults.{IsSomeMetaText}
 use Rattle.node_layout.specs.Opening.{OpensTo, IsOpenFault}

@@ -1,27 +1,26 @@
 -- The move of a session, from its flush and from the carrying of its file.
-use Rattle.std.proofs.Common.{◌≡◌, ◌≢◌, ℕ, ◌+◌, ◌*◌, ◌<◌, ◌≤◌, Bool, true, false, cond, List, [], ◌∷◌, ◌++◌, length, refl, ap, ◌∙◌, sym, subst, arith, length-append, Option, Some, None, Result, Ok, Err, IfSome}
+use Rattle.std.proofs.Common.{◌≡◌, ℕ, ◌+◌, ◌≤◌, Bool, true, false, cond, List, [], ◌++◌, length, refl, ap, ◌∙◌, sym, subst, arith, length-append, Option, Some, None, Result, Ok, Err, IfSome}
 use Rattle.std.specs.Prelude.{Contains, option_map}
 use Rattle.std.proofs.lemmas.Option.{IfSome_then}
 use Rattle.node_layout.specs.Places.{node_count}
 use Rattle.node_tree.specs.Sheet.{Sheet, Stands}
-use Rattle.pf_io.specs.Disk.{Name, Files, File, Disk, Image, IsImageAt, IsImage, read_of, reading}
-use Rattle.pf_io.specs.Host.{HostState, Both, OnDisk, OnHonest, files_of, contents}
-use Rattle.pf_io.specs.Moments.{Honest, Ran, Ends, Where}
-use Rattle.pf_io.specs.Names.{IsTarget, side_of}
+use Rattle.pf_io.specs.Disk.{Name, Files, File, Disk, IsImageAt, IsImage, reading}
+use Rattle.pf_io.specs.Host.{HostState, Both, files_of, contents}
+use Rattle.pf_io.specs.Moments.{Honest, Ends, Where}
+use Rattle.pf_io.specs.Names.{side_of}
 use Rattle.pf_io.specs.Steps.{Stays}
 use Rattle.pf_io.specs.Unchanged.{KeepsDisk}
 use Rattle.pf_io.specs.Words.{WordsState}
 use Rattle.pf_io.proofs.Runs.{goes_on_ran, started}
-use Rattle.pf_io.proofs.Telling.{both_weaker}
 use Rattle.pf_session.specs.State.{SessionState}
-use Rattle.pf_session.specs.Aside.{LeavesApart, KeepsApart, Aside, ApartBoth, LeavesApartBoth, KeepsApartBoth, AsideBoth}
+use Rattle.pf_session.specs.Aside.{LeavesApart, KeepsApart, Aside, LeavesApartBoth, KeepsApartBoth, AsideBoth}
 use Rattle.pf_session.specs.Asking.{TookFewer}
 use Rattle.pf_session.specs.Backing.{RestsOn}
 use Rattle.pf_session.specs.Copying.{clean_below}
 use Rattle.pf_session.specs.Drawing.{IsDrawn, WordsCame, WordsLacked}
 use Rattle.pf_session.specs.Flushing.{SealsEach, SealGoes, node_short, call_failed, flushed, IsUndamaged, UndamagedFlush}
 use Rattle.pf_session.specs.Making.{ReplaceUndamaged, done_of}
-use Rattle.pf_session.specs.Moving.{CarryGoes, Carries, CarryEnds, flush_failed, carry_failed, carried, FlushesFirst, as_it_is, MoveLacksWords, flush_words, after_carry, IsKeptOn, UndamagedAtRest, UndamagedCarry}
+use Rattle.pf_session.specs.Moving.{CarryGoes, Carries, CarryEnds, flush_failed, carry_failed, carried, FlushesFirst, MoveLacksWords, flush_words, after_carry, IsKeptOn, UndamagedAtRest, UndamagedCarry}
 use Rattle.pf_session.specs.Reopening.{ReadsAs, HasSheet}
 use Rattle.pf_session.specs.declared.fault.FlushFault.{FlushFault}
 use Rattle.pf_session.specs.declared.fault.FlushFault.TheVariants as faults

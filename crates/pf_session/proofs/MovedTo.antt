@@ -4,9 +4,8 @@ use Rattle.std.specs.Prelude.{option_map}
 use Rattle.std.specs.List.{AllByRecursion}
 use Rattle.node_tree.specs.Sheet.{Sheet, Stands}
 use Rattle.pf_io.specs.Answered.{IsAnswerOf}
-use Rattle.pf_io.specs.Counts.{HasCause}
 use Rattle.pf_io.specs.Disk.{Name, Files, IsImage, reading}
-use Rattle.pf_io.specs.Host.{LengthWas, HostState, Both, OnDisk, OnHonest, files_of, contents}
+use Rattle.pf_io.specs.Host.{LengthWas, HostState, Both, OnDisk, files_of, contents}
 use Rattle.pf_io.specs.Moments.{Honest, Ran}
 use Rattle.pf_io.specs.Names.{IsTarget}
 use Rattle.pf_io.specs.Steps.{Stays}
@@ -17,7 +16,7 @@ use Rattle.pf_session.specs.Aside.{LeavesApart, KeepsApart, LeavesApartBoth, Kee
 use Rattle.pf_session.specs.Creating.{LooksUp}
 use Rattle.pf_session.specs.Faults.{move_of_flush}
 use Rattle.pf_session.specs.Flushing.{IsUndamaged, host_part, words_part}
-use Rattle.pf_session.specs.Moving.{renamed, IsGone, Carries, Moves, FlushesFirst, as_it_is, flushed, IsFree, CarryEnds, lacked_words, flush_failed, carry_failed, carried, MoveGoes, no_words, not_flushed, not_moved, moved, move_host_part, move_words_part, IsUndamagedMove, IsKeptOn, UndamagedCarry, UndamagedMove}
+use Rattle.pf_session.specs.Moving.{IsGone, Carries, Moves, FlushesFirst, as_it_is, flushed, IsFree, CarryEnds, lacked_words, flush_failed, carry_failed, carried, MoveGoes, no_words, not_flushed, not_moved, moved, move_host_part, move_words_part, IsUndamagedMove, IsKeptOn, UndamagedCarry, UndamagedMove}
 use Rattle.pf_session.specs.declared.fault.FlushFault.{FlushFault}
 use Rattle.pf_session.specs.declared.fault.FlushFault.TheVariants as flushes
 use Rattle.pf_session.specs.declared.fault.MoveFault.{MoveFault}

@@ -1,5 +1,5 @@
 -- Where nothing is forged, an opening meets no text that is no metadata.
-use Rattle.std.proofs.Common.{◌≡◌, ◌≢◌, ℕ, List, [], length, sym, ap, subst, Option, Some, None, Result, Ok, Err}
+use Rattle.std.proofs.Common.{◌≡◌, ◌≢◌, ℕ, List, [], length, sym, ap, subst, Option, Result}
 use Rattle.std.specs.Prelude.{Contains}
 use Rattle.node_layout.specs.Faults.{IsSomeMetaText}
 use Rattle.node_layout.specs.Opening.{IsOpenFault}

@@ -1,5 +1,5 @@
 -- A read of a session, from that of its tree: one clause, from which those of each host come.
-use Rattle.std.proofs.Common.{◌≡◌, ℕ, List, length, Option, Result}
+use Rattle.std.proofs.Common.{◌≡◌, ℕ, List, length, Result}
 use Rattle.std.specs.Prelude.{Contains}
 use Rattle.std.proofs.lemmas.Option.{IfSome_then}
 use Rattle.pf_io.specs.Host.{HostState, files_of}

@@ -1,5 +1,5 @@
 -- An opening of a file that stands for a sheet.
-use Rattle.std.proofs.Common.{◌≡◌, ◌⊎◌, inl, inr, ℕ, List, [], ◌∷◌, length, refl, ap, ◌∙◌, sym, arith, subst, Option, Some, None, IfSome, Result, Err}
+use Rattle.std.proofs.Common.{◌≡◌, ◌⊎◌, inl, inr, ℕ, List, [], length, refl, ap, ◌∙◌, sym, arith, subst, Option, Some, None, IfSome, Result, Err}
 use Rattle.std.specs.List.{AllByRecursion}
 use Rattle.std.proofs.lemmas.Option.{same_Some, none-some, IfSome_then}
 use Rattle.node_layout.specs.Metadata.{meta_opens, nonce_at, flag_at, IsPlain}

@@ -1,5 +1,5 @@
 -- What the making of a side file and its taking of a name come to.
-use Rattle.std.proofs.Common.{◌≡◌, ◌≢◌, ◌⊎◌, inl, inr, ℕ, List, [], ◌∷◌, ◌++◌, length, refl, ap, sym, ◌∙◌, subst, arith, Option, Some, None, Result, Ok, Err}
+use Rattle.std.proofs.Common.{◌≡◌, ◌≢◌, ◌⊎◌, inl, inr, ℕ, List, [], ◌∷◌, ◌++◌, refl, ap, sym, ◌∙◌, subst, Option, Some, None, Result, Ok, Err}
 use Rattle.pf_io.specs.Counts.{HasCause, counted}
 use Rattle.pf_io.specs.Disk.{Name, File, Disk, Image, IsImageAt, IsImage, IsSettledAt}
 use Rattle.pf_io.specs.Host.{Wrote, Synced, Made, Swapped, HostState, Both, IsMore, Tells, CountsNeither, OnDisk}

@@ -1,12 +1,12 @@
 -- A file that is copied to a new name and taken away from the old one.
-use Rattle.std.proofs.Common.{◌≡◌, ◌≢◌, ℕ, List, [], ◌∷◌, ◌++◌, refl, ap, ◌∙◌, sym, subst, Option, Some, None, Result, Ok, Err}
+use Rattle.std.proofs.Common.{◌≡◌, ◌≢◌, ℕ, List, ◌∙◌, sym, subst, Option, Result, Ok, Err}
 use Rattle.pf_io.specs.Disk.{Name, File, Disk, Image, IsImageAt}
 use Rattle.pf_io.specs.Host.{HostState, Both}
 use Rattle.pf_io.specs.Moments.{Honest, Ran}
 use Rattle.pf_io.specs.Names.{IsTarget, side_of}
 use Rattle.pf_io.specs.Steps.{KeepsOthers}
 use Rattle.pf_io.proofs.Runs.{goes_on_ran}
-use Rattle.pf_session.specs.Aside.{ApartBoth, KeepsApartBoth, LeavesOthers}
+use Rattle.pf_session.specs.Aside.{KeepsApartBoth, LeavesOthers}
 use Rattle.pf_session.specs.Asking.{NoCall, Asked, Stopped}
 use Rattle.pf_session.specs.Relocating.{copy_steps, name_steps, HasCopy, CopyMade, CopyFileGoes, NamedAs, not_yet, both, new_alone, NameImage, NameLeaves, RelocatedAs, RelocateImage, RelocateLeaves, Relocated, RelocateStopped, RelocateGoes}
 use Rattle.pf_session.specs.declared.fault.FlushFault.{FlushFault}

@@ -1,17 +1,17 @@
 -- A side file that takes a new name, and the old name that is taken away.
-use Rattle.std.proofs.Common.{◌≡◌, ◌≢◌, inl, inr, ℕ, List, [], ◌∷◌, ◌++◌, refl, ap, ◌∙◌, sym, subst, Option, Some, None, Result, Ok, Err}
+use Rattle.std.proofs.Common.{◌≡◌, ◌≢◌, inl, inr, [], ◌∷◌, refl, ap, ◌∙◌, sym, subst, Option, Some, Result, Ok, Err}
 use Rattle.pf_io.specs.Counts.{HasCause, counted}
-use Rattle.pf_io.specs.Disk.{Name, File, Disk, Image, IsImage, IsImageAt, IsSettledFile, IsSettledAt}
+use Rattle.pf_io.specs.Disk.{Name, File, Disk, Image, IsImage, IsImageAt, IsSettledAt}
 use Rattle.pf_io.specs.Host.{Synced, Swapped, Removed, HostState, Both, IsMore, Tells, CountsNeither}
 use Rattle.pf_io.specs.Moments.{Honest, Does, Ran}
 use Rattle.pf_io.specs.Names.{IsTarget, recovery_of, side_of}
 use Rattle.pf_io.specs.Steps.{Changes, Syncs, Swaps, Removes, AtOnce, Stays}
 use Rattle.pf_io.proofs.Images.{settled_at, absent_at}
 use Rattle.pf_io.proofs.Runs.{started, goes_on}
-use Rattle.pf_session.specs.Aside.{ApartBoth, KeepsApartBoth}
-use Rattle.pf_session.specs.Asking.{NoCall, AnotherCall, Asked, Stopped}
+use Rattle.pf_session.specs.Aside.{KeepsApartBoth}
+use Rattle.pf_session.specs.Asking.{NoCall, Asked, Stopped}
 use Rattle.pf_session.specs.Making.{StepsGo}
-use Rattle.pf_session.specs.Relocating.{name_steps, NamedAs, not_yet, both, new_alone, NameImage, IsNamed, NameLeaves}
+use Rattle.pf_session.specs.Relocating.{name_steps, not_yet, both, new_alone, NameImage, IsNamed, NameLeaves}
 use Rattle.pf_session.proofs.Apartness.{no_side, no_recovery}
 use Rattle.pf_session.proofs.Calls.{asked_then, asked_neither, failed_neither, stopped_first, stopped_then}
 use Rattle.pf_session.proofs.Placing.{settled_follow}

@@ -13,12 +13,11 @@ use Rattle.pf_io.specs.Names.{recovery_of}
 use Rattle.pf_io.specs.Steps.{Stays}
 use Rattle.pf_io.specs.Host.{OnDisk}
 use Rattle.pf_io.specs.Unchanged.{KeepsDisk}
-use Rattle.pf_session.specs.State.{SessionState}
-use Rattle.pf_session.specs.Reopening.{Reopens, Stood}
+use Rattle.pf_session.specs.Reopening.{Reopens}
 use Rattle.pf_session.specs.Asking.{NoCall}
 use Rattle.pf_session.specs.Questions.{OnlyAsked}
 use Rattle.pf_session.specs.Opening.{node_answers, IsAccepted, opened_session}
-use Rattle.pf_session.specs.Keeping.{EachEither, StandsOnEither, OpensEither}
+use Rattle.pf_session.specs.Keeping.{StandsOnEither, OpensEither}
 use Rattle.pf_session.proofs.Backed.{stands_on}
 use Rattle.pf_session.proofs.OpenStanding.{is_carried, given_is}
 

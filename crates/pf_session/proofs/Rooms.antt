@@ -1,7 +1,6 @@
 -- Room for a change of a session, and what a change comes to.
-use Rattle.std.proofs.Common.{◌≡◌, ℕ, ◌+◌, ◌-◌, ◌*◌, ◌<◌, ◌≤◌, min, max, Bool, true, false, List, [], length, refl, sym, ap, ◌∙◌, subst, arith, Result, Ok, Err}
+use Rattle.std.proofs.Common.{◌≡◌, ℕ, ◌+◌, ◌<◌, ◌≤◌, Bool, true, false, List, [], length, ap, ◌∙◌, subst, arith, Result, Ok, Err}
 use Rattle.std.specs.Prelude.{◌^◌}
-use Rattle.node_layout.specs.Places.{data_count}
 use Rattle.pf_io.specs.Disk.{Name, Disk, IsImage, IsImageAt}
 use Rattle.pf_io.specs.Host.{HostState}
 use Rattle.pf_io.specs.Names.{side_of}
@@ -9,12 +8,11 @@ use Rattle.pf_io.specs.Steps.{KeepsOthers, Stays}
 use Rattle.pf_io.specs.Unchanged.{KeepsDisk}
 use Rattle.pf_io.specs.Words.{WordsState}
 use Rattle.pf_io.proofs.Runs.{goes_on_ran}
-use Rattle.node_tree.specs.Applying.{Step, Size, from_of, to_of}
-use Rattle.node_tree.specs.State.{TreeState}
+use Rattle.node_tree.specs.Applying.{Step}
 use Rattle.node_tree.specs.declared.fault.TreeFault.{TreeFault}
 use Rattle.pf_session.specs.State.{SessionState}
 use Rattle.pf_session.specs.Aside.{LeavesOthers, LeavesApart, KeepsApart, Aside}
-use Rattle.pf_session.specs.Flushing.{KeepsName, SealGoes, node_short, call_failed, flushed, FlushGoes, no_words, had_words}
+use Rattle.pf_session.specs.Flushing.{KeepsName}
 use Rattle.pf_session.specs.Changing.{RoomGoes, was_roomy, was_flushed, no_room, StepGoes, stepped, ChangeGoes, changed, not_flushed, flushed_and_changed, WriteRefused, SizeRefused}
 use Rattle.pf_session.specs.declared.fault.FlushFault.{FlushFault}
 use Rattle.pf_session.specs.declared.fault.WriteFault.{WriteFault}
@@ -23,7 +21,6 @@ use Rattle.pf_session.specs.declared.fault.SizeFault.{SizeFault}
 use Rattle.pf_session.specs.declared.fault.SizeFault.TheVariants as sizes
 use Rattle.pf_session.specs.declared.fault.Written.{Written}
 use Rattle.pf_session.proofs.Disks.{leaves_others}
-use Rattle.pf_session.proofs.Published.{beside_none, kept_by_flush}
 
 -- what is kept
 

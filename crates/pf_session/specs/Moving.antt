@@ -11,7 +11,7 @@ use Rattle.pf_io.specs.Words.{WordsState}
 use Rattle.pf_session.specs.State.{SessionState}
 use Rattle.pf_session.specs.Aside.{Aside, AsideBoth}
 use Rattle.pf_session.specs.Asking.{TookFewer}
-use Rattle.pf_session.specs.Backing.{IsBacked, StandsOn, RestsOn}
+use Rattle.pf_session.specs.Backing.{IsBacked, RestsOn}
 use Rattle.pf_session.specs.Copying.{clean_below}
 use Rattle.pf_session.specs.Creating.{LooksUp, LookUpFails}
 use Rattle.pf_session.specs.Drawing.{IsDrawn, WordsCame, nonce_words}

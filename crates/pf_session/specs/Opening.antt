@@ -1,5 +1,5 @@
 -- What an opening comes to, by the answers of the call.
-use Rattle.std.specs.Prelude.{◌≡◌, ◌≢◌, ℕ, ◌<◌, ◌≤◌, List, [], ◌∷◌, length, take, Option, Some, None, IfSome, Result, Ok, Err, Bool, false}
+use Rattle.std.specs.Prelude.{◌≡◌, ◌≢◌, ℕ, ◌<◌, ◌≤◌, List, [], ◌∷◌, length, take, Option, Some, None, IfSome, Result, Ok, Err, false}
 use Rattle.node_layout.specs.Metadata.{IsPath, IsPlain, magic, flag_at, nonce_at}
 use Rattle.node_layout.specs.Faults.{IsPlainFault}
 use Rattle.node_layout.specs.Opening.{OpensTo, IsOpenFault}

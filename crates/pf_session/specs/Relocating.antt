@@ -4,7 +4,7 @@ use Rattle.pf_io.specs.Disk.{Name, File, Disk, Image, IsImageAt, IsSettledFile, 
 use Rattle.pf_io.specs.Host.{Answer, Wrote, Synced, Made, Swapped, Removed, HostState, contents}
 use Rattle.pf_io.specs.Names.{recovery_of, side_of}
 use Rattle.pf_io.specs.Steps.{KeepsOthers, overwrite}
-use Rattle.pf_session.specs.Aside.{LeavesApartBoth, KeepsApartBoth, ChangesAlone}
+use Rattle.pf_session.specs.Aside.{LeavesApartBoth, KeepsApartBoth}
 use Rattle.pf_session.specs.Asking.{NoCall, Asked, Stopped}
 use Rattle.pf_session.specs.Copying.{copied, AreBlocksOf}
 use Rattle.pf_session.specs.Making.{ReplaceShort}

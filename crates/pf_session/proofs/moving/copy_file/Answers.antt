@@ -1,11 +1,9 @@
-use Rattle.std.proofs.Common.{◌≡◌, ◌≢◌, ◌∷◌, [], ℕ, List, length, refl, sym, subst, Result, Ok, Err}
+use Rattle.std.proofs.Common.{◌≢◌, [], refl, sym, subst, Result, Err}
 use Rattle.std.proofs.lemmas.Result.{err_from_is_err_and}
-use Rattle.pf_io.specs.Disk.{Name}
-use Rattle.pf_io.specs.Host.{Made, Both}
-use Rattle.pf_io.specs.Moments.{Ran}
+use Rattle.pf_io.specs.Host.{Made}
 use Rattle.pf_io.specs.declared.faults.HostFault.{HostFault}
-use Rattle.pf_session.specs.Aside.{LeavesOthers, ChangesAlone}
-use Rattle.pf_session.specs.Copying.{clean_below, CopyGoes, CopyLeaves}
+use Rattle.pf_session.specs.Aside.{ChangesAlone}
+use Rattle.pf_session.specs.Copying.{clean_below}
 use Rattle.pf_session.specs.Relocating.{CopyFileGoes}
 use Rattle.pf_session.specs.declared.fault.FlushFault.{FlushFault}
 use Rattle.pf_session.proofs.Calls.{asked_neither, failed_neither}

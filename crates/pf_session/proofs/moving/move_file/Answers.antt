@@ -1,4 +1,4 @@
-use Rattle.std.proofs.Common.{◌≡◌, ◌≢◌, ℕ, List, [], sym, subst, Result, Ok, Err}
+use Rattle.std.proofs.Common.{[], sym, subst, Result, Ok, Err}
 use Rattle.std.proofs.lemmas.Result.{err_from_is_err_and}
 use Rattle.pf_io.specs.declared.faults.HostFault.{HostFault}
 use Rattle.pf_session.specs.Copying.{clean_below}

@@ -1,4 +1,4 @@
-use Rattle.std.proofs.Common.{◌≡◌, ℕ, List, [], length, ap, sym, ◌∙◌, subst, Result, Ok, Err}
+use Rattle.std.proofs.Common.{◌≡◌, ℕ, List, [], length, ap, ◌∙◌, subst, Result, Ok, Err}
 use Rattle.node_layout.specs.Places.{node_count}
 use Rattle.pf_session.specs.State.{SessionState}
 use Rattle.pf_session.specs.Copying.{clean_below}

@@ -1,5 +1,5 @@
 use Rattle.std.proofs.Common.{◌≡◌, inl, inr, true, false, refl, rules, Result, Ok}
-use Rattle.pf_session.specs.Ending.{CloseGoes, let_go, flushed_last}
+use Rattle.pf_session.specs.Ending.{let_go, flushed_last}
 use Rattle.pf_session.specs.declared.fault.FlushFault.{FlushFault}
 use Rattle.pf_io.proofs.Unchanged.{kept_none}
 use Rattle.pf_session.proofs.Keeping.{kept_aside}

@@ -1,4 +1,4 @@
-use Rattle.std.proofs.Common.{◌≡◌, ◌∙◌, ap, refl, subst, arith, Bool, Result, Err}
+use Rattle.std.proofs.Common.{◌∙◌, ap, refl, subst, arith, Bool, Result, Err}
 use Rattle.std.proofs.lemmas.Result.{err_from_is_err_and}
 use Rattle.node_tree.specs.Marks.{IsChangedCount}
 use Rattle.pf_session.specs.State.{SessionState}

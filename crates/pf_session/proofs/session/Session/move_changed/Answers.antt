@@ -1,11 +1,10 @@
-use Rattle.std.proofs.Common.{◌≡◌, ℕ, List, length, refl, ap, sym, ◌∙◌, subst, Result, Ok, Err}
+use Rattle.std.proofs.Common.{◌≡◌, ℕ, List, length, refl, ap, sym, ◌∙◌, subst, Result, Err}
 use Rattle.std.proofs.lemmas.Result.{err_from_is_err_and}
 use Rattle.pf_session.specs.State.{SessionState}
 use Rattle.pf_session.specs.Drawing.{WordsCame, WordsLacked}
-use Rattle.pf_session.specs.Moving.{CarryEnds, lacked_words, flushed, UndamagedCarry}
+use Rattle.pf_session.specs.Moving.{lacked_words, flushed}
 use Rattle.pf_session.specs.Aside.{AsideBoth}
 use Rattle.pf_session.specs.declared.fault.FlushFault.{FlushFault}
-use Rattle.pf_session.specs.declared.fault.FlushFault.TheVariants as faults
 use Rattle.pf_session.proofs.Moved.{both_none, both_aside, both_on, lacks_first, lacks_last, ends, not_flushed_ends, is_sealed, unflushed_undamaged, flushed_undamaged}
 use Rattle.pf_session.proofs.session.Session.move_changed.Goals as goal
 

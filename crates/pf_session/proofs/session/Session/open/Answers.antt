@@ -2,11 +2,10 @@ use Rattle.std.proofs.Common.{◌≡◌, ℕ, List, [], Result, Ok, refl, ap, ap
 use Rattle.std.specs.Prelude.{option_map, None, false}
 use Rattle.std.proofs.lemmas.Result.{err_from_is_err_and}
 use Rattle.pf_io.proofs.Unchanged.{kept_none}
-use Rattle.node_tree.proofs.Fresh.{fresh_of_file}
 use Rattle.pf_io.specs.Host.{OnDisk}
 use Rattle.pf_session.specs.Keeping.{OpensEither}
 use Rattle.pf_session.specs.State.{SessionState, unread}
-use Rattle.pf_session.specs.Opening.{AreGood, by_answers, misnamed, accepted, secret_refused, no_names, opened_session}
+use Rattle.pf_session.specs.Opening.{AreGood, by_answers, misnamed, accepted, secret_refused, opened_session}
 use Rattle.pf_session.specs.declared.open_fault.OpenFault.{OpenFault}
 use Rattle.pf_session.proofs.Questions.{none_asked}
 use Rattle.pf_session.proofs.Backed.{on_carried, on_first}
