@@ -77,7 +77,7 @@ module _ (key : List ℕ) (k : ℕ) (old : SessionState) (seated : IsSeated key 
               });
           over = lacked_over key (lines.Close k) words replies.WordsFault old whole None before after aside;
         })
-    by_end result undamaged (not_ended blame these words seen blames seals key_is name_is broken said) =
+    by_end result undamaged (not_ended blame these words counted seen blames seals key_is name_is broken said) =
         subst (λ (r : Result (Unit {0}) FlushFault). SeatAgrees key false (lines.Close k) (close_result false r) (Some old) None before after random random') (sym said)
         (record {
           seen = seen_by these words (host_blamed blame) false;
@@ -99,7 +99,7 @@ module _ (key : List ℕ) (k : ℕ) (old : SessionState) (seated : IsSeated key 
               });
           over = failed_over key (lines.Close k) these words blame (flush_reply (fault_of blame)) old seated.of_script whole None result before after undamaged said aside;
         })
-    by_end result undamaged (was_ended these words seen swapped seals same dirty said) =
+    by_end result undamaged (was_ended these words counted seen swapped seals same dirty said) =
         subst (λ (r : Result (Unit {0}) FlushFault). SeatAgrees key false (lines.Close k) (close_result false r) (Some old) None before after random random') (sym said)
         (record {
           seen = seen_by these words false false;

@@ -15,7 +15,7 @@ use Rattle.pf_io.specs.Moments.{Honest, Ran}
 use Rattle.pf_io.specs.Names.{IsTarget, recovery_of, side_of}
 use Rattle.pf_io.specs.Words.{WordsState}
 use Rattle.pf_io.specs.declared.faults.Memory.{Memory}
-use Rattle.pf_io.proofs.Telling.{told_by, told_none, told_on, both_same, both_weaker}
+use Rattle.pf_io.proofs.Telling.{told_none, told_on, both_same, both_weaker}
 use Rattle.pf_session.specs.Aside.{Aside, LeavesApart, KeepsApart}
 use Rattle.pf_session.specs.Asking.{IsTaken as AreTaken, Stopped}
 use Rattle.pf_session.specs.Creating.{CreateGoes, misnamed, no_memory, look_up_failed, was_there, no_words, create_stopped, created, CreatesOn, AreNamed, empty_sheet, empty_node, fresh}

@@ -174,8 +174,8 @@ module _ (key : List ℕ) (k : ℕ) (to : Name) (old : SessionState) (seated : I
     unflushed : (start : HostState) (fault : FlushFault) → IsFree to before start → (fails : FlushFails fault old new start after random random') → FlushEnds (Err fault) old new start after random fails.between → UndamagedMove (Err (move_of_flush fault)) old before
         → SeatBooked key false line (move_reply (Err (move_of_flush fault))) (Some old) (Some new) before after random random'
     unflushed start fault free fails (not_begun words fewer seen same stays said) undamaged = absurd (never_lacks fault fails.sealed fails.keys old new start after fails.goes said)
-    unflushed start fault free fails (was_ended these words seen swapped seals same dirty said) undamaged = absurd (cc)
-    unflushed start fault free fails (not_ended blame these words seen blames seals key_is name_is broken said) undamaged =
+    unflushed start fault free fails (was_ended these words counted seen swapped seals same dirty said) undamaged = absurd (cc)
+    unflushed start fault free fails (not_ended blame these words counted seen blames seals key_is name_is broken said) undamaged =
         let first = fails.drawn.first in
         let second = fails.drawn.second in
         let all = words ++ first ∷ second ∷ [] in

@@ -5,9 +5,8 @@ use Rattle.std.specs.Option.{is_some}
 use Rattle.std.proofs.lemmas.List.Elements.{Contains-push_cases, Contains-append_cases}
 use Rattle.node_tree.specs.Sheet.{Sheet}
 use Rattle.pf_io.specs.Disk.{Name, Files, IsImage, reading}
-use Rattle.pf_io.specs.Host.{Answer, HostState, OnDisk, WhereTold}
+use Rattle.pf_io.specs.Host.{Answer, HostState, OnDisk}
 use Rattle.pf_io.specs.Moments.{Honest}
-use Rattle.pf_io.specs.Unchanged.{KeepsDisk}
 use Rattle.pf_io.specs.Words.{WordsState}
 use Rattle.pf_io.specs.declared.faults.Memory.{Memory}
 use Rattle.pf_io.proofs.Telling.{told_by, told_none, both_same, both_weaker}

@@ -21,7 +21,7 @@ use Rattle.pf_io.specs.Names.{IsTarget, recovery_of}
 use Rattle.pf_io.specs.Unchanged.{KeepsDisk}
 use Rattle.pf_io.specs.Words.{WordsState}
 use Rattle.pf_io.specs.declared.faults.Memory.{Memory}
-use Rattle.pf_io.proofs.Telling.{told_by, told_none, both_weaker}
+use Rattle.pf_io.proofs.Telling.{both_weaker}
 use Rattle.pf_session.specs.Backing.{StandsOn}
 use Rattle.pf_session.specs.Carries.{OnFirst, OpensOnFirst}
 use Rattle.pf_session.specs.Keeping.{OpensEither}
