@@ -1,5 +1,5 @@
 -- How a change of a session's content ended, with what it left on the disk.
-use Rattle.std.proofs.Common.{◌≡◌, true, false, List, [], ◌++◌, ℕ, refl, sym, ap, subst, Option, None, Result, Ok, Err, length, arith}
+use Rattle.std.proofs.Common.{◌≡◌, true, false, List, [], ◌++◌, ℕ, refl, sym, ◌∙◌, ap, subst, Option, None, Result, Ok, Err, length, arith}
 use Rattle.node_tree.specs.Applying.{Step}
 use Rattle.node_tree.specs.State.{TreeState}
 use Rattle.node_tree.specs.declared.fault.TreeFault.{TreeFault}
@@ -12,7 +12,7 @@ use Rattle.pf_io.specs.Words.{WordsState}
 use Rattle.pf_io.proofs.Telling.{both_same, told_on}
 use Rattle.pf_session.specs.Asking.{IsTaken as AreTaken}
 use Rattle.pf_session.specs.Backing.{StandsOn}
-use Rattle.pf_session.specs.Changing.{IsFlushedFirst, IsRoomy, StepGoes}
+use Rattle.pf_session.specs.Changing.{StepState, IsFlushedFirst, IsRoomy, StepGoes}
 use Rattle.pf_session.specs.Drawing.{nonce_words}
 use Rattle.pf_session.specs.Flushing.{UndamagedFlush}
 use Rattle.pf_session.specs.Sealing.{Replaces, StandsNext}
@@ -49,6 +49,17 @@ wordless_keeps step old new before after words _ undrawn none (left_once one roo
 wordless_keeps step old new before after words _ undrawn none (left_lacked first fewer same stays) = both_same (Ran IsImage Stays) before.honest after.honest (ap (λ (h : HostState). h.honest) stays) (λ a. unchanged_now a)
 wordless_keeps step old new before after words _ undrawn none (left_unflushed blame counted first undamaged seals key_is name_is broken) = absurd (no_flush old words undrawn none counted)
 wordless_keeps step old new before after words _ undrawn none (left_after mid between one of_mid counted first seals same dirty goes) = absurd (no_flush old words undrawn none counted)
+
+step_undrawn : (one : Result (Unit {0}) TreeFault) (old new : SessionState) → StepState one old new → new.drawn ≡ old.drawn
+step_undrawn (Ok done) old new state = ap (λ (s : SessionState). s.drawn) state
+step_undrawn (Err fault) old new state = ap (λ (s : SessionState). s.drawn) state
+
+-- and draws no nonce
+pub wordless_undrawn : (step : Step) (old new : SessionState) (before after : HostState) (words : List (List ℕ)) (outcome : Outcome) → old.drawn ≡ None → words ≡ [] → ChangeLeft step old new before after words outcome → new.drawn ≡ None
+wordless_undrawn step old new before after words _ undrawn none (left_once one roomy empty goes) = step_undrawn one old new goes.state ∙ undrawn
+wordless_undrawn step old new before after words _ undrawn none (left_lacked first fewer same stays) = ap (λ (s : SessionState). s.drawn) same ∙ undrawn
+wordless_undrawn step old new before after words _ undrawn none (left_unflushed blame counted first undamaged seals key_is name_is broken) = absurd (no_flush old words undrawn none counted)
+wordless_undrawn step old new before after words _ undrawn none (left_after mid between one of_mid counted first seals same dirty goes) = absurd (no_flush old words undrawn none counted)
 
 -- what is seen of it
 pub record ChangeIn (step : Step) (old new : SessionState) (outcome : Outcome) (before after : HostState) (random random' : WordsState) : Type 0 where

@@ -97,6 +97,7 @@ module _ (key : List ℕ) (k : ℕ) (old : SessionState) (seated : IsSeated key 
       (record {
         seen = seen_by [] words false true;
         was_seen = seen_in [] words false true before after random random' seen;
+        wordless = λ change. absurd change;
         under = line_under (seen_by [] words false true) replies.WordsFault tt (ap (λ (s : SessionState). s.name) same)
             (λ a b is is2 ran book seats agrees base on. record {
               acts = [];
@@ -117,6 +118,7 @@ module _ (key : List ℕ) (k : ℕ) (old : SessionState) (seated : IsSeated key 
       (record {
         seen = seen_by these words (host_blamed blame) false;
         was_seen = seen_in these words (host_blamed blame) false before after random random' seen;
+        wordless = λ change. absurd change;
         under = line_under (seen_by these words (host_blamed blame) false) (flush_reply (fault_of blame)) (blame_answered blame) name_is
             (λ a b is is2 ran book seats agrees base on.
             let next = seals base on.stood.as_sheet.stands.linked on.kept.backed in record {
@@ -139,6 +141,7 @@ module _ (key : List ℕ) (k : ℕ) (old : SessionState) (seated : IsSeated key 
       (record {
         seen = seen_by these words false false;
         was_seen = seen_in these words false false before after random random' seen;
+        wordless = λ change. absurd change;
         under = line_under (seen_by these words false false) replies.Flushed tt (ap (λ (s : SessionState). s.name) same)
             (λ a b is is2 ran book seats agrees base on.
             let next = seals base on.stood.as_sheet.stands.linked on.kept.backed in
