@@ -173,11 +173,11 @@ module _ (own : OwnSeat) (files : Files) (first : Sheet) where
     change_over _ (left_once one roomy none goes) =
         once roomy none one goes (stands_at old before m base one is_m goes stands_old was.kept.backed) (at_both (Ran IsImage Stays) before.honest after.honest m b is_m is_b goes.disk)
     change_over _ (left_lacked is_first fewer same stays) = tt
-    change_over _ (left_unflushed ByHost is_first undamaged seals key_is name_is broken) = λ calm. absurd (cc)
-    change_over _ (left_unflushed (ByDamage damage) is_first undamaged seals key_is name_is broken) =
+    change_over _ (left_unflushed ByHost counted is_first undamaged seals key_is name_is broken) = λ calm. absurd (cc)
+    change_over _ (left_unflushed (ByDamage damage) counted is_first undamaged seals key_is name_is broken) =
         absurd
         (on_reading (λ files. (sheet : Sheet) → IsBacked sheet old → Stands (contents (files (file_of old))) old.key sheet → IsUndamaged (Err (fault_of (ByDamage damage)))) before.honest m is_m undamaged base was.kept.backed stands_old)
-    change_over _ (left_after mid between one of_mid is_first seals same dirty goes) =
+    change_over _ (left_after mid between one of_mid counted is_first seals same dirty goes) =
         let t = back_to (Ran IsImage Stays) between.honest after.honest b is_b goes.disk in
         after_step mid between of_mid is_first seals same dirty t.0 t.1 t.2 one goes
         (stands_at mid between t.0 (next mid between of_mid is_first seals same dirty t.0 t.1 t.2) one t.1 goes (stands_mid mid between of_mid is_first seals same dirty t.0 t.1 t.2) (on_next mid between of_mid is_first seals same dirty t.0 t.1 t.2).backed)

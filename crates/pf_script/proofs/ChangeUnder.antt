@@ -350,7 +350,7 @@ module _ (key : List ℕ) (own : OwnSeat) (line : ScriptLine) (book : Book) (sea
     pub change_known : (outcome : Outcome) → ChangeLeft step old new before after more outcome → ChangeKnown outcome
     change_known _ (left_once one roomy none goes) = change_once one roomy none goes
     change_known _ (left_lacked is_first fewer same stays) = change_lacked is_first fewer same stays
-    change_known _ (left_unflushed blame is_first undamaged seals key_is name_is broken) = change_unflushed blame is_first undamaged seals key_is name_is broken
-    change_known _ (left_after mid between one of_mid is_first seals same dirty goes) =
+    change_known _ (left_unflushed blame counted is_first undamaged seals key_is name_is broken) = change_unflushed blame is_first undamaged seals key_is name_is broken
+    change_known _ (left_after mid between one of_mid counted is_first seals same dirty goes) =
         let t = back_to (Ran IsImage Stays) between.honest after.honest b is_b goes.disk in
         after_step mid between of_mid is_first seals same dirty t.0 t.1 t.2 one goes (standing_step mid between of_mid is_first seals same dirty t.0 t.1 t.2 one goes)

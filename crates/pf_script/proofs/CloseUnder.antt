@@ -62,6 +62,7 @@ module _ (key : List ℕ) (k : ℕ) (old : SessionState) (seated : IsSeated key 
         (record {
           seen = seen_by [] words false true;
           was_seen = seen_in [] words false true before after random random' seen;
+          wordless = λ change. absurd change;
           under = line_under (seen_by [] words false true) replies.WordsFault tt
               (λ a b is is2 ran book seats agrees base on. record {
                 acts = [];
@@ -77,11 +78,12 @@ module _ (key : List ℕ) (k : ℕ) (old : SessionState) (seated : IsSeated key 
               });
           over = lacked_over key (lines.Close k) words replies.WordsFault old whole None before after aside;
         })
-    by_end result undamaged (not_ended blame these words seen blames seals key_is name_is broken said) =
+    by_end result undamaged (not_ended blame these words counted seen blames seals key_is name_is broken said) =
         subst (λ (r : Result (Unit {0}) FlushFault). SeatAgrees key false (lines.Close k) (close_result false r) (Some old) None before after random random') (sym said)
         (record {
           seen = seen_by these words (host_blamed blame) false;
           was_seen = seen_in these words (host_blamed blame) false before after random random' seen;
+          wordless = λ change. absurd change;
           under = line_under (seen_by these words (host_blamed blame) false) (flush_reply (fault_of blame)) (blame_answered blame)
               (λ a b is is2 ran book seats agrees base on.
               let next = seals base on.stood.as_sheet.stands.linked on.kept.backed in record {
@@ -99,11 +101,12 @@ module _ (key : List ℕ) (k : ℕ) (old : SessionState) (seated : IsSeated key 
               });
           over = failed_over key (lines.Close k) these words blame (flush_reply (fault_of blame)) old seated.of_script whole None result before after undamaged said aside;
         })
-    by_end result undamaged (was_ended these words seen swapped seals same dirty said) =
+    by_end result undamaged (was_ended these words counted seen swapped seals same dirty said) =
         subst (λ (r : Result (Unit {0}) FlushFault). SeatAgrees key false (lines.Close k) (close_result false r) (Some old) None before after random random') (sym said)
         (record {
           seen = seen_by these words false false;
           was_seen = seen_in these words false false before after random random' seen;
+          wordless = λ change. absurd change;
           under = line_under (seen_by these words false false) (replies.Closed false) tt
               (λ a b is is2 ran book seats agrees base on.
               let next = seals base on.stood.as_sheet.stands.linked on.kept.backed in
@@ -212,6 +215,7 @@ module _ (key : List ℕ) (k : ℕ) (old : SessionState) (seated : IsSeated key 
           of_host = ap (λ (h : HostState). h.faults) stays;
           of_words = ap (λ (w : WordsState). w.faults) same;
         };
+        wordless = λ change. absurd change;
         under = let_under old.broken refl why stays;
         over = let_over old.broken refl why stays;
       })

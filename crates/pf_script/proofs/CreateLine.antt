@@ -245,6 +245,7 @@ module _ (key : List ℕ) (k : ℕ) (name : Name) (utf8 : IsUtf8 name) (before a
         booked = record {
           seen = seen_by these words true false;
           was_seen = seen_in these words true false before after random random' seen;
+          wordless = λ change. absurd change;
           under = under nonce these drawn false (seen_by these words true false) replies.HostFault None Empty aside reads stopped.creates good.is_target (λ book seats. no_file refl refl) turn tt;
           over = over nonce these drawn false (seen_by these words true false) replies.HostFault None aside stopped.creates (λ a b ran creates calm. absurd (no_host_fault calm));
         };
@@ -280,6 +281,7 @@ module _ (key : List ℕ) (k : ℕ) (name : Name) (utf8 : IsUtf8 name) (before a
         booked = record {
           seen = seen_by these words false false;
           was_seen = seen_in these words false false before after random random' seen;
+          wordless = λ change. absurd change;
           under = under nonce these drawn true (seen_by these words false false) replies.Created (Some made) (Own (new_seat key name sheet)) aside reads creates good.is_target
               (λ book seats. of_book sheet made refl (seat_is_left (Creation (seat_of key name sheet)) seats) (record { backed = is_fresh.stands.backed; rests = λ calm. record { stands = is_fresh.stands; clean = refl } }) (ap Own same) refl) turn tt;
           over = over nonce these drawn true (seen_by these words false false) replies.Created (Some made) aside creates

@@ -13,7 +13,7 @@ use Rattle.pf_script.specs.Book.{Book, Seal}
 use Rattle.pf_script.specs.BookActs.{Act, Among, booked_all}
 use Rattle.pf_script.specs.BookDebts.{seat_of}
 use Rattle.pf_script.specs.BookSeats.{SparesSeats}
-use Rattle.pf_script.specs.BookTurns.{ShowsUnder, no_file, of_book, other_file, Knows, LineUnder, SeatUnder, SeatAgrees, SeatBooked, IsStateUnder, KnowsLine, MadeBy, TurnUnder, DeskUnder, DeskAgrees, DeskBooked}
+use Rattle.pf_script.specs.BookTurns.{ShowsUnder, IsUndrawn, no_file, of_book, other_file, Knows, LineUnder, SeatUnder, SeatAgrees, SeatBooked, IsStateUnder, KnowsLine, MadeBy, TurnUnder, DeskUnder, DeskAgrees, DeskBooked}
 use Rattle.pf_script.specs.FileTurns.{stands_on, DeskFiles}
 use Rattle.pf_script.specs.Desk.{DeskState, session_at, IsDesk}
 use Rattle.pf_script.specs.DeskSteps.{Concerns, Spares}
@@ -99,10 +99,14 @@ module _ (old : DeskState) (desk : IsDesk old) (k : ℕ) (below : k < SEATS) (ta
         turn = λ knows. on_seat k taken under.after names state_says (turn_of (knows_seat knows)) refl;
       }
 
+  same_seat : (j : ℕ) → seat_of_line line ≡ Some j → j ≡ k
+  same_seat j is = let e : Some j ≡ Some k = sym is ∙ names in cc
+
   desk_agrees : (reply : Reply) (before after : HostState) (random random' : WordsState) → Spares (Concerns taken line (session_at old k)) before after → SeatAgrees old.key taken line reply (session_at old k) left before after random random' → DeskAgrees line reply old new before after random random'
   desk_agrees reply before after random random' spares agrees = record {
     seen = agrees.seen;
     was_seen = agrees.was_seen;
+    wordless = λ change j is undrawn none. agrees.wordless change (subst (λ (i : ℕ). IsUndrawn (session_at old i)) (same_seat j is) undrawn) none;
     under = both_weaker (SeatUnder old.key taken line agrees.seen reply (session_at old k) left) (DeskUnder line agrees.seen reply old new) before.honest after.honest agrees.under
         (λ a b under book seats state agree reads is_state. turn_under book seats state is_state agrees.seen reply a b (under book seats (seat_at state k) agree reads (is_state.shows k)));
     over = desk_files old desk k below taken line names says left agrees.seen reply before after spares agrees.over;
@@ -117,6 +121,7 @@ pub blank_booked : (desk : DeskState) (host : HostState) (words : WordsState) �
 blank_booked desk host words = record {
   seen = idle_seen;
   was_seen = record { answers = told_none host host refl; words = none_taken words; of_host = refl; of_words = refl };
+  wordless = λ change. absurd change;
   under = both_same (DeskUnder lines.Blank idle_seen replies.None desk desk) host.honest host.honest refl
       (λ a book seats state agrees reads is_state. record {
         acts = [];

@@ -87,6 +87,7 @@ module _ (key : List ℕ) (k : ℕ) (old : SessionState) (seated : IsSeated key 
       (record {
         seen = seen_by [] [] false false;
         was_seen = record { answers = told_none host host refl; words = subst (λ (w : WordsState). Both random.left w.left (AreTaken [])) (sym words) (none_taken random); of_host = refl; of_words = ap (λ (w : WordsState). w.faults) words };
+        wordless = λ change. absurd change;
         under = drawn_under [] false (replies.Drawn nonce) old.drawn same (again nonce was) tt;
         over = drawn_over [] false (replies.Drawn nonce) old.drawn same (again nonce was);
       })
@@ -96,6 +97,7 @@ module _ (key : List ℕ) (k : ℕ) (old : SessionState) (seated : IsSeated key 
       (record {
         seen = seen_by [] (drawn.first ∷ drawn.second ∷ []) false false;
         was_seen = record { answers = told_none host host refl; words = drawn.took.told; of_host = refl; of_words = drawn.took.calm };
+        wordless = λ change. absurd change;
         under = drawn_under (drawn.first ∷ drawn.second ∷ []) false (replies.Drawn (drawn.first ++ drawn.second)) (Some (drawn.first ++ drawn.second)) (subst (λ (n : List ℕ). new ≡ record old { drawn = Some n }) drawn.is same) (now_drawn drawn.first drawn.second none) tt;
         over = drawn_over (drawn.first ∷ drawn.second ∷ []) false (replies.Drawn (drawn.first ++ drawn.second)) (Some (drawn.first ++ drawn.second)) (subst (λ (n : List ℕ). new ≡ record old { drawn = Some n }) drawn.is same) (now_drawn drawn.first drawn.second none);
       }))
@@ -104,6 +106,7 @@ module _ (key : List ℕ) (k : ℕ) (old : SessionState) (seated : IsSeated key 
       (record {
         seen = seen_by [] fewer.words false true;
         was_seen = record { answers = told_none host host refl; words = fewer.told; of_host = refl; of_words = fewer.once };
+        wordless = λ change. absurd change;
         under = drawn_under fewer.words true replies.WordsFault old.drawn same (lost fewer.words fewer.fewer none) tt;
         over = drawn_over fewer.words true replies.WordsFault old.drawn same (lost fewer.words fewer.fewer none);
       })

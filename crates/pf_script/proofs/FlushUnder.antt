@@ -97,6 +97,7 @@ module _ (key : List ℕ) (k : ℕ) (old : SessionState) (seated : IsSeated key 
       (record {
         seen = seen_by [] words false true;
         was_seen = seen_in [] words false true before after random random' seen;
+        wordless = λ change. absurd change;
         under = line_under (seen_by [] words false true) replies.WordsFault tt (ap (λ (s : SessionState). s.name) same)
             (λ a b is is2 ran book seats agrees base on. record {
               acts = [];
@@ -112,11 +113,12 @@ module _ (key : List ℕ) (k : ℕ) (old : SessionState) (seated : IsSeated key 
             });
         over = lacked_over key (lines.Flush k) words replies.WordsFault old whole (Some new) before after aside;
       })
-  by_end result undamaged (not_ended blame these words seen blames seals key_is name_is broken said) =
+  by_end result undamaged (not_ended blame these words counted seen blames seals key_is name_is broken said) =
       subst (λ (r : Result (Unit {0}) FlushFault). SeatAgrees key false (lines.Flush k) (flush_result r) (Some old) (Some new) before after random random') (sym said)
       (record {
         seen = seen_by these words (host_blamed blame) false;
         was_seen = seen_in these words (host_blamed blame) false before after random random' seen;
+        wordless = λ change. absurd change;
         under = line_under (seen_by these words (host_blamed blame) false) (flush_reply (fault_of blame)) (blame_answered blame) name_is
             (λ a b is is2 ran book seats agrees base on.
             let next = seals base on.stood.as_sheet.stands.linked on.kept.backed in record {
@@ -134,11 +136,12 @@ module _ (key : List ℕ) (k : ℕ) (old : SessionState) (seated : IsSeated key 
             });
         over = failed_over key (lines.Flush k) these words blame (flush_reply (fault_of blame)) old seated.of_script whole (Some new) result before after undamaged said aside;
       })
-  by_end result undamaged (was_ended these words seen swapped seals same dirty said) =
+  by_end result undamaged (was_ended these words counted seen swapped seals same dirty said) =
       subst (λ (r : Result (Unit {0}) FlushFault). SeatAgrees key false (lines.Flush k) (flush_result r) (Some old) (Some new) before after random random') (sym said)
       (record {
         seen = seen_by these words false false;
         was_seen = seen_in these words false false before after random random' seen;
+        wordless = λ change. absurd change;
         under = line_under (seen_by these words false false) replies.Flushed tt (ap (λ (s : SessionState). s.name) same)
             (λ a b is is2 ran book seats agrees base on.
             let next = seals base on.stood.as_sheet.stands.linked on.kept.backed in

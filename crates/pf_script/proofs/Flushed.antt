@@ -1,5 +1,5 @@
 -- What a flush of a session seals, as a seat of a script sees it.
-use Rattle.std.proofs.Common.{◌≡◌, Bool, true, false, List, [], ◌∷◌, ◌++◌, ℕ, ◌+◌, ◌*◌, ◌<◌, ◌≤◌, refl, ◌∙◌, sym, ap, subst, None, Result, Ok, Err, length}
+use Rattle.std.proofs.Common.{◌≡◌, Bool, true, false, List, [], ◌∷◌, ◌++◌, ℕ, ◌+◌, ◌*◌, ◌<◌, ◌≤◌, refl, ◌∙◌, sym, ap, subst, None, Result, Ok, Err, length, length-append, arith, Option}
 use Rattle.std.proofs.lemmas.List.FromFn.{length-map-range_with_len}
 use Rattle.std.proofs.lemmas.List.Elements.{Contains-push, Contains-append_right}
 use Rattle.std.specs.Prelude.{Contains}
@@ -19,7 +19,7 @@ use Rattle.pf_io.proofs.Telling.{told_none}
 use Rattle.pf_session.specs.Asking.{faults_after, kind_of, IsTaken as AreTaken}
 use Rattle.pf_session.specs.Backing.{IsBacked, StandsOn}
 use Rattle.pf_session.specs.Copying.{copied}
-use Rattle.pf_session.specs.Drawing.{WordsCame, nonce_words}
+use Rattle.pf_session.specs.Drawing.{IsNonce, was_drawn, of_words, WordsCame, nonce_words}
 use Rattle.pf_session.specs.Flushing.{Seals as SealsNext, FlushShort, FlushGoes, no_words, had_words, SealGoes, node_short, call_failed, flushed}
 use Rattle.pf_session.specs.Sealing.{Replaces, StandsNext}
 use Rattle.pf_session.specs.State.{SessionState}
@@ -91,7 +91,16 @@ SealsWith old words P = (base : Sheet) → IsLinked base → IsBacked base old �
 abbrev pub SealsOwn : SessionState → List (List ℕ) → (Sheet → Type 0) → Type 0
 SealsOwn old words P = SealsWith old words (λ base next. P next)
 
--- fewer words than a flush of the session takes
+-- the words of a nonce
+nonce_long : (drawn : Option (List ℕ)) (nonce : List ℕ) (words : List (List ℕ)) → IsNonce drawn nonce words → length words ≡ nonce_words drawn
+nonce_long drawn nonce words (was_drawn is none) = ap (λ (l : List (List ℕ)). length l) none ∙ sym (ap (λ (o : Option (List ℕ)). nonce_words o) is)
+nonce_long drawn nonce words (of_words first second is same are) = ap (λ (l : List (List ℕ)). length l) are ∙ sym (ap (λ (o : Option (List ℕ)). nonce_words o) is)
+
+-- as many words as a flush of the session takes
+abbrev pub AsManyAsFlush : SessionState → List (List ℕ) → Type 0
+AsManyAsFlush old words = length words ≡ nonce_words old.drawn + length old.tree.dirty
+
+-- fewer words than that
 abbrev pub TooFewToFlush : SessionState → List (List ℕ) → Type 0
 TooFewToFlush old words = length words < nonce_words old.drawn + length old.tree.dirty
 
@@ -102,9 +111,9 @@ HasSwapped name these = Contains these (Answer.Swapped (side_of name) name)
 -- how a flush ended, with what it left on the disk
 pub data FlushEnds (result : Result (Unit {0}) FlushFault) (old new : SessionState) (before after : HostState) (random random' : WordsState) : Type 0 where
   not_begun : (words : List (List ℕ)) → TooFewToFlush old words → SeenOf [] words false true before after random random' → new ≡ old → after ≡ before → result ≡ Err faults.Words → FlushEnds result old new before after random random'
-  not_ended : (blame : Blame) (these : List Answer) (words : List (List ℕ)) → SeenOf these words (host_blamed blame) false before after random random' → BlamesFlush old.name these blame
+  not_ended : (blame : Blame) (these : List Answer) (words : List (List ℕ)) → AsManyAsFlush old words → SeenOf these words (host_blamed blame) false before after random random' → BlamesFlush old.name these blame
       → SealsWith old words (λ base next. Replaces false old.key old.name base next before after) → new.key ≡ old.key → new.name ≡ old.name → new.broken ≡ true → result ≡ Err (fault_of blame) → FlushEnds result old new before after random random'
-  was_ended : (these : List Answer) (words : List (List ℕ)) → SeenOf these words false false before after random random' → HasSwapped old.name these → SealsWith old words (λ base next. StandsOn next new × Replaces true old.key old.name base next before after × StandsNext old.key old.name base next before after) → {nonce : List ℕ} {tree : TreeState}
+  was_ended : (these : List Answer) (words : List (List ℕ)) → AsManyAsFlush old words → SeenOf these words false false before after random random' → HasSwapped old.name these → SealsWith old words (λ base next. StandsOn next new × Replaces true old.key old.name base next before after × StandsNext old.key old.name base next before after) → {nonce : List ℕ} {tree : TreeState}
       → new ≡ record old { nonce = nonce; drawn = None; tree = tree; changed = false } → new.tree.dirty ≡ [] → result ≡ Ok tt → FlushEnds result old new before after random random'
 
 -- how a flush ended: no word came; or it sealed and failed; or it sealed
@@ -150,22 +159,28 @@ module _ (old : SessionState) (mine : IsOfScript old) (new : SessionState) (befo
       at_the_end : HasSwapped old.name (steps_by false old nonce keys blocks mid)
       at_the_end = Contains-append_right (Made (side_of old.name) ∷ []) (inside ++ last ∷ []) last (Contains-push inside last)
 
+  as_many : (nonce : List ℕ) (keys : List (List ℕ)) (came : WordsCame old.drawn (length old.tree.dirty) nonce keys random random') → AsManyAsFlush old (came.words ++ keys)
+  as_many nonce keys came =
+      let long = nonce_long old.drawn nonce came.words came.is_nonce in
+      let each = came.are_keys.one_each in
+      omega (arith, length-append came.words keys, long, each)
+
   pub seal_ends : (result : Result (Unit {0}) FlushFault) (nonce : List ℕ) (keys : List (List ℕ)) → WordsCame old.drawn (length old.tree.dirty) nonce keys random random' → SealGoes result nonce keys old new before after
       → FlushEnds result old new before after random random'
   seal_ends result nonce keys came (node_short damage named short seals same said) =
-      not_ended (ByDamage damage) (Made (side_of old.name) ∷ copied old.name (side_of old.name) short.done short.blocks ++ Gave old.name (4096 * damage.node) 4096 short.block ∷ []) (came.words ++ keys)
+      not_ended (ByDamage damage) (Made (side_of old.name) ∷ copied old.name (side_of old.name) short.done short.blocks ++ Gave old.name (4096 * damage.node) 4096 short.block ∷ []) (came.words ++ keys) (as_many nonce keys came)
       (record { told = short.asked.told; taken = came.took.told; on_host = short.asked.faults; on_words = came.took.calm })
       (short_of damage short)
       (λ base linked backed. let on = seals base linked backed in (on.next, seals_own false nonce keys base came on, on.named mine.named))
       (ap (λ (s : SessionState). s.key) same) (ap (λ (s : SessionState). s.name) same) (ap (λ (s : SessionState). s.broken) same) said
   seal_ends result nonce keys came (call_failed stopped beside seals shape same said) =
-      not_ended ByHost stopped.stopped.answered (came.words ++ keys)
+      not_ended ByHost stopped.stopped.answered (came.words ++ keys) (as_many nonce keys came)
       (record { told = stopped.stopped.asked.told; taken = came.took.told; on_host = counted_kind stopped.stopped.failed before.faults after.faults stopped.stopped.asked.faults; on_words = came.took.calm })
       tt
       (λ base linked backed. let on = seals base linked backed in (on.next, seals_own false nonce keys base came on, on.named mine.named))
       (ap (λ (s : SessionState). s.key) same) (ap (λ (s : SessionState). s.name) same) (ap (λ (s : SessionState). s.broken) same) said
   seal_ends result nonce keys came (flushed mid is_done beside settled seals same said) =
-      was_ended _ (came.words ++ keys)
+      was_ended _ (came.words ++ keys) (as_many nonce keys came)
       (record { told = is_done.asked.told; taken = came.took.told; on_host = is_done.asked.faults; on_words = came.took.calm })
       (swaps nonce keys is_done.blocks mid)
       (λ base linked backed.
@@ -190,6 +205,6 @@ module _ (old : SessionState) (mine : IsOfScript old) (new : SessionState) (befo
     where
       by_end : FlushEnds result old new before after random random' → FlushCase result old new before after random random'
       by_end (not_begun words fewer seen same stays said) = lacked words fewer seen same stays said
-      by_end (not_ended blame these words seen blames seals key_is name_is broken said) =
+      by_end (not_ended blame these words counted seen blames seals key_is name_is broken said) =
           failed blame these words seen blames (λ base linked backed. let on = seals base linked backed in (on.0, on.1, tt)) key_is name_is broken said
-      by_end (was_ended these words seen swapped seals same dirty said) = done these words seen swapped (λ base linked backed. let on = seals base linked backed in (on.0, on.1, on.2.0)) same dirty said
+      by_end (was_ended these words counted seen swapped seals same dirty said) = done these words seen swapped (λ base linked backed. let on = seals base linked backed in (on.0, on.1, on.2.0)) same dirty said

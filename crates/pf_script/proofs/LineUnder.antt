@@ -27,7 +27,7 @@ use Rattle.pf_script.specs.declared.reply.Reply.{Reply}
 use Rattle.pf_script.specs.declared.reply.Reply.TheVariants as replies
 use Rattle.pf_script.proofs.ActKeeping.{unchanged_now}
 use Rattle.pf_script.proofs.CallKeeping.{read_image}
-use Rattle.pf_script.proofs.ChangeLeft.{ChangeIn}
+use Rattle.pf_script.proofs.ChangeLeft.{ChangeIn, wordless_keeps}
 use Rattle.pf_script.proofs.ChangeLine.{outcome_reply, none_made}
 use Rattle.pf_script.proofs.ChangeTold.{Outcome, Went, Broke, Lacked, Wanted, Grew}
 use Rattle.pf_script.proofs.ChangeOver.{begins_over, change_over, ends_over, on_files}
@@ -80,6 +80,7 @@ module _ (key : List ℕ) (line : ScriptLine) (may : MayFlush line) (old new : S
     line_under (Went flushed) is = record {
       seen = seen_by is.these is.words false false;
       was_seen = record { answers = is.told; words = is.taken; of_host = is.on_host; of_words = is.on_words };
+      wordless = λ change undrawn none. wordless_keeps step old new before after is.words (Went flushed) undrawn none is.left;
       under = on_disk key false line (seen_by is.these is.words false false) (replied flushed) old whole (Some new) before after (answered flushed) may seated.of_script.is_target (λ n has. has ∙ named) keeps aside
           (λ a b is_a is_b ran book seats agrees base on.
           let own = seat_on base old in
@@ -111,6 +112,7 @@ module _ (key : List ℕ) (line : ScriptLine) (may : MayFlush line) (old new : S
     line_under (Broke blame) is = record {
       seen = seen_by is.these is.words (host_blamed blame) false;
       was_seen = record { answers = is.told; words = is.taken; of_host = is.on_host; of_words = is.on_words };
+      wordless = λ change undrawn none. wordless_keeps step old new before after is.words (Broke blame) undrawn none is.left;
       under = on_disk key false line (seen_by is.these is.words (host_blamed blame) false) (flush_reply (fault_of blame)) old whole (Some new) before after (blame_answered blame) may seated.of_script.is_target (λ n has. has ∙ named) keeps aside
           (λ a b is_a is_b ran book seats agrees base on.
           let standing = stands_on key (reading a.now) in
@@ -127,6 +129,7 @@ module _ (key : List ℕ) (line : ScriptLine) (may : MayFlush line) (old new : S
     line_under Lacked is = record {
       seen = seen_by is.these is.words false true;
       was_seen = record { answers = is.told; words = is.taken; of_host = is.on_host; of_words = is.on_words };
+      wordless = λ change undrawn none. wordless_keeps step old new before after is.words Lacked undrawn none is.left;
       under = on_disk key false line (seen_by is.these is.words false true) replies.WordsFault old whole (Some new) before after tt may seated.of_script.is_target (λ n has. has ∙ named) keeps aside
           (λ a b is_a is_b ran book seats agrees base on.
           let standing = stands_on key (reading a.now) in

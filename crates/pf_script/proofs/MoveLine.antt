@@ -84,8 +84,8 @@ pub record FlushedFirst (old mid : SessionState) (nonce : List ℕ) (start betwe
 module _ (old : SessionState) (mine : IsOfScript old) (whole : old.broken ≡ false) (undirty : old.changed ≡ false → old.tree.dirty ≡ []) (mid : SessionState) (nonce : List ℕ) (start between : HostState) (random random' : WordsState) where
   ended_first : (keys : List (List ℕ)) (middle : WordsState) → old.changed ≡ true → mid.tree.size ≡ old.tree.size → IsDrawn nonce middle random' → FlushEnds (Ok tt) old mid start between random middle → FlushedFirst old mid nonce start between random random'
   ended_first keys middle was size_is drawn (not_begun words fewer seen same stays said) = absurd (cc)
-  ended_first keys middle was size_is drawn (not_ended blame these words seen blames seals key_is name_is broken said) = absurd (cc)
-  ended_first keys middle was size_is drawn (was_ended these words seen swapped seals same dirty said) = record {
+  ended_first keys middle was size_is drawn (not_ended blame these words counted seen blames seals key_is name_is broken said) = absurd (cc)
+  ended_first keys middle was size_is drawn (was_ended these words counted seen swapped seals same dirty said) = record {
     these = these;
     told = seen.told;
     on_host = seen.on_host;
@@ -338,8 +338,8 @@ module _ (key : List ℕ) (k : ℕ) (to : Name) (old : SessionState) (seated : I
     unflushed : (start : HostState) (fault : FlushFault) → IsFree to before start → (fails : FlushFails fault old new start after random random') → FlushEnds (Err fault) old new start after random fails.between
         → SeatGoes key false line (move_reply (Err (move_of_flush fault))) (Some old) (Some new) before after random random'
     unflushed start fault free fails (not_begun words fewer seen same stays said) = absurd (never_lacks fault fails.sealed fails.keys old new start after fails.goes said)
-    unflushed start fault free fails (was_ended these words seen swapped seals same dirty said) = absurd (cc)
-    unflushed start fault free fails (not_ended blame these words seen blames seals key_is name_is broken said) =
+    unflushed start fault free fails (was_ended these words counted seen swapped seals same dirty said) = absurd (cc)
+    unflushed start fault free fails (not_ended blame these words counted seen blames seals key_is name_is broken said) =
         let first = fails.drawn.first in
         let second = fails.drawn.second in
         let all = words ++ first ∷ second ∷ [] in

@@ -84,6 +84,7 @@ module _ (key : List ℕ) (k : ℕ) (to : Name) (old : SessionState) (seated : I
   idle reply these words of_host of_words same only told taken on_host on_words turn over = record {
     seen = seen_by these words of_host of_words;
     was_seen = record { answers = told; words = taken; of_host = on_host; of_words = on_words };
+    wordless = λ change. absurd change;
     under = both_weaker Unchanged (SeatUnder key false line (seen_by these words of_host of_words) reply (Some old) (Some new)) before.honest after.honest only
         (λ a b only_ab. own_idle key false line (seen_by these words of_host of_words) reply old whole (Some new) (ap (λ (s : SessionState). Some s) same) a b only_ab (λ base. turn (stands_on key (reading a.now)) base));
     over = both_with Unchanged (SeatFiles key false line (seen_by these words of_host of_words) reply (Some old) (Some new)) before.honest after.honest only
@@ -174,8 +175,8 @@ module _ (key : List ℕ) (k : ℕ) (to : Name) (old : SessionState) (seated : I
     unflushed : (start : HostState) (fault : FlushFault) → IsFree to before start → (fails : FlushFails fault old new start after random random') → FlushEnds (Err fault) old new start after random fails.between → UndamagedMove (Err (move_of_flush fault)) old before
         → SeatBooked key false line (move_reply (Err (move_of_flush fault))) (Some old) (Some new) before after random random'
     unflushed start fault free fails (not_begun words fewer seen same stays said) undamaged = absurd (never_lacks fault fails.sealed fails.keys old new start after fails.goes said)
-    unflushed start fault free fails (was_ended these words seen swapped seals same dirty said) undamaged = absurd (cc)
-    unflushed start fault free fails (not_ended blame these words seen blames seals key_is name_is broken said) undamaged =
+    unflushed start fault free fails (was_ended these words counted seen swapped seals same dirty said) undamaged = absurd (cc)
+    unflushed start fault free fails (not_ended blame these words counted seen blames seals key_is name_is broken said) undamaged =
         let first = fails.drawn.first in
         let second = fails.drawn.second in
         let all = words ++ first ∷ second ∷ [] in
@@ -191,6 +192,7 @@ module _ (key : List ℕ) (k : ℕ) (to : Name) (old : SessionState) (seated : I
             of_host = subst (λ n. CountsFault (host_blamed blame) n after.faults) free.looks.asked.asked.faults seen.on_host;
             of_words = fails.drawn.took.calm ∙ seen.on_words;
           };
+          wordless = λ change. absurd change;
           under = on_move (seen_by given all (host_blamed blame) false) (flush_reply (fault_of blame)) (blame_answered blame) (flushes_freely start free fails.aside name_is)
               (λ a b is_a is_b ran book seats agrees base on.
               let m = on_to Unchanged before.honest start.honest a is_a free.looks.disk in
@@ -279,6 +281,7 @@ module _ (key : List ℕ) (k : ℕ) (to : Name) (old : SessionState) (seated : I
           (record {
             seen = seen_by (all_given by.these) all_words (host_blamed by.blame) false;
             was_seen = was_seen by.these (host_blamed by.blame) by.told by.on_host;
+            wordless = λ change. absurd change;
             under = on_move (seen_by (all_given by.these) all_words (host_blamed by.blame) false) (flush_reply (fault_of by.blame)) (blame_answered by.blame)
                 (moves_freely start free false (inl (ap (λ (s : SessionState). s.broken) same)))
                 (λ a b is_a is_b ran book seats agrees base on.
@@ -320,6 +323,7 @@ module _ (key : List ℕ) (k : ℕ) (to : Name) (old : SessionState) (seated : I
       carried more told calm moves same = record {
         seen = seen_by (all_given more) all_words false false;
         was_seen = was_seen more false told calm;
+        wordless = λ change. absurd change;
         under = on_move (seen_by (all_given more) all_words false false) replies.Moved tt (moves_freely start free true (inr (ap (λ (s : SessionState). s.name) same)))
             (λ a b is_a is_b ran book seats agrees base on.
             let own = seat_on base old in

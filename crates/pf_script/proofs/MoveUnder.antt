@@ -93,8 +93,8 @@ module _ (key : List ℕ) (old : SessionState) (seated : IsSeated key old) (whol
     where
       by_end : FlushEnds (Ok tt) old mid start between random words_mid → FirstIn mid nonce start between random random'
       by_end (not_begun words fewer seen same stays said) = absurd (cc)
-      by_end (not_ended blame these words seen blames seals key_is name_is broken said) = absurd (cc)
-      by_end (was_ended these words seen swapped seals same dirty said) = record {
+      by_end (not_ended blame these words counted seen blames seals key_is name_is broken said) = absurd (cc)
+      by_end (was_ended these words counted seen swapped seals same dirty said) = record {
         these = these;
         words = words;
         words_mid = words_mid;

@@ -221,6 +221,7 @@ module _ (key : List ℕ) (line : ScriptLine) (name : Name) (names : name_of_lin
     booked = record {
       seen = seen_by these words of_host of_words;
       was_seen = seen_in these words of_host of_words before after random random' seen;
+      wordless = λ change undrawn none. only;
       under = both_with Unchanged (SeatUnder key false line (seen_by these words of_host of_words) reply None None) before.honest after.honest only
           (λ a b is is2 only_ab. not_there (seen_by these words of_host of_words) reply a b only_ab (turn _));
       over = both_with Unchanged (SeatFiles key false line (seen_by these words of_host of_words) reply None None) before.honest after.honest only

@@ -319,7 +319,7 @@ module _ (key : List ℕ) (k : ℕ) (name : Name) (utf8 : IsUtf8 name) (before a
         named = λ n has. concerns key line name refl n has;
         spares = spares_kept (Concerns false line None) before after only;
       };
-      booked = record { seen = seen; was_seen = seen_in came [] false false before after words words (seen_of came false told calm); under = under goes either; over = over };
+      booked = record { seen = seen; was_seen = seen_in came [] false false before after words words (seen_of came false told calm); wordless = λ change. absurd change; under = under goes either; over = over };
     }
 
   bad_name : {given : List Answer} → ¬ (AreGood name (Some name)) → IsFirstRule (opening_rules key name given) whys.BadName

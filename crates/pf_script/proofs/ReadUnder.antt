@@ -50,6 +50,7 @@ module _ (key : List ℕ) (k at count : ℕ) (old : SessionState) (seated : IsSe
   by_turn r of_host reply standing counts answered turn = record {
     seen = seen_by reads.these [] of_host false;
     was_seen = record { answers = reads.answered.told; words = none_taken words; of_host = counts; of_words = refl };
+    wordless = λ change. absurd change;
     under = on_disk_reads key false line (seen_by reads.these [] of_host false) reply old whole (Some new) before after answered (λ n has. has ∙ ap (λ (s : SessionState). s.name) fields) disk
         (λ a b is_a is_b only book seats agrees base on.
         let stands = stood_read old seated.of_script new r at buffer before a is_a standing base on.stood on.kept.backed in record {

@@ -1,5 +1,5 @@
 -- The line `size` under a book, from the pieces that were set.
-use Rattle.std.proofs.Common.{◌≡◌, ◌≢◌, ◌+◌, ◌≤◌, ◌^◌, inl, Bool, true, false, List, [], ◌∷◌, ◌++◌, ℕ, refl, sym, ◌∙◌, subst, Some, Result, arith, length, append_assoc}
+use Rattle.std.proofs.Common.{◌≡◌, ◌≢◌, ◌+◌, ◌≤◌, ◌^◌, inl, Bool, true, false, List, [], ◌∷◌, ◌++◌, ℕ, refl, sym, ◌∙◌, ap, subst, Some, None, Result, arith, length, append_assoc}
 use Rattle.std.proofs.lemmas.List.{append-nil}
 use Rattle.std.specs.Prelude.{Contains}
 use Rattle.node_tree.specs.Applying.{Step, Size}
@@ -8,15 +8,16 @@ use Rattle.pf_io.specs.Disk.{Name, IsImage, reading}
 use Rattle.pf_io.specs.Host.{Answer, HostState, Both, IsMore, OnDisk}
 use Rattle.pf_io.specs.Moments.{Honest, Ran}
 use Rattle.pf_io.specs.Names.{IsTarget}
+use Rattle.pf_io.specs.Unchanged.{KeepsDisk}
 use Rattle.pf_io.specs.Words.{WordsState}
 use Rattle.pf_io.specs.declared.faults.Memory.{Memory}
-use Rattle.pf_io.proofs.Telling.{both_weaker}
+use Rattle.pf_io.proofs.Telling.{both_same, both_then, both_weaker}
 use Rattle.pf_session.specs.Asking.{IsTaken as AreTaken}
 use Rattle.pf_session.specs.Aside.{LeavesApart, KeepsApart}
 use Rattle.pf_session.specs.State.{SessionState}
 use Rattle.pf_session.specs.declared.fault.SizeFault.{SizeFault}
 use Rattle.pf_script.specs.Book.{Book, Seal, Agrees}
-use Rattle.pf_script.specs.BookDebts.{seat_of}
+use Rattle.pf_script.specs.BookDebts.{Unchanged, seat_of}
 use Rattle.pf_script.specs.BookSeats.{IsOfScript, Covers, KeepsUnder}
 use Rattle.pf_script.specs.BookTurns.{of_book, SeatBooked}
 use Rattle.pf_script.specs.FileTurns.{stands_on}
@@ -31,9 +32,11 @@ use Rattle.pf_script.specs.declared.line.ScriptLine.{ScriptLine}
 use Rattle.pf_script.specs.declared.line.ScriptLine.TheVariants as lines
 use Rattle.pf_script.specs.declared.reply.Reply.{Reply}
 use Rattle.pf_script.specs.declared.reply.Reply.TheVariants as replies
+use Rattle.pf_script.proofs.ActKeeping.{unchanged_now}
+use Rattle.pf_script.proofs.Composing.{only_then}
 use Rattle.pf_script.proofs.CallKeeping.{at_both, on_to, read_image}
 use Rattle.pf_script.proofs.ChangeLine.{outcome_reply}
-use Rattle.pf_script.proofs.ChangeLeft.{ChangeLeft}
+use Rattle.pf_script.proofs.ChangeLeft.{ChangeLeft, wordless_keeps, wordless_undrawn}
 use Rattle.pf_script.proofs.ChangeTold.{Outcome, Went, Broke, Lacked, Wanted, host_in, words_in}
 use Rattle.pf_script.proofs.ChangeOver.{begins_over, ends_over, on_files}
 use Rattle.pf_script.proofs.ChangeUnder.{Progress, Fell, change_known}
@@ -49,6 +52,24 @@ use Rattle.pf_script.proofs.SizeOver.{same_host, size_over}
 use Rattle.pf_script.proofs.SizeSeen.{sized, size_result}
 use Rattle.pf_script.proofs.SizeTold.{resize_steps, GoesOn, next_steps, last_step}
 use Rattle.pf_script.proofs.Under.{blame_answered, OnBase, on_disk_by}
+
+-- Without words no piece was flushed first, where no nonce was drawn: the disk stays.
+no_front : (words more : List (List ℕ)) → words ++ more ≡ [] → words ≡ []
+no_front [] more none = refl
+no_front (word ∷ words) more none = absurd (cc)
+
+no_back : (words more : List (List ℕ)) → words ++ more ≡ [] → more ≡ []
+no_back [] more none = none
+no_back (word ∷ words) more none = absurd (cc)
+
+size_wordless : (size : ℕ) (old new : SessionState) (before after : HostState) (words : List (List ℕ)) (outcome : Outcome) → old.drawn ≡ None → words ≡ [] → SizeLeft size old new before after words outcome → KeepsDisk before after
+size_wordless size old new before after _ _ undrawn none (kept_size _ _ _ _ size_is is stays) = both_same Unchanged before.honest after.honest (ap (λ (h : HostState). h.honest) stays) (λ a. unchanged_now a)
+size_wordless size old new before after words outcome undrawn none (one_change _ _ _ _ n _ _ mine next other whole aside reads left) = wordless_keeps (Size n) old new before after words outcome undrawn none left
+size_wordless size old new before after _ outcome undrawn none (one_piece _ mid _ _ between _ one more flushed _ mine far size_is aside reads left rest) =
+    let step = Size (old.tree.size + 32768) in
+    let front = no_front one more none in
+    both_then Unchanged Unchanged Unchanged before.honest between.honest after.honest (wordless_keeps step old mid before between one (Went flushed) undrawn front left)
+    (size_wordless size mid new between after more outcome (wordless_undrawn step old mid before between one (Went flushed) undrawn front left) (no_back one more none) rest) only_then
 
 module _ (key : List ℕ) (k size : ℕ) (own : OwnSeat) (book : Book) (seats : List Seal) (a : Honest) (agrees : Agrees book seats a.now) (image : IsImage a.now (reading a.now)) (first : Sheet) (target : IsTarget own.name) (standing : Standing)
     (passes : (these : List Answer) → NoneRefuses (rules key false (Own own) (lines.Size k size) these)) (b : Honest) (new : SessionState) (all : List (List ℕ)) where
@@ -143,6 +164,7 @@ module _ (key : List ℕ) (k size : ℕ) (small : size ≤ 2 ^ 32) (old new : Se
   by_outcome (Went flushed) these words told taken on_host on_words left = record {
     seen = seen_by these words false false;
     was_seen = record { answers = told; words = taken; of_host = on_host; of_words = on_words };
+    wordless = λ change undrawn none. size_wordless size old new before after words (Went flushed) undrawn none left;
     under = on_disk_by Anything key false line (seen_by these words false false) (replies.Sized size) old whole (Some new) before after tt (λ seat deed is. is) seated.of_script.is_target (λ n has. has ∙ named) keeps anything
         (λ a b is_a is_b ran book seats agrees base on.
         let own = seat_on base old in
@@ -171,6 +193,7 @@ module _ (key : List ℕ) (k size : ℕ) (small : size ≤ 2 ^ 32) (old new : Se
   by_outcome (Broke blame) these words told taken on_host on_words left = record {
     seen = seen_by these words (host_blamed blame) false;
     was_seen = record { answers = told; words = taken; of_host = on_host; of_words = on_words };
+    wordless = λ change undrawn none. size_wordless size old new before after words (Broke blame) undrawn none left;
     under = on_disk_by Anything key false line (seen_by these words (host_blamed blame) false) (flush_reply (fault_of blame)) old whole (Some new) before after (blame_answered blame) (λ seat deed is. is) seated.of_script.is_target (λ n has. has ∙ named) keeps anything
         (λ a b is_a is_b ran book seats agrees base on.
         fell_under key line (λ seat deed is. is) old new seated (seen_by these words (host_blamed blame) false) (flush_reply (fault_of blame)) (blame_answered blame) these words (host_blamed blame) false refl a b book seats agrees base on.image
@@ -184,6 +207,7 @@ module _ (key : List ℕ) (k size : ℕ) (small : size ≤ 2 ^ 32) (old new : Se
   by_outcome Lacked these words told taken on_host on_words left = record {
     seen = seen_by these words false true;
     was_seen = record { answers = told; words = taken; of_host = on_host; of_words = on_words };
+    wordless = λ change undrawn none. size_wordless size old new before after words Lacked undrawn none left;
     under = on_disk_by Anything key false line (seen_by these words false true) replies.WordsFault old whole (Some new) before after tt (λ seat deed is. is) seated.of_script.is_target (λ n has. has ∙ named) keeps anything
         (λ a b is_a is_b ran book seats agrees base on.
         fell_under key line (λ seat deed is. is) old new seated (seen_by these words false true) replies.WordsFault tt these words false true refl a b book seats agrees base on.image

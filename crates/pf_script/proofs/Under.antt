@@ -304,6 +304,7 @@ pub refused_agrees : (key : List ℕ) (taken : Bool) (line : ScriptLine) (why : 
 refused_agrees key taken line why old host words first = record {
   seen = idle_seen;
   was_seen = record { answers = told_none host host refl; words = none_taken words; of_host = refl; of_words = refl };
+  wordless = λ change undrawn none. both_same Unchanged host.honest host.honest refl (λ a. unchanged_now a);
   under = both_same (SeatUnder key taken line idle_seen (replies.Refused why) old old) host.honest host.honest refl
       (λ a book seats seat agrees reads shows. record {
         acts = [];

@@ -14,6 +14,7 @@ use Rattle.pf_session.specs.Faults.{write_of_flush, write_of_tree}
 use Rattle.pf_session.specs.State.{SessionState}
 use Rattle.pf_session.specs.declared.fault.Written.{Written}
 use Rattle.pf_session.specs.declared.fault.WriteFault.{WriteFault}
+use Rattle.pf_script.specs.BookDebts.{Unchanged}
 use Rattle.pf_script.specs.BookSeats.{Covers, KeepsUnder}
 use Rattle.pf_script.specs.BookTurns.{SeatUnder, SeatBooked}
 use Rattle.pf_script.specs.Desk.{IsSeated, seat_on}
@@ -47,6 +48,7 @@ pub idle_booked : (key : List ℕ) (line : ScriptLine) (reply : Reply) (old : Se
 idle_booked key line reply old whole host words turn = record {
   seen = idle_seen;
   was_seen = record { answers = told_none host host refl; words = none_taken words; of_host = refl; of_words = refl };
+  wordless = λ change undrawn none. both_same Unchanged host.honest host.honest refl (λ a. unchanged_now a);
   under = both_same (SeatUnder key false line idle_seen reply (Some old) (Some old)) host.honest host.honest refl
       (λ a. own_idle key false line idle_seen reply old whole (Some old) refl a a (unchanged_now a) (λ base. turn (stands_on key (reading a.now)) base []));
   over = both_same (SeatFiles key false line idle_seen reply (Some old) (Some old)) host.honest host.honest refl

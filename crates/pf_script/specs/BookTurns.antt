@@ -4,6 +4,7 @@ use Rattle.node_tree.specs.Sheet.{Sheet}
 use Rattle.pf_io.specs.Disk.{Name, IsImage, reading}
 use Rattle.pf_io.specs.Host.{HostState, Both, IsMore, OnDisk}
 use Rattle.pf_io.specs.Moments.{Honest}
+use Rattle.pf_io.specs.Unchanged.{KeepsDisk}
 use Rattle.pf_io.specs.Words.{WordsState}
 use Rattle.pf_io.specs.declared.faults.Memory.{Memory}
 use Rattle.pf_session.specs.Asking.{IsTaken as AreTaken}
@@ -14,7 +15,7 @@ use Rattle.pf_script.specs.BookActs.{Deed, Opening, Creation, Flush, Move, Act, 
 use Rattle.pf_script.specs.BookDebts.{DidAll, seat_of}
 use Rattle.pf_script.specs.BookSeats.{SparesSeats}
 use Rattle.pf_script.specs.Desk.{DeskState, session_at, seat_on}
-use Rattle.pf_script.specs.DeskSteps.{CountsFault, Concerns, WhereReplied}
+use Rattle.pf_script.specs.DeskSteps.{CountsFault, Concerns, IsChange, WhereReplied}
 use Rattle.pf_script.specs.Script.{OwnSeat, Seat, Empty, Own, ScriptState, seat_at, HasThisName, seat_of_line}
 use Rattle.pf_script.specs.FileTurns.{stands_on, SeatFiles, DeskFiles}
 use Rattle.pf_script.specs.Turns.{Seen, SeatTurn, Turn}
@@ -108,11 +109,18 @@ abbrev pub SeatUnder : List ℕ → Bool → ScriptLine → Seen → Reply → O
 SeatUnder key taken line seen reply old new a b =
     (book : Book) (seats : List Seal) (seat : Seat) → Agrees book seats a.now → IsImage a.now (reading a.now) → ShowsUnder book seats seat old → LineUnder key taken line seen reply old new book seats seat a b
 
+-- no nonce was drawn for the next sealing
+abbrev pub IsUndrawn : Option SessionState → Type 0
+IsUndrawn None = ⊤
+IsUndrawn (Some session) = session.drawn ≡ None
+
 pub record SeatAgrees (key : List ℕ) (taken : Bool) (line : ScriptLine) (reply : Reply) (old new : Option SessionState) (before after : HostState) (random random' : WordsState) : Type 0 where
   pub seen : Seen
   pub was_seen : SeenIn seen before after random random'
   pub under : OnDisk before after (SeatUnder key taken line seen reply old new)
   pub over : OnDisk before after (SeatFiles key taken line seen reply old new)
+  -- a change seals with random words alone: where it took none, and no nonce was drawn before, the disk stays
+  pub wordless : IsChange line → IsUndrawn old → seen.words ≡ [] → KeepsDisk before after
 
 -- a line on one seat that was replied to
 abbrev pub SeatBooked : List ℕ → Bool → ScriptLine → Result Reply Memory → Option SessionState → Option SessionState → HostState → HostState → WordsState → WordsState → Type 0
@@ -153,6 +161,7 @@ pub record DeskAgrees (line : ScriptLine) (reply : Reply) (old new : DeskState) 
   pub was_seen : SeenIn seen before after random random'
   pub under : OnDisk before after (DeskUnder line seen reply old new)
   pub over : OnDisk before after (DeskFiles line seen reply old new)
+  pub wordless : IsChange line → (k : ℕ) → seat_of_line line ≡ Some k → IsUndrawn (session_at old k) → seen.words ≡ [] → KeepsDisk before after
 
 -- a line on a desk that was replied to
 abbrev pub DeskBooked : ScriptLine → Result Reply Memory → DeskState → DeskState → HostState → HostState → WordsState → WordsState → Type 0
