@@ -232,9 +232,9 @@ impl Desk {
 
     /// Does what a line asks for, and replies to it.
     ///
-    /// A refusal by rule, and want of memory, leave all seats as they were. A host fault or a damage of a change leaves its
-    /// seat broken, and want of memory of a `write`, `fill` or `size` may do so too. A blank line, `view`, `flush`, `draw`
-    /// and `close` want no memory.
+    /// A refusal by rule leaves all seats as they were, and so does want of memory, but for further nodes that a session holds.
+    /// A host fault or a damage of a change leaves its seat broken, and want of memory of a `write`, `fill` or `size` may do
+    /// so too. A blank line, `view`, `flush`, `draw` and `close` want no memory.
     pub fn step<H: Host, R: Words>(
         &mut self,
         host: &mut H,
