@@ -3,6 +3,8 @@
 
 mod chain;
 mod metadata;
+#[cfg(test)]
+mod tests;
 mod vectors;
 
 pub use chain::cmac;

@@ -1,10 +1,8 @@
-//! Tests of aes_gcm, cmac_kdf, node_layout and node_tree. They stand apart, so that each crate is proved once.
+//! Tests of aes_gcm, node_layout and node_tree. They stand apart, so that each crate is proved once.
 #![tactic(auto)]
 
 #[cfg(test)]
 mod block_tests;
-#[cfg(test)]
-mod cmac_tests;
 #[cfg(test)]
 mod edit_tests;
 #[cfg(test)]

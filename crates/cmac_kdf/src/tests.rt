@@ -1,6 +1,6 @@
 // The published examples of SP 800-38B, D.1, and a key that Python's cryptography computed.
+use crate::{cmac, metadata_key};
 use aes_gcm::Key;
-use cmac_kdf::{cmac, metadata_key};
 
 const KEY: [u8; 16] = [
     0x2b, 0x7e, 0x15, 0x16, 0x28, 0xae, 0xd2, 0xa6, 0xab, 0xf7, 0x15, 0x88, 0x09, 0xcf, 0x4f, 0x3c,
