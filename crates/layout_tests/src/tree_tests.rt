@@ -149,10 +149,10 @@ pub(crate) fn expect_read(
 )
     requires { length to.old ≤ 32768 }
 {
-    assert_eq!(rt; tree.read(host, "a.pf", at, to), Ok(wanted), "at {at}");
+    assert!(rt; tree.read(host, "a.pf", at, to) == Ok(wanted), "at {at}");
     for (i, byte) in to.iter().take(wanted).enumerate() {
         let place = at.saturating_add(i as u64);
-        assert_eq!(rt; *byte, content_byte(place), "byte {place}");
+        assert!(rt; *byte == content_byte(place));
     }
 }
 
@@ -178,7 +178,7 @@ fn expect_content(rt: &impl Abort, alloc: Global, file: &[u8], size: u64)
 {
     let mut host = host_of(rt, alloc, file);
     let mut tree = tree_of(rt, alloc, file);
-    assert_eq!(rt; tree.size(), size);
+    assert!(rt; tree.size() == size);
     expect_pieces(rt, &mut tree, &mut host, size, &mut [0; 32768]);
 }
 
@@ -208,7 +208,7 @@ fn a_damaged_node_is_named_and_those_before_it_stay(rt: HostRuntime) {
     let mut host = host_of(&rt, rt.alloc(), &file);
     let mut to = [0; 100];
     let outcome = tree.read(&mut host, "a.pf", 3000, &mut to);
-    assert_eq!(rt; outcome, Err(damaged(2, Kind::Tag)));
+    assert!(rt; outcome == Err(damaged(2, Kind::Tag)));
     assert!(rt; tree.holds(1) && !tree.holds(2));
     if let Some(byte) = file.get_mut(8192) {
         *byte ^= 1;
@@ -230,10 +230,10 @@ fn a_short_node_and_a_failed_call_are_told_apart(rt: HostRuntime) {
     assert!(rt; host.fail_at(1).is_ok());
     let mut to = [0; 2];
     let outcome = tree.read(&mut host, "a.pf", 396_288, &mut to);
-    assert_eq!(rt; outcome, Err(TreeFault::Host));
+    assert!(rt; outcome == Err(TreeFault::Host));
     assert!(rt; tree.holds(1) && !tree.holds(98));
     let outcome = tree.read(&mut host, "a.pf", 396_288, &mut to);
-    assert_eq!(rt; outcome, Err(damaged(99, Kind::Short)));
+    assert!(rt; outcome == Err(damaged(99, Kind::Short)));
     let mut host = host_of(&rt, rt.alloc(), &file);
     expect_read(&rt, &mut tree, &mut host, 396_288, &mut to, 1);
 }

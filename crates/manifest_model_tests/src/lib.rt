@@ -1,5 +1,0 @@
-//! Tests of manifest_model. They stand apart, so that each of the two crates is proved once.
-#![tactic(auto)]
-
-#[cfg(test)]
-mod tests;
