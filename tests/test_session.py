@@ -41,9 +41,9 @@ def test_session_of_the_example():
 
 def test_session_writes_and_reads():
     answers(
-        b"create 0 c.pf\nwrite 0 0 68656c6c6f\nwrite 0 5 21\nwrite 0 7 00\nfill 0 0 32769 00\nwrite 0 4294967296 00\n"
+        b"create 0 c.pf\nwrite 0 0 68656c6c6f\nwrite 0 5 21\nwrite 0 7 00\nfill 0 0 32769 00\nwrite 0 0 " + b"00" * 32769 + b"\nwrite 0 4294967296 00\n"
         b"read 0 0 32769\nread 0 0 10\nread 0 6 1\nflush 0\nclose 0\n",
-        b"ok create\nok write 5\nok write 1\nrefused past end 6\nrefused too long\nrefused too large\nrefused too long\n"
+        b"ok create\nok write 5\nok write 1\nrefused past end 6\nrefused too long\nrefused too long\nrefused too large\nrefused too long\n"
         b"ok read 6 68656c6c6f21\nok read 0\nok flush\nok close\nend\n",
         3,
     )
