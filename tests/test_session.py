@@ -120,9 +120,75 @@ def test_session_moves():
     holds(b"hi", "g.pf")
 
 
+def test_session_lines_of_each_form():
+    script = [
+        ("", ""),
+        ("#", ""),
+        ("# create 0 a", ""),
+        ("create 7  a b ", "ok create"),
+        ("write 7 0 0aFf", "ok write 2"),
+        ("read 7 0 2", "ok read 2 0aff"),
+        ("fill 7 0 3 fF", "ok write 3"),
+        ("read 7 1 9", "ok read 2 ffff"),
+        ("write 7 4294967296 0aFf", "refused too large"),
+        ("size 7 18446744073709551615", "refused too large"),
+        ("size 7 5", "ok size 5"),
+        ("flush 7", "ok flush"),
+        ("move 7 d\u00e9.pf", "ok move"),
+        ("close 7", "ok close"),
+        ("open 1 d\u00e9.pf", "ok open 5"),
+        ("view 0 /app/hello", "refused no manifest"),
+        ("read 1 0 9", "ok read 5 ffffff0000"),
+    ]
+    answers("".join(f"{line}\n" for line, _ in script).encode(), "".join(f"{reply}\n" for _, reply in script if reply).encode() + b"end\n", 3)
+    same(sorted(os.listdir(".")), ["d\u00e9.pf", "in", "key"], "files")
+    ran = led("open 1 d\u00e9.pf\ndraw 1\ndraw 1\n".encode())
+    opened, first, second, end = ran.out.split(b"\n")[:4]
+    same((opened, first == second, len(first), end), (b"ok open 5", True, len("ok draw ") + 64, b"end"), f"draw ({ran.out})")
+
+
+def test_session_other_lines_are_bad():
+    lines = [b" ", b" # a", b"create", b"create ", b"create 0", b"create 0 ", b"create 8 a", b"create 00 a", b"create  0 a", b" create 0 a"]
+    lines += [b"Create 0 a", b"create\t0 a", b"create 0 \xff", b"create 0 a\xc3", b"created 0 a", b"view 0", b"view 0 "]
+    lines += [b"read 0 0", b"read 0 00 1", b"read 0 0 1 ", b"read 0  0 1", b"read 0 +1 1", b"size 0", b"size 0 18446744073709551616"]
+    lines += [b"write 0 0 ", b"write 0 0 6", b"write 0 0 6g", b"write 0 0 61 ", b"write 0 4294967296 0aF", b"fill 0 0 1 0", b"fill 0 0 1 000", b"fill 0 0 00"]
+    lines += [b"flush", b"flush 8", b"flush 0 ", b"draw -1", b"close 0\r", b"end"]
+    answers(b"".join(line + b"\n" for line in lines), len(lines) * b"refused bad line\n" + b"end\n", 3)
+    same(sorted(os.listdir(".")), ["in", "key"], "no file is made")
+
+
+def test_session_lines_up_to_the_limit():
+    """A longer line is skipped to its end, and lines are the same where they come in pieces."""
+    bad = b"refused bad line\n"
+    for count, behind, replies in [
+        (LONGEST, b"\nflush", bad),
+        (LONGEST, b"\nflush\n", bad),
+        (LONGEST, b"", b""),
+        (LONGEST + 1, b"\nflush\n", bad + bad),
+        (LONGEST + 1, b"", bad),
+        (3 * LONGEST, b"\nflush 0\n", bad + b"refused seat empty\n"),
+    ]:
+        script = b"#" * count + behind
+        answers(script, replies + b"end\n", 3 if replies else 0)
+        for size in (1000, 65537):
+            same(in_pieces(script, size), replies + b"end\n", f"{count} {behind} in pieces of {size}")
+    script = b"create 0 a.pf\n\nwrite 0 0 %s\r\n#\nwrite 0 0 %s\nread 0 32765 9\nread 0 0 32768" % (b"61" * 9, b"61" * 32768)
+    replies = b"ok create\n" + bad + b"ok write 32768\nok read 3 616161\nok read 32768 " + b"61" * 32768 + b"\nend\n"
+    same(in_pieces(script[:50], 1), b"ok create\n" + bad + b"end\n", "byte by byte")
+    os.remove("a.pf")
+    same(in_pieces(script, 997), replies, "in pieces")
+
+
+def in_pieces(script, size):
+    """What a session answers to a script that it is given in pieces."""
+    with subprocess.Popen(SESSION, stdin=subprocess.PIPE, stdout=subprocess.PIPE, bufsize=0) as session:
+        for at in range(0, len(script), size):
+            session.stdin.write(script[at : at + size])
+        session.stdin.close()
+        return session.stdout.read()
+
+
 def test_session_bad_lines():
-    long = b"#" * LONGEST
-    answers(long + b"\n" + long + b"#\nflush\n", b"refused bad line\nrefused bad line\nend\n", 3)
     answers(b"write 0 0 0\nflush 8\ncreate 0 \n flush 0\nfoo", 5 * b"refused bad line\n" + b"end\n", 3)
     answers(b"create 0 \xff\n", b"refused bad line\nend\n", 3)
 

@@ -35,7 +35,7 @@ use Rattle.pf_script.specs.Rules.{Rule, IsFirst, NoneRefuses, refuses, rules}
 use Rattle.pf_script.specs.Script.{Seat, Empty, Own}
 use Rattle.pf_script.specs.SeatReplies.{create_reply}
 use Rattle.pf_script.specs.SeatSteps.{SealsEmpty}
-use Rattle.pf_script.specs.Turns.{Seen, Failed, Standing, SeatTurn, refused, accepted, host_failed, words_failed, created as creates_file, not_asked, not_created, no_creation, new_seat, on_carried}
+use Rattle.pf_script.specs.Turns.{WasAbsent, Seen, Failed, Standing, SeatTurn, refused, accepted, host_failed, words_failed, created as creates_file, not_asked, not_created, no_creation, new_seat, on_carried}
 use Rattle.pf_script.specs.declared.line.ScriptLine.{ScriptLine}
 use Rattle.pf_script.specs.declared.line.ScriptLine.TheVariants as lines
 use Rattle.pf_script.specs.declared.reply.Reply.{Reply}
@@ -51,7 +51,7 @@ use Rattle.pf_script.proofs.OfScript.{of_created}
 use Rattle.pf_script.proofs.OnEmpty.{not_of, made_seat, BothHalves, empty_idle, concerns, spares_given, empty_goes, empty_wants, empty_under, empty_over, empty_turns, seat_first, seat_none}
 use Rattle.pf_script.proofs.OverGiven.{none_contained, no_host_fault, no_words_fault, on_reading, same_over}
 use Rattle.pf_script.proofs.Refusing.{none_taken}
-use Rattle.pf_script.proofs.SeatCalls.{seen_by, own_same}
+use Rattle.pf_script.proofs.SeatCalls.{told_absent, seen_by, own_same}
 use Rattle.pf_script.proofs.Seats.{seats_after, seat_is_left}
 use Rattle.pf_script.proofs.Under.{IsAnswered, idle_answered}
 
@@ -84,6 +84,11 @@ absent_until name node between after stopped size is =
 no_length : (name : Name) (file : Option (List ℕ)) → file ≡ None → (size : ℕ) → Contains (LengthWas name (length_of file) ∷ []) (LengthWas name (Some size)) → ⊥
 no_length name None none size = not_of (LengthWas name None) (LengthWas name (Some size)) [] (λ same. absurd (cc)) (λ none. absurd (omega (arith, none.1)))
 no_length name (Some file) none size = absurd (cc)
+
+-- so it is where the name has no file
+file_absent : (name : Name) (file : Option (List ℕ)) → file ≡ None → WasAbsent name (LengthWas name (length_of file) ∷ [])
+file_absent name None none = told_absent name []
+file_absent name (Some file) none = absurd (cc)
 
 -- a target for which no length came is not refused
 naming_none : (name : Name) (given : List Answer) → IsTarget name → ((size : ℕ) → ¬ (Contains given (LengthWas name (Some size)))) → NoneRefuses (naming_rules name given)
@@ -125,16 +130,16 @@ module _ (key : List ℕ) (k : ℕ) (name : Name) (utf8 : IsUtf8 name) (before a
     seals_empty linked = record { first = drawn.first; second = drawn.second; words_are = refl; sheet_is = ap (λ (n : List ℕ). empty_sheet name n) drawn.is; linked = linked }
 
     -- it may have sealed the sheet, and then failed at the host
-    fails_to_create : NoneRefuses (rules key false Empty line these) → IsLinked sheet → (standing : Standing) → SeatTurn standing key false Empty line (seen_by these words true false) replies.HostFault (act false ∷ []) Empty
-    fails_to_create none linked standing = host_failed none (record { host = refl; random = refl }) (not_created k name sheet (seals_empty linked)) refl
+    fails_to_create : WasAbsent name these → NoneRefuses (rules key false Empty line these) → IsLinked sheet → (standing : Standing) → SeatTurn standing key false Empty line (seen_by these words true false) replies.HostFault (act false ∷ []) Empty
+    fails_to_create absent none linked standing = host_failed none (record { host = refl; random = refl }) (not_created k name sheet absent (seals_empty linked)) refl
 
-    may_seal : (of_host done : Bool) → NoneRefuses (rules key false Empty line these) → IsLinked sheet → (sealed : List Sheet) → MaySeal (SomeSeatTurn key sealed false Empty line) (seen_by these words of_host false) (act done ∷ [])
-    may_seal of_host done none linked sealed = record {
+    may_seal : (of_host done : Bool) → WasAbsent name these → NoneRefuses (rules key false Empty line these) → IsLinked sheet → (sealed : List Sheet) → MaySeal (SomeSeatTurn key sealed false Empty line) (seen_by these words of_host false) (act done ∷ [])
+    may_seal of_host done absent none linked sealed = record {
       front = words;
       back = [];
       failed = act false ∷ [];
       in_order = sym (append-nil words);
-      goes = (Empty, fails_to_create none linked (on_carried key sealed));
+      goes = (Empty, fails_to_create absent none linked (on_carried key sealed));
       sheets = refl;
     }
 
@@ -222,7 +227,7 @@ module _ (key : List ℕ) (k : ℕ) (name : Name) (utf8 : IsUtf8 name) (before a
       subst (λ (r : Result SessionState CreateFault). Both (create_result name r) (made_seat r)) (sym said)
       (empty_idle key line name refl before after random random' (λ none. absurd none, tt) replies.WordsFault given fewer.words false true looks.disk
       (record { told = looks.asked.asked.told; taken = fewer.told; on_host = looks.asked.asked.faults; on_words = fewer.once }) refl refl
-      (λ standing. words_failed none (record { host = refl; random = refl }) (no_creation k name fewer.fewer) refl) none refl (λ a is calm. absurd (no_words_fault calm)))
+      (λ standing. words_failed none (record { host = refl; random = refl }) (no_creation k name (told_absent name []) fewer.fewer) refl) none refl (λ a is calm. absurd (no_words_fault calm)))
   by_case result aside reads keeps (create_stopped nonce between good looks drawn stopped said) =
       let those = stopped.stopped.answered in
       let these = LengthWas name None ∷ those in
@@ -235,12 +240,12 @@ module _ (key : List ℕ) (k : ℕ) (name : Name) (utf8 : IsUtf8 name) (before a
       } in
       let none : NoneRefuses (rules key false Empty line these) =
       seat_none (naming_rules name these) (naming_none name these good.is_target (absent_until name (empty_node key name nonce) between after stopped.stopped)) in
-      let turn : (standing : Standing) → SeatTurn standing key false Empty line (seen_by these words true false) replies.HostFault (act nonce these drawn false ∷ []) Empty = fails_to_create nonce these drawn none stopped.linked in
+      let turn : (standing : Standing) → SeatTurn standing key false Empty line (seen_by these words true false) replies.HostFault (act nonce these drawn false ∷ []) Empty = fails_to_create nonce these drawn (told_absent name those) none stopped.linked in
       subst (λ (r : Result SessionState CreateFault). Both (create_result name r) (made_seat r)) (sym said)
       (record {
         goes = empty_goes key line name refl None before after random random' (subst (λ (r : Result SessionState CreateFault). OnDisk before after (KeepsUnder CoversNone (CoversMade r) (λ n. n ≡ name))) said (keeps good.is_target)) (spares_given key line name refl before after aside) tt (λ n none. absurd none) (λ none. absurd none, tt)
             replies.HostFault these words true false seen refl refl
-            (empty_turns key line name refl (seen_by these words true false) replies.HostFault None these (act nonce these drawn false ∷ []) Empty (λ sealed. inr (may_seal nonce these drawn true false none stopped.linked sealed)) turn (λ sealed. no_seat refl refl))
+            (empty_turns key line name refl (seen_by these words true false) replies.HostFault None these (act nonce these drawn false ∷ []) Empty (λ sealed. inr (may_seal nonce these drawn true false (told_absent name those) none stopped.linked sealed)) turn (λ sealed. no_seat refl refl))
             none refl;
         booked = record {
           seen = seen_by these words true false;
@@ -265,17 +270,17 @@ module _ (key : List ℕ) (k : ℕ) (name : Name) (utf8 : IsUtf8 name) (before a
       let none : NoneRefuses (rules key false Empty line these) = seat_none (naming_rules name these) (naming_none name these good.is_target (was_absent name (empty_node key name nonce))) in
       let turn : (standing : Standing) → SeatTurn standing key false Empty line (seen_by these words false false) replies.Created (act nonce these drawn true ∷ []) (Own (new_seat key name sheet)) = λ standing.
       accepted none (record { host = refl; random = refl })
-      (creates_file k name sheet (seals_empty nonce these drawn is_fresh.linked)) in
+      (creates_file k name sheet (told_absent name those) (seals_empty nonce these drawn is_fresh.linked)) in
       let by_files : (files : Files) → files name ≡ None → SeatTurn (stands_on key files) key false Empty line (seen_over files line words) replies.Created (act nonce these drawn true ∷ []) (Own (new_seat key name sheet)) = λ files absent.
       accepted (seat_none (naming_rules name (answers_of files line)) (naming_none name (answers_of files line) good.is_target (no_length name (files name) absent))) (record { host = refl; random = refl })
-      (creates_file k name sheet (seals_empty nonce these drawn is_fresh.linked)) in
+      (creates_file k name sheet (file_absent name (files name) absent) (seals_empty nonce these drawn is_fresh.linked)) in
       let same : new_seat key name sheet ≡ seat_on sheet made = own_same sheet key key name name [] (now sheet made.tree) [] [] false false None None false false refl refl (sym is_fresh.stands.now_is) refl refl refl refl in
       subst (λ (r : Result SessionState CreateFault). Both (create_result name r) (made_seat r)) (sym said)
       (record {
         goes = empty_goes key line name refl (Some made) before after random random' (subst (λ (r : Result SessionState CreateFault). OnDisk before after (KeepsUnder CoversNone (CoversMade r) (λ n. n ≡ name))) said (keeps good.is_target)) (spares_given key line name refl before after aside)
             (record { of_script = of_created key name nonce good; key_is = refl; clean = λ whole calm. refl }) (λ n has. has) (λ none. absurd none, tt)
             replies.Created these words false false seen refl refl
-            (empty_turns key line name refl (seen_by these words false false) replies.Created (Some made) these (act nonce these drawn true ∷ []) (Own (new_seat key name sheet)) (λ sealed. inr (may_seal nonce these drawn false true none is_fresh.linked sealed)) turn
+            (empty_turns key line name refl (seen_by these words false false) replies.Created (Some made) these (act nonce these drawn true ∷ []) (Own (new_seat key name sheet)) (λ sealed. inr (may_seal nonce these drawn false true (told_absent name those) none is_fresh.linked sealed)) turn
             (λ sealed. whole_file sheet made refl (Contains-push sealed sheet) is_fresh.linked (record { backed = is_fresh.stands.backed; rests = λ calm. record { stands = is_fresh.stands; clean = refl } }) (ap Own same) refl))
             none (to_create k name made refl refl refl refl refl);
         booked = record {

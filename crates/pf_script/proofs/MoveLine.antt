@@ -47,7 +47,7 @@ use Rattle.pf_script.proofs.MoveUnder.{seals_moved}
 use Rattle.pf_script.proofs.OfScript.{of_moved}
 use Rattle.pf_script.proofs.StepKeeping.{keeps_more}
 use Rattle.pf_script.proofs.Refusing.{none_taken, at_last, refused_goes, nothing_wanting, first_then, none_then}
-use Rattle.pf_script.proofs.SeatCalls.{seen_by, own_with, SheetTurns, whole_turns, host_reply, words_reply, shows_same, false_true}
+use Rattle.pf_script.proofs.SeatCalls.{told_absent, seen_by, own_with, SheetTurns, whole_turns, host_reply, words_reply, shows_same, false_true}
 use Rattle.pf_script.proofs.Sparing.{spares_both}
 use Rattle.pf_script.proofs.Unfolding.{sheets_then}
 use Rattle.pf_script.proofs.WriteLine.{nothing_goes}
@@ -357,7 +357,7 @@ module _ (key : List ℕ) (k : ℕ) (to : Name) (old : SessionState) (seated : I
         let on = seals base linked kept.backed in (
           record { deed = Flush (seat_of old.key old.name on.0); done = false } ∷ [],
           broken_seat (seat_on base old),
-          λ other. not_flushed_to_move k to (seat_on base old) words on.0 first second other fails.is_changed on.1 refl,
+          λ other. not_flushed_to_move k to (seat_on base old) words on.0 first second other (told_absent to these) fails.is_changed on.1 refl,
           refl,
           refl,
           refl,
@@ -397,7 +397,7 @@ module _ (key : List ℕ) (k : ℕ) (to : Name) (old : SessionState) (seated : I
           let on = carries.carries.each base' each.4 each.3 in (
             flushes (seat_on base old) each.0 ++ record { deed = Move old.name (seat_of old.key to on.next); done = false } ∷ [],
             broken_seat (seat_on base' mid),
-            λ other. not_carried k to (seat_on base old) (seat_on base' mid) f.words (f.first ∷ f.second ∷ []) each.0 on.next other each.2 (sealed_by false base' each.3 on) refl,
+            λ other. not_carried k to (seat_on base old) (seat_on base' mid) f.words (f.first ∷ f.second ∷ []) each.0 on.next other (told_absent to (f.these ++ by.these)) each.2 (sealed_by false base' each.3 on) refl,
             refl,
             f.key_is,
             f.name_is,
@@ -426,11 +426,11 @@ module _ (key : List ℕ) (k : ℕ) (to : Name) (old : SessionState) (seated : I
           let none = move_passes free.is_target base (f.these ++ more) in
           at_last acts
           (inr (may_fail sealed (Own (seat_on base old)) (Own (broken_seat (seat_on base' mid))) (all_given more) all_words false false acts (before_it ++ stopped ∷ []) none
-          (not_carried k to (seat_on base old) (seat_on base' mid) f.words (f.first ∷ f.second ∷ []) each.0 on.next ByHost each.2 (sealed_by true base' each.3 on) refl tt)
+          (not_carried k to (seat_on base old) (seat_on base' mid) f.words (f.first ∷ f.second ∷ []) each.0 on.next ByHost (told_absent to (f.these ++ more)) each.2 (sealed_by true base' each.3 on) refl tt)
           (sheets_then before_it (act ∷ []) ∙ sym (sheets_then before_it (stopped ∷ [])))))
           (λ unforged. (
             Own (renamed (seat_on base' mid) to on.next),
-            accepted none (record { host = refl; random = refl }) (moved_on k to (seat_on base old) (seat_on base' mid) f.words (f.first ∷ f.second ∷ []) each.0 on.next each.2 (sealed_by true base' each.3 on) refl),
+            accepted none (record { host = refl; random = refl }) (moved_on k to (seat_on base old) (seat_on base' mid) f.words (f.first ∷ f.second ∷ []) each.0 on.next (told_absent to (f.these ++ more)) each.2 (sealed_by true base' each.3 on) refl),
             shows_moved sealed base' acts each.3 on
                 (Contains-append_right sealed (sheets_of acts) on.next (subst (λ (l : List Sheet). Contains l on.next) (sym (sheets_then before_it (act ∷ []))) (Contains-push (sheets_of before_it) on.next))) same,
           )))
@@ -466,7 +466,7 @@ module _ (key : List ℕ) (k : ℕ) (to : Name) (old : SessionState) (seated : I
         subst (λ (x : Result (Unit {0}) MoveFault). SeatGoes key false line (move_reply x) (Some old) (Some new) before after random random') (sym said)
         (as_before replies.WordsFault (looked None ∷ []) fewer.words false true
         (record { told = free.looks.asked.asked.told; taken = fewer.told; on_host = free.looks.asked.asked.faults; on_words = fewer.once })
-        refl refl same (λ sealed base. words_failed (move_passes free.is_target base []) (record { host = refl; random = refl }) (no_move k to (seat_on base old) (too_few_to_move base old fewer.words fewer.fewer)) refl)
+        refl refl same (λ sealed base. words_failed (move_passes free.is_target base []) (record { host = refl; random = refl }) (no_move k to (seat_on base old) (told_absent to []) (too_few_to_move base old fewer.words fewer.fewer)) refl)
         (like_passes free.is_target (looked None ∷ []) (none_found [])) (ap Some same))
     move_cases result (not_flushed start fault free fails said) =
         subst (λ (x : Result (Unit {0}) MoveFault). SeatGoes key false line (move_reply x) (Some old) (Some new) before after random random') (sym said)

@@ -51,7 +51,7 @@ use Rattle.pf_script.proofs.Ruling.{never}
 use Rattle.pf_script.proofs.Seats.{seats_after}
 use Rattle.pf_script.proofs.MoveUnder.{FirstIn, first_in, FirstKnown, first_known, did_move, spares_move, only_move, seals_moved, renamed_seat, moved_kept}
 use Rattle.pf_script.proofs.Refusing.{none_taken, first_then}
-use Rattle.pf_script.proofs.SeatCalls.{seen_by, false_true}
+use Rattle.pf_script.proofs.SeatCalls.{told_absent, seen_by, false_true}
 use Rattle.pf_script.proofs.Showing.{same_session}
 use Rattle.pf_script.proofs.SparesAll.{others_kept, others_then}
 use Rattle.pf_script.proofs.Under.{IsAnswered, KnownUnder, blame_answered, idle_answered, own_under, own_idle, one_concerned, flush_did, left_seat}
@@ -212,7 +212,7 @@ module _ (key : List ℕ) (k : ℕ) (to : Name) (old : SessionState) (seated : I
                 made = one_is (MadeBy line (Own own)) (flush_act old next.0 false) refl;
                 idle = idle_answered (flush_reply (fault_of blame)) (blame_answered blame) acts;
                 turn = λ _. fault_turn _ own given all blame acts (Own (broken_seat own)) (move_passes key k to old seated whole free.is_target base these)
-                    (not_flushed_to_move k to own words next.0 first second blame fails.is_changed next.1 refl (short_more (LengthWas to None ∷ []) these old.name blame blames));
+                    (not_flushed_to_move k to own words next.0 first second blame (told_absent to these) fails.is_changed next.1 refl (short_more (LengthWas to None ∷ []) these old.name blame blames));
               });
           over = over_blamed blame given all (flush_reply (fault_of blame)) (subst (λ (f : FlushFault). UndamagedMove (Err (move_of_flush f)) old before) fault_is undamaged);
         }))
@@ -309,7 +309,7 @@ module _ (key : List ℕ) (k : ℕ) (to : Name) (old : SessionState) (seated : I
                   made = move_made own t.2.sheets (record { deed = Move old.name (seat_of old.key to next.next); done = false }) (refl, refl);
                   idle = idle_answered (flush_reply (fault_of by.blame)) (blame_answered by.blame) acts;
                   turn = λ _. fault_turn _ own (all_given by.these) all_words by.blame acts (Own (broken_seat (seat_on t.2.base_now mid))) (move_passes key k to old seated whole free.is_target base (f.these ++ by.these))
-                      (not_moved_line k to own (seat_on t.2.base_now mid) f.words (f.drawn.first ∷ f.drawn.second ∷ []) t.2.sheets next.next by.blame t.2.first
+                      (not_moved_line k to own (seat_on t.2.base_now mid) f.words (f.drawn.first ∷ f.drawn.second ∷ []) t.2.sheets next.next by.blame (told_absent to (f.these ++ by.these)) t.2.first
                       (seals_moved false to nonce t.2.base_now mid between after t.2.rests next
                       f.drawn.first f.drawn.second f.drawn.is) refl
                       (short_more (LengthWas to None ∷ []) (f.these ++ by.these) old.name by.blame (short_more f.these by.these old.name by.blame (subst (λ (n : Name). BlamesFlush n by.these by.blame) t.2.name_is by.blames))));
@@ -357,7 +357,7 @@ module _ (key : List ℕ) (k : ℕ) (to : Name) (old : SessionState) (seated : I
               idle = tt;
               turn = λ _.
                   accepted (move_passes key k to old seated whole free.is_target base (f.these ++ more)) (record { host = refl; random = refl })
-                  (moved_line k to own (seat_on t.2.base_now mid) f.words (f.drawn.first ∷ f.drawn.second ∷ []) t.2.sheets next.next t.2.first
+                  (moved_line k to own (seat_on t.2.base_now mid) f.words (f.drawn.first ∷ f.drawn.second ∷ []) t.2.sheets next.next (told_absent to (f.these ++ more)) t.2.first
                   (seals_moved true to nonce t.2.base_now mid between after t.2.rests next f.drawn.first f.drawn.second f.drawn.is) refl);
             });
         over = over_move (seen_by (all_given more) all_words false false) replies.Moved
@@ -375,7 +375,7 @@ module _ (key : List ℕ) (k : ℕ) (to : Name) (old : SessionState) (seated : I
               over = record {
                 turn = same_over key (reading a.now) false (Own own) line (LengthWas to None ∷ []) all_words replies.Moved acts then (looked_answers k to None before start a is_a free.looks)
                     (accepted (move_passes key k to old seated whole free.is_target base []) (record { host = refl; random = refl })
-                    (moved_line k to own (seat_on t.2.base_now mid) f.words (f.drawn.first ∷ f.drawn.second ∷ []) t.2.sheets next.next t.2.first
+                    (moved_line k to own (seat_on t.2.base_now mid) f.words (f.drawn.first ∷ f.drawn.second ∷ []) t.2.sheets next.next (told_absent to []) t.2.first
                     (seals_moved true to nonce t.2.base_now mid between after t.2.rests next f.drawn.first f.drawn.second f.drawn.is) refl));
                 files = files_from acts (reading a.now) (reading m.0.now) (reading b.now) (same_files a m.0 m.2)
                     (moved_files key old seated whole base on.kept to mid new f.words m.0 t.0 b t.2 nonce between after t.1 is_b absent moves.carries same);
@@ -395,7 +395,7 @@ module _ (key : List ℕ) (k : ℕ) (to : Name) (old : SessionState) (seated : I
     by_case result undamaged (no_words free fewer same said) =
         subst (λ (r : Result (Unit {0}) MoveFault). SeatBooked key false line (move_reply r) (Some old) (Some new) before after random random') (sym said)
         (idle replies.WordsFault (LengthWas to None ∷ []) fewer.words false true same free.looks.disk free.looks.asked.asked.told fewer.told free.looks.asked.asked.faults fewer.once
-        (λ standing base. words_failed (move_passes key k to old seated whole free.is_target base []) (record { host = refl; random = refl }) (no_move k to (seat_on base old) (too_few_to_move base old fewer.words fewer.fewer)) refl) (λ base a is calm. absurd (false_true true refl calm.random)))
+        (λ standing base. words_failed (move_passes key k to old seated whole free.is_target base []) (record { host = refl; random = refl }) (no_move k to (seat_on base old) (told_absent to []) (too_few_to_move base old fewer.words fewer.fewer)) refl) (λ base a is calm. absurd (false_true true refl calm.random)))
     by_case result undamaged (not_flushed start fault free fails said) =
         subst (λ (r : Result (Unit {0}) MoveFault). SeatBooked key false line (move_reply r) (Some old) (Some new) before after random random') (sym said)
         (unflushed start fault free fails (seal_ends old seated.of_script new start after random fails.between (Err fault) fails.sealed fails.keys fails.came fails.goes) (subst (λ (r : Result (Unit {0}) MoveFault). UndamagedMove r old before) said undamaged))

@@ -54,7 +54,7 @@ module _ (S T : Standing) (key : List ℕ) (seen saw : Seen) (left rest : List (
 
   pub create_one : (k : ℕ) (name : Name) (seat other : Seat) (reply say : Reply) (acts others : List Act) (after ends : Seat)
       → Accepts S key seen seat (lines.Create k name) reply acts after → Accepts T key saw other (lines.Create k name) say others ends → LikeEnds key reply say seen.words saw.words acts others after ends
-  create_one k name seat other reply say acts others after ends (created j n sheet seals) (created i m base seals') =
+  create_one k name seat other reply say acts others after ends (created j n sheet absent seals) (created i m base absent' seals') =
       let like = empty_like name seen.words saw.words sheet base seals seals' in
       record {
         reply_is = refl;
@@ -174,7 +174,7 @@ module _ (S T : Standing) (key : List ℕ) (seen saw : Seen) (left rest : List (
 
   pub move_one : (k : ℕ) (name : Name) (seat other : Seat) (reply say : Reply) (acts others : List Act) (after ends : Seat) → LikeSeat key seat other
       → Accepts S key seen seat (lines.Move k name) reply acts after → Accepts T key saw other (lines.Move k name) say others ends → LikeEnds key reply say seen.words saw.words acts others after ends
-  move_one k name seat other reply say acts others after ends (both_own o t like) (moved j n own mid words more sheets sheet flushed_to carries all) (moved i m mine till takes rest' bases base flushed_to' carries' all') =
+  move_one k name seat other reply say acts others after ends (both_own o t like) (moved j n own mid words more sheets sheet absent flushed_to carries all) (moved i m mine till takes rest' bases base absent' flushed_to' carries' all') =
       let whole : words ++ (more ++ left) ≡ takes ++ (rest' ++ rest) =
       sym (append_assoc words more left) ∙ ap (λ (w : List (List ℕ)). w ++ left) (sym all) ∙ stream ∙ ap (λ (w : List (List ℕ)). w ++ rest) all' ∙ append_assoc takes rest' rest in
       let first = to_move_one own mine mid till words takes (more ++ left) (rest' ++ rest) sheets bases like whole flushed_to flushed_to' in

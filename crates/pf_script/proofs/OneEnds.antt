@@ -71,9 +71,9 @@ damage_ends key taken files words seat after line reply acts damage none is (not
     absurd (no_flush_damage own.name (answers_of files line) damage (no_answers files line (length own.content) (made.made ++ next ∷ made.rest) made.of_line) blames)
 damage_ends key taken files words seat after line reply acts damage none is (not_sealed own l sheet b left seals blames (of_flush k)) = absurd (no_flush_damage own.name [] damage nothing_given blames)
 damage_ends key taken files words seat after line reply acts damage none is (not_sealed own l sheet b left seals blames (of_close k changed whole)) = absurd (no_flush_damage own.name [] damage nothing_given blames)
-damage_ends key taken files words seat after line reply acts damage none is (not_flushed_to_move k name own first sheet one two b changed seals all blames) =
+damage_ends key taken files words seat after line reply acts damage none is (not_flushed_to_move k name own first sheet one two b absent changed seals all blames) =
     absurd (no_flush_damage own.name (answers_of files (lines.Move k name)) damage (one_length name _) blames)
-damage_ends key taken files words seat after line reply acts damage none is (not_moved k name own mid first more sheets sheet b flushed carries all blames) =
+damage_ends key taken files words seat after line reply acts damage none is (not_moved k name own mid first more sheets sheet b absent flushed carries all blames) =
     absurd (no_flush_damage own.name (answers_of files (lines.Move k name)) damage (one_length name _) blames)
 
 pub line_ends : (key : List ℕ) (taken : Bool) (files : Files) (words : List (List ℕ)) (seat after : Seat) (line : ScriptLine) (reply : Reply) (acts : List Act)

@@ -1,11 +1,12 @@
 -- A line on a seat, from what was seen of a call on its session.
-use Rattle.std.proofs.Common.{◌≡◌, inl, Bool, true, false, List, [], ◌++◌, ℕ, refl, sym, ◌∙◌, ap, subst, Option, Some, None, Ok, Err}
+use Rattle.std.proofs.Common.{◌≡◌, inl, Bool, true, false, List, [], ◌∷◌, ◌++◌, ℕ, refl, sym, ◌∙◌, ap, subst, Option, Some, None, Ok, Err}
 use Rattle.std.proofs.lemmas.List.{append-nil}
+use Rattle.std.proofs.lemmas.List.Elements.{Contains-push, Contains-append_left}
 use Rattle.std.specs.Prelude.{Contains}
 use Rattle.node_tree.specs.Sheet.{Sheet, IsLinked}
 use Rattle.pf_session.specs.Moving.{IsKeptOn}
 use Rattle.pf_io.specs.Disk.{Name}
-use Rattle.pf_io.specs.Host.{Answer, HostState, WhereTold, OnDisk}
+use Rattle.pf_io.specs.Host.{Answer, LengthWas, HostState, WhereTold, OnDisk}
 use Rattle.pf_io.specs.Words.{WordsState}
 use Rattle.pf_io.specs.declared.faults.Memory.{Memory}
 use Rattle.pf_io.proofs.Telling.{told_by, both_weaker}
@@ -16,7 +17,7 @@ use Rattle.pf_script.specs.Desk.{IsSeated, IsLike, Shows, seat_on}
 use Rattle.pf_script.specs.DeskSteps.{MaySeal, Unfolds, SomeSeatTurn, CountsFault, SeatTurns, SeatCaused, LeavesSeat, SeatAsks, Concerns, CountsReply, Spares, SeatWants, SeatGoes, is_host_fault, is_words_fault}
 use Rattle.pf_script.specs.Script.{OwnSeat, Seat, Own, sheets_of}
 use Rattle.pf_script.specs.SeatReplies.{flush_reply}
-use Rattle.pf_script.specs.Turns.{Seen, SeatTurn, Caused, on_carried, Blame, ByHost, ByDamage}
+use Rattle.pf_script.specs.Turns.{WasAbsent, Seen, SeatTurn, Caused, on_carried, Blame, ByHost, ByDamage}
 use Rattle.pf_script.specs.declared.line.ScriptLine.{ScriptLine}
 use Rattle.pf_script.specs.declared.reply.Reply.{Reply}
 use Rattle.pf_script.proofs.FewAsked.{TakesFew}
@@ -27,6 +28,10 @@ use Rattle.pf_script.proofs.StepKeeping.{keeps_more}
 
 abbrev pub seen_by : List Answer → List (List ℕ) → Bool → Bool → Seen
 seen_by these words of_host of_words = record { given = these; words = words; host_failed = of_host; words_failed = of_words }
+
+-- a name that was looked for first, and was absent
+pub told_absent : (name : Name) (rest : List Answer) → WasAbsent name (LengthWas name None ∷ rest)
+told_absent name rest = Contains-append_left (LengthWas name None ∷ []) rest (LengthWas name None) (Contains-push [] (LengthWas name None))
 
 -- a seat by its fields
 abbrev pub own_with : List ℕ → Name → Sheet → List ℕ → List ℕ → Bool → Option (List ℕ) → Bool → OwnSeat

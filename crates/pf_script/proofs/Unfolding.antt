@@ -82,12 +82,12 @@ no_steps (lines.Close seat) size steps nothing asks = asks
 
 module _ (key : List ℕ) (seen : Seen) where
   accepts_none : (standing : Standing) (seat after : Seat) (line : ScriptLine) (reply : Reply) (acts : List Act) → SealsNothing line → Accepts standing key seen seat line reply acts after → sheets_of acts ≡ []
-  accepts_none standing seat after line reply acts nothing (created k name sheet seals) = absurd nothing
+  accepts_none standing seat after line reply acts nothing (created k name sheet absent seals) = absurd nothing
   accepts_none standing seat after line reply acts nothing (opened k name sheet stands same none) = refl
   accepts_none standing seat after line reply acts nothing (read k at count own none) = refl
   accepts_none standing seat after line reply acts nothing (changed own other l r steps sheets asks makes replied) = absurd (no_steps line (length own.content) steps nothing asks)
   accepts_none standing seat after line reply acts nothing (flushed k own sheet seals) = absurd nothing
-  accepts_none standing seat after line reply acts nothing (moved k name own mid words more sheets sheet first seals all) = absurd nothing
+  accepts_none standing seat after line reply acts nothing (moved k name own mid words more sheets sheet absent first seals all) = absurd nothing
   accepts_none standing seat after line reply acts nothing (drawn_again k own nonce is none) = refl
   accepts_none standing seat after line reply acts nothing (drawn_now k own first second is two) = refl
   accepts_none standing seat after line reply acts nothing (let_go k own idle none) = absurd nothing
@@ -95,7 +95,7 @@ module _ (key : List ℕ) (seen : Seen) where
 
   fails_none : (blame : Blame) (seat after : Seat) (line : ScriptLine) (acts : List Act) → SealsNothing line → Fails key seen blame seat line acts after → sheets_of acts ≡ []
   fails_none blame seat after line acts nothing (not_asked k name idle none) = absurd nothing
-  fails_none blame seat after line acts nothing (not_created k name sheet seals) = absurd nothing
+  fails_none blame seat after line acts nothing (not_created k name sheet absent seals) = absurd nothing
   fails_none blame seat after line acts nothing (not_opened k name b none blames) = refl
   fails_none blame seat after line acts nothing (not_read k at count own b none blames) = refl
   fails_none blame seat after line acts nothing (not_fetched own mid l next sheets b some fits blames) = absurd (no_steps line (length own.content) (some.made ++ next ∷ some.rest) nothing some.of_line)
@@ -106,13 +106,13 @@ module _ (key : List ℕ) (seen : Seen) where
   fails_none blame seat after line acts nothing (not_sealed own l sheet b left seals blames (of_flush k)) = absurd nothing
   fails_none blame seat after line acts nothing (not_sealed own l sheet b left seals blames (of_close k was whole)) = absurd nothing
   fails_none blame seat after line acts nothing (not_looked_up k name own idle none) = absurd nothing
-  fails_none blame seat after line acts nothing (not_flushed_to_move k name own words sheet one two b was seals all blames) = absurd nothing
-  fails_none blame seat after line acts nothing (not_moved k name own mid words more sheets sheet b first seals all blames) = absurd nothing
+  fails_none blame seat after line acts nothing (not_flushed_to_move k name own words sheet one two b absent was seals all blames) = absurd nothing
+  fails_none blame seat after line acts nothing (not_moved k name own mid words more sheets sheet b absent first seals all blames) = absurd nothing
 
   loses_none : (seat after : Seat) (line : ScriptLine) (acts : List Act) → SealsNothing line → Loses key seen seat line acts after → sheets_of acts ≡ []
-  loses_none seat after line acts nothing (no_creation k name fewer) = absurd nothing
+  loses_none seat after line acts nothing (no_creation k name absent fewer) = absurd nothing
   loses_none seat after line acts nothing (no_flush k own fewer) = absurd nothing
-  loses_none seat after line acts nothing (no_move k name own fewer) = absurd nothing
+  loses_none seat after line acts nothing (no_move k name own absent fewer) = absurd nothing
   loses_none seat after line acts nothing (no_nonce k own none fewer) = refl
   loses_none seat after line acts nothing (no_last_flush k own was whole fewer) = absurd nothing
   loses_none seat after line acts nothing (no_flush_before own mid l next words lost sheets some first all fewer) = absurd (no_steps line (length own.content) (some.made ++ next ∷ some.rest) nothing some.of_line)

@@ -10,7 +10,7 @@ use Rattle.node_tree.specs.Reading.{IsForeign}
 use Rattle.node_tree.specs.Sheet.{Sheet}
 use Rattle.node_tree.specs.Unforged.{Carries}
 use Rattle.pf_io.specs.Disk.{Name}
-use Rattle.pf_io.specs.Host.{Answer, Swapped}
+use Rattle.pf_io.specs.Host.{Answer, LengthWas, Swapped}
 use Rattle.pf_io.specs.Names.{side_of}
 use Rattle.pf_session.specs.Carries.{IsLast, IsFirst as IsFirstSheet}
 use Rattle.pf_script.specs.BookActs.{Opening, Creation, Flush, Move, Act}
@@ -44,6 +44,10 @@ Standing = Name → List Answer → Sheet → Type 0
 abbrev pub on_carried : List ℕ → List Sheet → Standing
 on_carried key sealed name given sheet = (block : List ℕ) × IsLast name given block × IsFirstSheet (Carries key block) sealed sheet
 
+-- the host said that no file has the name
+abbrev pub WasAbsent : Name → List Answer → Type 0
+WasAbsent name given = Contains given (LengthWas name None)
+
 -- the seat of a file that was opened or created
 abbrev pub new_seat : List ℕ → Name → Sheet → OwnSeat
 new_seat key name sheet = record { key = key; name = name; sheet = sheet; content = sheet.content; dirty = []; changed = false; drawn = None; broken = false }
@@ -70,7 +74,7 @@ pub data IsChangeReply (sheets : List Sheet) : ScriptLine → Reply → Type 0 w
 
 -- What an accepted line comes to on its seat: the reply, what was done to names, and the seat after it.
 pub data Accepts (standing : Standing) (key : List ℕ) (seen : Seen) : Seat → ScriptLine → Reply → List Act → Seat → Type 0 where
-  created : (k : ℕ) (name : Name) (sheet : Sheet) → SealsEmpty name seen.words sheet
+  created : (k : ℕ) (name : Name) (sheet : Sheet) → WasAbsent name seen.given → SealsEmpty name seen.words sheet
       → Accepts standing key seen Empty (lines.Create k name) replies.Created (record { deed = Creation (seat_of key name sheet); done = true } ∷ []) (Own (new_seat key name sheet))
   opened : (k : ℕ) (name : Name) (sheet : Sheet) → standing name seen.given sheet → sheet.path ≡ name → seen.words ≡ []
       → Accepts standing key seen Empty (lines.Open k name) (replies.Opened (length sheet.content)) (record { deed = Opening (seat_of key name sheet); done = true } ∷ []) (Own (new_seat key name sheet))
@@ -78,7 +82,7 @@ pub data Accepts (standing : Standing) (key : List ℕ) (seen : Seen) : Seat →
   changed : (own after : OwnSeat) (line : ScriptLine) (reply : Reply) (steps : List Step) (sheets : List Sheet) → AsksFor line (length own.content) steps → MakesAll own steps seen.words sheets after → IsChangeReply sheets line reply
       → Accepts standing key seen (Own own) line reply (flushes own sheets) (Own after)
   flushed : (k : ℕ) (own : OwnSeat) (sheet : Sheet) → Seals own seen.words sheet → Accepts standing key seen (Own own) (lines.Flush k) replies.Flushed (flushes own (sheet ∷ [])) (Own (resealed own sheet))
-  moved : (k : ℕ) (name : Name) (own mid : OwnSeat) (words more : List (List ℕ)) (sheets : List Sheet) (sheet : Sheet) → FlushedToMove own words sheets mid → SealsMoved mid name more sheet → seen.words ≡ words ++ more
+  moved : (k : ℕ) (name : Name) (own mid : OwnSeat) (words more : List (List ℕ)) (sheets : List Sheet) (sheet : Sheet) → WasAbsent name seen.given → FlushedToMove own words sheets mid → SealsMoved mid name more sheet → seen.words ≡ words ++ more
       → Accepts standing key seen (Own own) (lines.Move k name) replies.Moved (flushes own sheets ++ record { deed = Move own.name (seat_of own.key name sheet); done = true } ∷ []) (Own (renamed mid name sheet))
   drawn_again : (k : ℕ) (own : OwnSeat) (nonce : List ℕ) → own.drawn ≡ Some nonce → seen.words ≡ [] → Accepts standing key seen (Own own) (lines.Draw k) (replies.Drawn nonce) [] (Own own)
   drawn_now : (k : ℕ) (own : OwnSeat) (first second : List ℕ) → own.drawn ≡ None → seen.words ≡ first ∷ second ∷ []
@@ -130,7 +134,7 @@ pub data IsSealLine (own : OwnSeat) : ScriptLine → Seat → Type 0 where
 -- A line that failed at the host or by a damage: what had been sealed by then, and how far a flush in progress had come. A seat that failed in a change is broken.
 pub data Fails (key : List ℕ) (seen : Seen) : Blame → Seat → ScriptLine → List Act → Seat → Type 0 where
   not_asked : (k : ℕ) (name : Name) → seen.given ≡ [] → seen.words ≡ [] → Fails key seen ByHost Empty (lines.Create k name) [] Empty
-  not_created : (k : ℕ) (name : Name) (sheet : Sheet) → SealsEmpty name seen.words sheet
+  not_created : (k : ℕ) (name : Name) (sheet : Sheet) → WasAbsent name seen.given → SealsEmpty name seen.words sheet
       → Fails key seen ByHost Empty (lines.Create k name) (record { deed = Creation (seat_of key name sheet); done = false } ∷ []) Empty
   not_opened : (k : ℕ) (name : Name) (blame : Blame) → seen.words ≡ [] → BlamesOpening key name seen.given blame → Fails key seen blame Empty (lines.Open k name) [] Empty
   not_read : (k at count : ℕ) (own : OwnSeat) (blame : Blame) → seen.words ≡ [] → BlamesFetch own.sheet own.name seen.given blame → Fails key seen blame (Own own) (lines.Read k at count) [] (Own own)
@@ -150,17 +154,17 @@ pub data Fails (key : List ℕ) (seen : Seen) : Blame → Seat → ScriptLine �
       → Fails key seen blame (Own own) line (record { deed = Flush (seat_of own.key own.name sheet); done = false } ∷ []) after
   -- before a move had its words; in its flush, for which it had all its words; in the move itself
   not_looked_up : (k : ℕ) (name : Name) (own : OwnSeat) → seen.given ≡ [] → seen.words ≡ [] → Fails key seen ByHost (Own own) (lines.Move k name) [] (Own own)
-  not_flushed_to_move : (k : ℕ) (name : Name) (own : OwnSeat) (words : List (List ℕ)) (sheet : Sheet) (first second : List ℕ) (blame : Blame) → own.changed ≡ true → Seals own words sheet → seen.words ≡ words ++ first ∷ second ∷ []
+  not_flushed_to_move : (k : ℕ) (name : Name) (own : OwnSeat) (words : List (List ℕ)) (sheet : Sheet) (first second : List ℕ) (blame : Blame) → WasAbsent name seen.given → own.changed ≡ true → Seals own words sheet → seen.words ≡ words ++ first ∷ second ∷ []
       → BlamesFlush own.name seen.given blame → Fails key seen blame (Own own) (lines.Move k name) (record { deed = Flush (seat_of own.key own.name sheet); done = false } ∷ []) (Own (broken_seat own))
-  not_moved : (k : ℕ) (name : Name) (own mid : OwnSeat) (words more : List (List ℕ)) (sheets : List Sheet) (sheet : Sheet) (blame : Blame) → FlushedToMove own words sheets mid → SealsMoved mid name more sheet → seen.words ≡ words ++ more
+  not_moved : (k : ℕ) (name : Name) (own mid : OwnSeat) (words more : List (List ℕ)) (sheets : List Sheet) (sheet : Sheet) (blame : Blame) → WasAbsent name seen.given → FlushedToMove own words sheets mid → SealsMoved mid name more sheet → seen.words ≡ words ++ more
       → BlamesFlush own.name seen.given blame
       → Fails key seen blame (Own own) (lines.Move k name) (flushes own sheets ++ record { deed = Move own.name (seat_of own.key name sheet); done = false } ∷ []) (Own (broken_seat mid))
 
 -- A line for which a random word was wanting: fewer came than it takes, and those are lost. Steps that a `size` line had made stand, and `close` leaves the seat empty.
 pub data Loses (key : List ℕ) (seen : Seen) : Seat → ScriptLine → List Act → Seat → Type 0 where
-  no_creation : (k : ℕ) (name : Name) → length seen.words < 2 → Loses key seen Empty (lines.Create k name) [] Empty
+  no_creation : (k : ℕ) (name : Name) → WasAbsent name seen.given → length seen.words < 2 → Loses key seen Empty (lines.Create k name) [] Empty
   no_flush : (k : ℕ) (own : OwnSeat) → length seen.words < words_of_flush own → Loses key seen (Own own) (lines.Flush k) [] (Own own)
-  no_move : (k : ℕ) (name : Name) (own : OwnSeat) → length seen.words < words_of_move own → Loses key seen (Own own) (lines.Move k name) [] (Own own)
+  no_move : (k : ℕ) (name : Name) (own : OwnSeat) → WasAbsent name seen.given → length seen.words < words_of_move own → Loses key seen (Own own) (lines.Move k name) [] (Own own)
   no_nonce : (k : ℕ) (own : OwnSeat) → own.drawn ≡ None → length seen.words < 2 → Loses key seen (Own own) (lines.Draw k) [] (Own own)
   no_last_flush : (k : ℕ) (own : OwnSeat) → own.changed ≡ true → own.broken ≡ false → length seen.words < words_of_flush own → Loses key seen (Own own) (lines.Close k) [] Empty
   no_flush_before : (own mid : OwnSeat) (line : ScriptLine) (next : Step) (words lost : List (List ℕ)) (sheets : List Sheet) → MadeSome line own next words sheets mid → FlushesFirst (length mid.content) mid.dirty next

@@ -3,7 +3,7 @@ ghost use Rattle.std.specs.Prelude.{◌≡◌};
 ghost use Rattle.pf_io.specs.Streams.{SinkState};
 ghost use Rattle.pf_script.specs.LineReading.{IsBounded};
 ghost use Rattle.pf_tool.specs.World.{world_of};
-ghost use Rattle.pf_tool.specs.Replying.{spoken_status, Says, first_of as first_status};
+ghost use Rattle.pf_tool.specs.Replying.{reply_status as status_by_reply, Says, first_of as first_status};
 ghost use Rattle.pf_tool.specs.Scripting.{at, BytesAnswered, NextGoes, LinesEnd};
 
 use crate::fault::Fault;
@@ -11,16 +11,16 @@ use pf_io::{Host, Memory, Sink, Source, StreamFault, Words};
 use pf_script::{Desk, LineFault, LineReader, NextLine, Reply, read_line, write_reply};
 use std::alloc::Global;
 
-// The status of a reply, which is 0 where it is accepted. No reply says that there was no line.
-fn status_of(reply: &Option<Reply>) -> u8
-    ensures { result ≡ spoken_status reply.now }
+// The status of a reply, which is 0 where it is accepted.
+fn reply_status(reply: &Reply) -> u8
+    ensures { result ≡ status_by_reply reply.now }
 {
     match reply {
-        None | Some(Reply::Refused { .. }) => 3,
-        Some(Reply::DamagedNode { .. } | Reply::DamagedChunk { .. }) => 1,
-        Some(Reply::HostFault) => 4,
-        Some(Reply::WordsFault) => 6,
-        Some(_) => 0,
+        Reply::Refused { .. } => 3,
+        Reply::DamagedNode { .. } | Reply::DamagedChunk { .. } => 1,
+        Reply::HostFault => 4,
+        Reply::WordsFault => 6,
+        _ => 0,
     }
 }
 
@@ -28,11 +28,12 @@ fn status_of(reply: &Option<Reply>) -> u8
 pub(crate) fn say<K: Sink>(out: &mut K, reply: &Option<Reply>) -> Result<u8, StreamFault>
     ensures { Says result reply.now (K.state out.old) (K.state out.new) }
 {
-    match reply {
-        Some(reply) => write_reply(out, reply)?,
-        None => out.write(b"refused bad line\n")?,
-    }
-    Ok(status_of(reply))
+    let Some(reply) = reply else {
+        out.write(b"refused bad line\n")?;
+        return Ok(3);
+    };
+    write_reply(out, reply)?;
+    Ok(reply_status(reply))
 }
 
 /// The first of two statuses that is not 0, or 0.

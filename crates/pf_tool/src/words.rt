@@ -64,6 +64,12 @@ pub enum Command<'a> {
     Measure(Measure<'a>),
 }
 
+fn is_decrypt(command: &str, key_option: &str, input_option: &str) -> bool
+    ensures { IsTrue result ↔ (command.now ≡ codes "decrypt") × (key_option.now ≡ codes "-w") × (input_option.now ≡ codes "-i") }
+{
+    command == "decrypt" && key_option == "-w" && input_option == "-i"
+}
+
 fn decrypt_of(words: &[String]) -> Option<Decrypt<'_>>
     ensures found { IfSome result (λ command. texts words.now ≡ decrypt_words command.key.now command.input.now) }
     ensures none { IfNone result ((key input : List ℕ) → texts words.now ≡ decrypt_words key input → ⊥) }
@@ -71,17 +77,13 @@ fn decrypt_of(words: &[String]) -> Option<Decrypt<'_>>
     let [command, key_option, key, input_option, input] = words else {
         return None;
     };
-    if command.as_str() == "decrypt"
-        && key_option.as_str() == "-w"
-        && input_option.as_str() == "-i"
-    {
-        Some(Decrypt {
-            key: key.as_str(),
-            input: input.as_str(),
-        })
-    } else {
-        None
+    if !is_decrypt(command.as_str(), key_option.as_str(), input_option.as_str()) {
+        return None;
     }
+    Some(Decrypt {
+        key: key.as_str(),
+        input: input.as_str(),
+    })
 }
 
 fn is_encrypt(command: &str, key_option: &str, input_option: &str, output_option: &str) -> bool

@@ -10,6 +10,6 @@ mod fixtures;
 #[cfg(test)]
 mod flushing_tests;
 #[cfg(test)]
-mod line_tests;
-#[cfg(test)]
 mod moving_tests;
+#[cfg(test)]
+mod reply_tests;
