@@ -174,7 +174,7 @@ def test_session_lines_up_to_the_limit():
             same(in_pieces(script, size), replies + b"end\n", f"{count} {behind} in pieces of {size}")
     script = b"create 0 a.pf\n\nwrite 0 0 %s\r\n#\nwrite 0 0 %s\nread 0 32765 9\nread 0 0 32768" % (b"61" * 9, b"61" * 32768)
     replies = b"ok create\n" + bad + b"ok write 32768\nok read 3 616161\nok read 32768 " + b"61" * 32768 + b"\nend\n"
-    same(in_pieces(script[:50], 1), b"ok create\n" + bad + b"end\n", "byte by byte")
+    same(in_pieces(script[:47], 1), b"ok create\n" + bad + b"end\n", "byte by byte")
     os.remove("a.pf")
     same(in_pieces(script, 997), replies, "in pieces")
 

@@ -226,11 +226,17 @@ abbrev pub TookItsName : Seat → List Answer → Type 0
 TookItsName Empty given = ⊥
 TookItsName (Own own) given = own.broken ≡ false → own.changed ≡ true → Contains given (Swapped (side_of own.name) own.name)
 
+-- the name that a line gives was told to be absent
+abbrev pub FoundFree : ScriptLine → List Answer → Type 0
+FoundFree line given = IfSome (name_of_line line) (λ name. WasAbsent name given)
+
 -- The cause of a reply by the seat, the line and the answers, also where something is forged: a refusal is that of the first rule that refuses, and behind any other reply none refuses.
--- A damage comes of a node, and a closing is accepted once its version has the name.
+-- A damage comes of a node, a new name was told to be absent, and a closing is accepted once its version has the name.
 abbrev pub Caused : List ℕ → Bool → Seat → ScriptLine → List Answer → Reply → Type 0
 Caused key taken seat line given (replies.Refused why) = IsFirst (rules key taken seat line given) why
 Caused key taken seat line given (replies.DamagedNode damage) = NoneRefuses (rules key taken seat line given) × DamageComes key seat line given damage
+Caused key taken seat line given replies.Created = NoneRefuses (rules key taken seat line given) × FoundFree line given
+Caused key taken seat line given replies.Moved = NoneRefuses (rules key taken seat line given) × FoundFree line given
 Caused key taken seat line given (replies.Closed lost) = NoneRefuses (rules key taken seat line given) × TookItsName seat given
 Caused key taken seat line given other = NoneRefuses (rules key taken seat line given)
 
