@@ -3,8 +3,6 @@
 
 mod chain;
 mod metadata;
-#[cfg(test)]
-mod tests;
 mod vectors;
 
 pub use chain::cmac;

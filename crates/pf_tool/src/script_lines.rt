@@ -20,7 +20,17 @@ fn reply_status(reply: &Reply) -> u8
         Reply::DamagedNode { .. } | Reply::DamagedChunk { .. } => 1,
         Reply::HostFault => 4,
         Reply::WordsFault => 6,
-        _ => 0,
+        Reply::None
+        | Reply::Created
+        | Reply::Opened { .. }
+        | Reply::Viewed { .. }
+        | Reply::Given { .. }
+        | Reply::Written { .. }
+        | Reply::Sized { .. }
+        | Reply::Flushed
+        | Reply::Moved
+        | Reply::Drawn { .. }
+        | Reply::Closed { .. } => 0,
     }
 }
 

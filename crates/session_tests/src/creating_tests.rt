@@ -25,11 +25,11 @@ fn begun(alloc: Global, host: &mut MemHost, count: u8) -> Result<Option<BesideFa
 }
 
 fn expect_new(rt: &impl Abort, session: &Session) {
-    assert_eq!(rt; session.size(), 0);
-    assert_eq!(rt; session.path().as_str(), "a.pf");
+    assert!(rt; session.size() == 0);
+    assert!(rt; session.path().as_str() == "a.pf");
     assert!(rt; session.nonce().starts_with(&[0; 16]));
     assert!(rt; session.nonce().ends_with(&[1; 16]));
-    assert_eq!(rt; session.dirty(), 0);
+    assert!(rt; session.dirty() == 0);
     assert!(rt; !session.changed() && !session.broken());
 }
 

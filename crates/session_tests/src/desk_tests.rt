@@ -2,6 +2,7 @@
 ghost use Rattle.std.specs.Prelude.{◌<◌, IsTrue, IfSome};
 ghost use Rattle.pf_script.specs.Script.{seat_of_line};
 
+use crate::fixtures::{add_words, words_of};
 use pf_io::{ListWords, MemHost, MemSink, Memory};
 use pf_script::{Desk, LineFault, Reply, ScriptLine, Why, read_line, write_reply};
 use std::alloc::Global;
@@ -9,19 +10,6 @@ use std::process::Abort;
 use std::test::Fail;
 
 const KEY: [u8; 16] = [0, 1, 2, 3, 4, 5, 6, 7, 8, 9, 10, 11, 12, 13, 14, 15];
-
-fn add_words(random: &mut ListWords, count: u8) -> Result<(), Fail> {
-    for word in 0..count {
-        random.push([word; 16])?;
-    }
-    Ok(())
-}
-
-fn words_of(alloc: Global, count: u8) -> Result<ListWords, Fail> {
-    let mut random = ListWords::new(alloc);
-    add_words(&mut random, count)?;
-    Ok(random)
-}
 
 fn is_below(line: &ScriptLine) -> bool
     ensures { IsTrue result → IfSome (seat_of_line line.now) (λ seat. seat < 8) }
@@ -57,86 +45,102 @@ fn reply_to(
     }
 }
 
-// Each line has this reply.
-fn expect(
+// Adds what a line is answered.
+fn answer(
     rt: &impl Abort,
     alloc: Global,
     desk: &mut Desk,
     host: &mut MemHost,
     random: &mut ListWords,
     line: &str,
-    want: &str,
+    out: &mut MemSink,
 ) {
-    let mut out = MemSink::new(alloc);
     match reply_to(alloc, desk, host, random, line) {
-        Ok(reply) => assert!(rt; write_reply(&mut out, &reply).is_ok()),
+        Ok(reply) => assert!(rt; write_reply(out, &reply).is_ok()),
         Err(Memory) => panic!(rt; "want of memory at {line}"),
     }
-    assert_eq!(rt; str::from_utf8(out.bytes()), Ok(want));
 }
 
-fn expect_all(
+// The lines have these replies.
+fn expect_script(
     rt: &impl Abort,
     alloc: Global,
     desk: &mut Desk,
     host: &mut MemHost,
     random: &mut ListWords,
-    turns: &[(&str, &str)],
+    script: &str,
+    want: &str,
 ) {
-    for (line, want) in turns {
-        expect(rt, alloc, desk, host, random, line, want);
+    let mut out = MemSink::new(alloc);
+    for line in script.lines() {
+        answer(rt, alloc, desk, host, random, line, &mut out);
     }
+    assert!(rt; out.bytes() == want.as_bytes(), "{script}");
+}
+
+// So on a new host, with so many random words; the host as it is then.
+fn expect_on_new(
+    rt: &impl Abort,
+    alloc: Global,
+    words: u8,
+    script: &str,
+    want: &str,
+) -> Result<MemHost, Fail> {
+    let mut host = MemHost::new(alloc);
+    let mut random = words_of(alloc, words)?;
+    let mut desk = Desk::new(alloc, KEY);
+    expect_script(rt, alloc, &mut desk, &mut host, &mut random, script, want);
+    Ok(host)
 }
 
 #[test]
 fn a_new_file_is_written_and_read(rt: HostRuntime) -> Result<(), Fail> {
-    let alloc = rt.alloc();
-    let mut host = MemHost::new(alloc);
-    let mut random = words_of(alloc, 4)?;
-    let mut desk = Desk::new(alloc, KEY);
-    expect_all(
+    expect_on_new(
         &rt,
-        alloc,
-        &mut desk,
-        &mut host,
-        &mut random,
-        &[
-            ("create 0 c.pf", "ok create\n"),
-            ("write 0 0 68656c6c6f", "ok write 5\n"),
-            ("write 0 5 21", "ok write 1\n"),
-            ("write 0 7 00", "refused past end 6\n"),
-            ("fill 0 0 32769 00", "refused too long\n"),
-            ("write 0 4294967296 00", "refused too large\n"),
-            ("read 0 0 32769", "refused too long\n"),
-            ("read 0 0 10", "ok read 6 68656c6c6f21\n"),
-            ("read 0 6 1", "ok read 0\n"),
-            ("flush 0", "ok flush\n"),
-            ("close 0", "ok close\n"),
-        ],
-    );
+        rt.alloc(),
+        4,
+        "create 0 c.pf\n\
+         write 0 0 68656c6c6f\n\
+         write 0 5 21\n\
+         write 0 7 00\n\
+         fill 0 0 32769 00\n\
+         write 0 4294967296 00\n\
+         read 0 0 32769\n\
+         read 0 0 10\n\
+         read 0 6 1\n\
+         flush 0\n\
+         close 0",
+        "ok create\n\
+         ok write 5\n\
+         ok write 1\n\
+         refused past end 6\n\
+         refused too long\n\
+         refused too large\n\
+         refused too long\n\
+         ok read 6 68656c6c6f21\n\
+         ok read 0\n\
+         ok flush\n\
+         ok close\n",
+    )?;
     Ok(())
 }
 
 // A creation takes two words, and so does a flush where node 0 alone changed.
 #[test]
 fn three_words_are_too_few_for_a_new_file(rt: HostRuntime) -> Result<(), Fail> {
-    let alloc = rt.alloc();
-    let mut host = MemHost::new(alloc);
-    let mut random = words_of(alloc, 3)?;
-    let mut desk = Desk::new(alloc, KEY);
-    expect_all(
+    expect_on_new(
         &rt,
-        alloc,
-        &mut desk,
-        &mut host,
-        &mut random,
-        &[
-            ("create 0 c.pf", "ok create\n"),
-            ("write 0 0 68656c6c6f", "ok write 5\n"),
-            ("flush 0", "random fault\n"),
-            ("read 0 0 10", "ok read 5 68656c6c6f\n"),
-        ],
-    );
+        rt.alloc(),
+        3,
+        "create 0 c.pf\n\
+         write 0 0 68656c6c6f\n\
+         flush 0\n\
+         read 0 0 10",
+        "ok create\n\
+         ok write 5\n\
+         random fault\n\
+         ok read 5 68656c6c6f\n",
+    )?;
     Ok(())
 }
 
@@ -148,144 +152,171 @@ fn a_flush_takes_two_words_and_one_for_each_dirty_node(rt: HostRuntime) -> Resul
     let mut host = MemHost::new(alloc);
     let mut random = words_of(alloc, 111)?;
     let mut desk = Desk::new(alloc, KEY);
-    expect_all(
+    expect_script(
         &rt,
         alloc,
         &mut desk,
         &mut host,
         &mut random,
-        &[
-            ("create 0 a.pf", "ok create\n"),
-            ("size 0 396289", "ok size 396289\n"),
-            ("close 0", "ok close\n"),
-            ("open 0 a.pf", "ok open 396289\n"),
-            ("write 0 396288 7a", "ok write 1\n"),
-            ("flush 0", "random fault\n"),
-        ],
+        "create 0 a.pf\n\
+         size 0 396289\n\
+         close 0\n\
+         open 0 a.pf\n\
+         write 0 396288 7a\n\
+         flush 0",
+        "ok create\n\
+         ok size 396289\n\
+         ok close\n\
+         ok open 396289\n\
+         ok write 1\n\
+         random fault\n",
     );
     add_words(&mut random, 4)?;
-    expect_all(
+    expect_script(
         &rt,
         alloc,
         &mut desk,
         &mut host,
         &mut random,
-        &[
-            ("flush 0", "random fault\n"),
-            ("read 0 396288 9", "ok read 1 7a\n"),
-        ],
+        "flush 0\n\
+         read 0 396288 9",
+        "random fault\n\
+         ok read 1 7a\n",
     );
     add_words(&mut random, 5)?;
-    expect_all(
+    expect_script(
         &rt,
         alloc,
         &mut desk,
         &mut host,
         &mut random,
-        &[
-            ("flush 0", "ok flush\n"),
-            ("close 0", "ok close\n"),
-            ("open 0 a.pf", "ok open 396289\n"),
-            ("read 0 396288 9", "ok read 1 7a\n"),
-        ],
+        "flush 0\n\
+         close 0\n\
+         open 0 a.pf\n\
+         read 0 396288 9",
+        "ok flush\n\
+         ok close\n\
+         ok open 396289\n\
+         ok read 1 7a\n",
     );
     Ok(())
 }
 
 #[test]
 fn a_shrink_leaves_no_old_bytes(rt: HostRuntime) -> Result<(), Fail> {
-    let alloc = rt.alloc();
-    let mut host = MemHost::new(alloc);
-    let mut random = words_of(alloc, 8)?;
-    let mut desk = Desk::new(alloc, KEY);
-    expect_all(
+    let host = expect_on_new(
         &rt,
-        alloc,
-        &mut desk,
-        &mut host,
-        &mut random,
-        &[
-            ("create 0 d.pf", "ok create\n"),
-            ("fill 0 0 5000 ff", "ok write 5000\n"),
-            ("size 0 100", "ok size 100\n"),
-            ("size 0 5000", "ok size 5000\n"),
-            ("read 0 98 4", "ok read 4 ffff0000\n"),
-            ("read 0 4996 4", "ok read 4 00000000\n"),
-            ("close 0", "ok close\n"),
-        ],
-    );
-    assert_eq!(&rt; host.bytes("d.pf").map(|bytes| bytes.len()), Some(12288));
+        rt.alloc(),
+        8,
+        "create 0 d.pf\n\
+         fill 0 0 5000 ff\n\
+         size 0 100\n\
+         size 0 5000\n\
+         read 0 98 4\n\
+         read 0 4996 4\n\
+         close 0",
+        "ok create\n\
+         ok write 5000\n\
+         ok size 100\n\
+         ok size 5000\n\
+         ok read 4 ffff0000\n\
+         ok read 4 00000000\n\
+         ok close\n",
+    )?;
+    let Some(bytes) = host.bytes("d.pf") else {
+        panic!(&rt; "no file");
+    };
+    assert!(&rt; bytes.len() == 12288);
     Ok(())
 }
 
 #[test]
 fn a_write_that_would_make_too_many_nodes_dirty_flushes(rt: HostRuntime) -> Result<(), Fail> {
-    let alloc = rt.alloc();
-    let mut host = MemHost::new(alloc);
-    let mut random = words_of(alloc, 100)?;
-    let mut desk = Desk::new(alloc, KEY);
-    expect_all(
+    expect_on_new(
         &rt,
-        alloc,
-        &mut desk,
-        &mut host,
-        &mut random,
-        &[
-            ("create 0 e.pf", "ok create\n"),
-            ("fill 0 0 32768 61", "ok write 32768\n"),
-            ("fill 0 32768 32768 61", "ok write 32768\n"),
-            ("fill 0 65536 32768 61", "ok write 32768\n"),
-            ("fill 0 98304 32768 61", "ok write 32768\n"),
-            ("fill 0 131072 32768 61", "ok write 32768\n"),
-            ("fill 0 163840 32768 61", "ok write 32768 flushed\n"),
-        ],
-    );
+        rt.alloc(),
+        100,
+        "create 0 e.pf\n\
+         fill 0 0 32768 61\n\
+         fill 0 32768 32768 61\n\
+         fill 0 65536 32768 61\n\
+         fill 0 98304 32768 61\n\
+         fill 0 131072 32768 61\n\
+         fill 0 163840 32768 61",
+        "ok create\n\
+         ok write 32768\n\
+         ok write 32768\n\
+         ok write 32768\n\
+         ok write 32768\n\
+         ok write 32768\n\
+         ok write 32768 flushed\n",
+    )?;
     Ok(())
 }
 
 #[test]
 fn seats_and_names_are_told_apart(rt: HostRuntime) -> Result<(), Fail> {
-    let alloc = rt.alloc();
-    let mut host = MemHost::new(alloc);
-    let mut random = words_of(alloc, 20)?;
-    let mut desk = Desk::new(alloc, KEY);
-    expect_all(
+    expect_on_new(
         &rt,
-        alloc,
-        &mut desk,
-        &mut host,
-        &mut random,
-        &[
-            ("", ""),
-            ("# a comment", ""),
-            ("flush 3", "refused seat empty\n"),
-            ("create 0 x.new", "refused bad name\n"),
-            ("create 0 a.pf", "ok create\n"),
-            ("create 0 b.pf", "refused seat busy\n"),
-            ("create 1 a.pf", "refused name busy\n"),
-            ("open 1 a.pf", "refused name busy\n"),
-            ("open 1 b.pf", "refused not found b.pf\n"),
-            ("create 1 b.pf", "ok create\n"),
-            ("view 0 /a", "refused seat busy\n"),
-            ("view 2 /a", "refused no manifest\n"),
-            ("close 0", "ok close\n"),
-            ("create 0 a.pf", "refused exists a.pf\n"),
-            ("open 0 a.pf", "ok open 0\n"),
-            ("size 0 100000", "ok size 100000\n"),
-            ("size 0 4294967297", "refused too large\n"),
-            (
-                "draw 0",
-                "ok draw 0404040404040404040404040404040405050505050505050505050505050505\n",
-            ),
-            (
-                "draw 0",
-                "ok draw 0404040404040404040404040404040405050505050505050505050505050505\n",
-            ),
-            ("close 0", "random fault\n"),
-            ("close 0", "refused seat empty\n"),
-        ],
-    );
+        rt.alloc(),
+        20,
+        "\n\
+         # a comment\n\
+         flush 3\n\
+         create 0 x.new\n\
+         create 0 a.pf\n\
+         create 0 b.pf\n\
+         create 1 a.pf\n\
+         open 1 a.pf\n\
+         open 1 b.pf\n\
+         create 1 b.pf\n\
+         view 0 /a\n\
+         view 2 /a\n\
+         close 0\n\
+         create 0 a.pf\n\
+         open 0 a.pf\n\
+         size 0 100000\n\
+         size 0 4294967297\n\
+         draw 0\n\
+         draw 0\n\
+         close 0\n\
+         close 0",
+        "refused seat empty\n\
+         refused bad name\n\
+         ok create\n\
+         refused seat busy\n\
+         refused name busy\n\
+         refused name busy\n\
+         refused not found b.pf\n\
+         ok create\n\
+         refused seat busy\n\
+         refused no manifest\n\
+         ok close\n\
+         refused exists a.pf\n\
+         ok open 0\n\
+         ok size 100000\n\
+         refused too large\n\
+         ok draw 0404040404040404040404040404040405050505050505050505050505050505\n\
+         ok draw 0404040404040404040404040404040405050505050505050505050505050505\n\
+         random fault\n\
+         refused seat empty\n",
+    )?;
     Ok(())
+}
+
+// Whether the seat was closed whole.
+fn closed_whole(desk: &mut Desk, host: &mut MemHost, random: &mut ListWords, seat: u8) -> bool
+    requires { seat < 8 }
+{
+    let reply = desk.end(host, random, seat);
+    matches!(reply, Some(Reply::Closed { lost: false }))
+}
+
+// Whether the seat was empty.
+fn is_empty(desk: &mut Desk, host: &mut MemHost, random: &mut ListWords, seat: u8) -> bool
+    requires { seat < 8 }
+{
+    desk.end(host, random, seat).is_none()
 }
 
 #[test]
@@ -294,66 +325,69 @@ fn the_seats_are_closed_at_the_end(rt: HostRuntime) -> Result<(), Fail> {
     let mut host = MemHost::new(alloc);
     let mut random = words_of(alloc, 20)?;
     let mut desk = Desk::new(alloc, KEY);
-    expect_all(
+    expect_script(
         &rt,
         alloc,
         &mut desk,
         &mut host,
         &mut random,
-        &[
-            ("create 2 a.pf", "ok create\n"),
-            ("write 2 0 6869", "ok write 2\n"),
-        ],
+        "create 2 a.pf\n\
+         write 2 0 6869",
+        "ok create\n\
+         ok write 2\n",
     );
-    assert!(&rt; desk.end(&mut host, &mut random, 0).is_none());
-    match desk.end(&mut host, &mut random, 2) {
-        Some(Reply::Closed { lost }) => assert!(&rt; !lost),
-        _other => panic!(&rt; "not closed"),
-    }
-    assert!(&rt; desk.end(&mut host, &mut random, 2).is_none());
-    expect_all(
+    assert!(&rt; is_empty(&mut desk, &mut host, &mut random, 0));
+    assert!(&rt; closed_whole(&mut desk, &mut host, &mut random, 2));
+    assert!(&rt; is_empty(&mut desk, &mut host, &mut random, 2));
+    expect_script(
         &rt,
         alloc,
         &mut desk,
         &mut host,
         &mut random,
-        &[
-            ("open 2 a.pf", "ok open 2\n"),
-            ("read 2 0 9", "ok read 2 6869\n"),
-        ],
+        "open 2 a.pf\n\
+         read 2 0 9",
+        "ok open 2\n\
+         ok read 2 6869\n",
     );
     Ok(())
 }
 
 #[test]
 fn a_move_takes_the_file_to_another_name(rt: HostRuntime) -> Result<(), Fail> {
-    let alloc = rt.alloc();
-    let mut host = MemHost::new(alloc);
-    let mut random = words_of(alloc, 20)?;
-    let mut desk = Desk::new(alloc, KEY);
-    expect_all(
+    let host = expect_on_new(
         &rt,
-        alloc,
-        &mut desk,
-        &mut host,
-        &mut random,
-        &[
-            ("move 0 g.pf", "refused seat empty\n"),
-            ("create 0 f.pf", "ok create\n"),
-            ("write 0 0 6869", "ok write 2\n"),
-            ("create 1 b.pf", "ok create\n"),
-            ("move 0 b.pf", "refused name busy\n"),
-            ("close 1", "ok close\n"),
-            ("move 0 b.pf", "refused target exists\n"),
-            ("move 0 f.pf", "refused target exists\n"),
-            ("move 0 x.new", "refused bad name\n"),
-            ("move 0 g.pf", "ok move\n"),
-            ("read 0 0 9", "ok read 2 6869\n"),
-            ("open 1 f.pf", "refused not found f.pf\n"),
-            ("close 0", "ok close\n"),
-            ("open 1 g.pf", "ok open 2\n"),
-        ],
-    );
+        rt.alloc(),
+        20,
+        "move 0 g.pf\n\
+         create 0 f.pf\n\
+         write 0 0 6869\n\
+         create 1 b.pf\n\
+         move 0 b.pf\n\
+         close 1\n\
+         move 0 b.pf\n\
+         move 0 f.pf\n\
+         move 0 x.new\n\
+         move 0 g.pf\n\
+         read 0 0 9\n\
+         open 1 f.pf\n\
+         close 0\n\
+         open 1 g.pf",
+        "refused seat empty\n\
+         ok create\n\
+         ok write 2\n\
+         ok create\n\
+         refused name busy\n\
+         ok close\n\
+         refused target exists\n\
+         refused target exists\n\
+         refused bad name\n\
+         ok move\n\
+         ok read 2 6869\n\
+         refused not found f.pf\n\
+         ok close\n\
+         ok open 2\n",
+    )?;
     assert!(&rt; host.bytes("f.pf").is_none());
     Ok(())
 }
@@ -364,33 +398,38 @@ fn a_fault_breaks_its_own_seat(rt: HostRuntime) -> Result<(), Fail> {
     let mut host = MemHost::new(alloc);
     let mut random = words_of(alloc, 20)?;
     let mut desk = Desk::new(alloc, KEY);
-    expect_all(
+    expect_script(
         &rt,
         alloc,
         &mut desk,
         &mut host,
         &mut random,
-        &[
-            ("create 0 a.pf", "ok create\n"),
-            ("create 1 b.pf", "ok create\n"),
-            ("write 0 0 61", "ok write 1\n"),
-        ],
+        "create 0 a.pf\n\
+         create 1 b.pf\n\
+         write 0 0 61",
+        "ok create\n\
+         ok create\n\
+         ok write 1\n",
     );
     host.fail_at(15)?;
-    expect_all(
+    expect_script(
         &rt,
         alloc,
         &mut desk,
         &mut host,
         &mut random,
-        &[
-            ("flush 0", "host fault\n"),
-            ("read 0 0 1", "refused broken\n"),
-            ("write 1 0 62", "ok write 1\n"),
-            ("close 0", "ok close lost\n"),
-            ("open 0 a.pf", "ok open 0\n"),
-            ("close 1", "ok close\n"),
-        ],
+        "flush 0\n\
+         read 0 0 1\n\
+         write 1 0 62\n\
+         close 0\n\
+         open 0 a.pf\n\
+         close 1",
+        "host fault\n\
+         refused broken\n\
+         ok write 1\n\
+         ok close lost\n\
+         ok open 0\n\
+         ok close\n",
     );
     Ok(())
 }

@@ -13,12 +13,17 @@ const AT_ONCE: Written = Written {
     flushed_before: false,
 };
 
-// So many random words, each another one.
-pub(crate) fn words_of(alloc: Global, count: u8) -> Result<ListWords, Fail> {
-    let mut random = ListWords::new(alloc);
+pub(crate) fn add_words(random: &mut ListWords, count: u8) -> Result<(), Fail> {
     for word in 0..count {
         random.push([word; 16])?;
     }
+    Ok(())
+}
+
+// So many random words, each another one.
+pub(crate) fn words_of(alloc: Global, count: u8) -> Result<ListWords, Fail> {
+    let mut random = ListWords::new(alloc);
+    add_words(&mut random, count)?;
     Ok(random)
 }
 

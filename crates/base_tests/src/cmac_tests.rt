@@ -1,5 +1,5 @@
 // The published examples of SP 800-38B, D.1, and a key that Python's cryptography computed.
-use crate::{cmac, metadata_key};
+use cmac_kdf::{cmac, metadata_key};
 use aes_gcm::Key;
 
 const KEY: [u8; 16] = [

@@ -1,0 +1,37 @@
+//! Tests of the crates below pf_session and of those of plain files. They stand apart, so that each crate is proved once.
+#![tactic(auto)]
+
+#[cfg(test)]
+mod block_tests;
+#[cfg(test)]
+mod calls;
+#[cfg(test)]
+mod chunk_tests;
+#[cfg(test)]
+mod cmac_tests;
+#[cfg(test)]
+mod crash_tests;
+#[cfg(test)]
+mod edit_tests;
+#[cfg(test)]
+mod form_tests;
+#[cfg(test)]
+mod gcm_tests;
+#[cfg(test)]
+mod measure_tests;
+#[cfg(test)]
+mod metadata_tests;
+#[cfg(test)]
+mod model_tests;
+#[cfg(test)]
+mod places_tests;
+#[cfg(test)]
+mod plain_tests;
+#[cfg(test)]
+mod policy_tests;
+#[cfg(test)]
+mod sum_tests;
+#[cfg(test)]
+mod template_tests;
+#[cfg(test)]
+mod tree_tests;
