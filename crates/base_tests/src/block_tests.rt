@@ -43,6 +43,6 @@ fn published_blocks_are_encrypted(rt: HostRuntime) {
     ];
     for (key, text, want) in examples {
         let key = Key::new(&block(key));
-        assert_eq!(rt; encrypt_block(&key, &block(text)), block(want));
+        assert!(rt; encrypt_block(&key, &block(text)) == block(want));
     }
 }

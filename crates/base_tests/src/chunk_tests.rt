@@ -16,11 +16,16 @@ fn room_for(alloc: Global, len: usize) -> Result<Vec<u8>, Fail>
 }
 
 // A content that shows its place: 251 is a prime, so bytes of two chunks at one place differ.
-fn content(alloc: Global, len: usize) -> Result<Vec<u8>, Fail> {
-    let mut bytes = Vec::new(alloc);
+fn add_content(bytes: &mut Vec<u8>, len: usize) -> Result<(), Fail> {
     for place in 0..len {
         bytes.push((place % 251) as u8)?;
     }
+    Ok(())
+}
+
+fn content(alloc: Global, len: usize) -> Result<Vec<u8>, Fail> {
+    let mut bytes = Vec::new(alloc);
+    add_content(&mut bytes, len)?;
     Ok(bytes)
 }
 

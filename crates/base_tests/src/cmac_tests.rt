@@ -1,6 +1,6 @@
 // The published examples of SP 800-38B, D.1, and a key that Python's cryptography computed.
-use cmac_kdf::{cmac, metadata_key};
 use aes_gcm::Key;
+use cmac_kdf::{cmac, metadata_key};
 
 const KEY: [u8; 16] = [
     0x2b, 0x7e, 0x15, 0x16, 0x28, 0xae, 0xd2, 0xa6, 0xab, 0xf7, 0x15, 0x88, 0x09, 0xcf, 0x4f, 0x3c,
@@ -17,13 +17,13 @@ const TEXT: [u8; 64] = [
 fn cmac_gives_the_published_tags(rt: HostRuntime) {
     let key = Key::new(&KEY);
     let empty = u128::from_be_bytes(cmac(&key, &[]));
-    assert_eq!(rt; empty, 0xbb1d_6929_e959_3728_7fa3_7d12_9b75_6746);
+    assert!(rt; empty == 0xbb1d_6929_e959_3728_7fa3_7d12_9b75_6746);
     let one_block = u128::from_be_bytes(cmac(&key, &TEXT[..16]));
-    assert_eq!(rt; one_block, 0x070a_16b4_6b4d_4144_f79b_dd9d_d04a_287c);
+    assert!(rt; one_block == 0x070a_16b4_6b4d_4144_f79b_dd9d_d04a_287c);
     let part_block = u128::from_be_bytes(cmac(&key, &TEXT[..40]));
-    assert_eq!(rt; part_block, 0xdfa6_6747_de9a_e630_30ca_3261_1497_c827);
+    assert!(rt; part_block == 0xdfa6_6747_de9a_e630_30ca_3261_1497_c827);
     let four_blocks = u128::from_be_bytes(cmac(&key, &TEXT));
-    assert_eq!(rt; four_blocks, 0x51f0_bebf_7e3b_9d92_fc49_7417_7936_3cfe);
+    assert!(rt; four_blocks == 0x51f0_bebf_7e3b_9d92_fc49_7417_7936_3cfe);
 }
 
 // The user's key is the bytes 0 to 15, and the nonce the bytes 128 to 159.
@@ -35,5 +35,5 @@ fn metadata_key_gives_the_key_of_another_implementation(rt: HostRuntime) {
         nonce[i] = 128 + i as u8;
     }
     let key = u128::from_be_bytes(metadata_key(&user, &nonce));
-    assert_eq!(rt; key, 0x947a_b33a_0679_51a4_6151_a234_4345_64f5);
+    assert!(rt; key == 0x947a_b33a_0679_51a4_6151_a234_4345_64f5);
 }

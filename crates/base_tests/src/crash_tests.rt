@@ -6,13 +6,23 @@ use std::test::Fail;
 
 const EACH_TEAR: [Tear; 3] = [Tear::Kept, Tear::Lost, Tear::Fill(b'-')];
 
-// The host after the first calls of the script and a crash. The others are made too, and change nothing.
-fn crashed(alloc: Global, calls: u64, tear: Tear) -> Result<MemHost, Fail> {
-    let mut host = MemHost::new(alloc);
+fn put_files(host: &mut MemHost) -> Result<(), Fail> {
     host.put("a", b"abcd")?;
     host.put("c", b"other")?;
+    Ok(())
+}
+
+// The first calls of the script change a host, and the others do not.
+fn make_calls(host: &mut MemHost, calls: u64) {
     host.stop_at(calls);
-    make_each(&mut host, &SCRIPT);
+    make_each(host, &SCRIPT);
+}
+
+// The host after the first calls of the script and a crash.
+fn crashed(alloc: Global, calls: u64, tear: Tear) -> Result<MemHost, Fail> {
+    let mut host = MemHost::new(alloc);
+    put_files(&mut host)?;
+    make_calls(&mut host, calls);
     Ok(host.after_crash(tear)?)
 }
 
@@ -78,10 +88,10 @@ fn a_crash_leaves_what_the_tear_says_after_each_call(rt: HostRuntime) -> Result<
     for (calls, row) in OUTCOMES.iter().enumerate() {
         for (tear, (a, b)) in EACH_TEAR.iter().zip(row) {
             let host = crashed(rt.alloc(), calls as u64, *tear)?;
-            assert_eq!(rt; host.bytes("a"), *a, "{calls} calls, {tear:?}");
-            assert_eq!(rt; host.bytes("b"), *b, "{calls} calls, {tear:?}");
-            assert_eq!(rt; host.bytes("c"), Some(b"other".as_slice()));
-            assert_eq!(rt; host.starved(), 0);
+            assert!(rt; host.bytes("a") == *a, "{calls} calls, {tear:?}");
+            assert!(rt; host.bytes("b") == *b, "{calls} calls, {tear:?}");
+            assert!(rt; host.bytes("c") == Some(b"other".as_slice()));
+            assert!(rt; host.starved() == 0);
         }
     }
     Ok(())
@@ -95,10 +105,10 @@ fn a_host_in_memory_stops_where_it_is_told_to(rt: HostRuntime) -> Result<(), Fai
     host.stop_at(2);
     expect_each(&rt, &mut host, &[Call::Write("a", 0, b"x")], Ok(()));
     expect_each(&rt, &mut host, &SCRIPT, Err(HostFault));
-    assert_eq!(rt; host.bytes("a"), Some(b"xbc".as_slice()));
-    assert_eq!(rt; host.starved(), 0);
+    assert!(rt; host.bytes("a") == Some(b"xbc".as_slice()));
+    assert!(rt; host.starved() == 0);
     let mut host = host.after_crash(Tear::Kept)?;
-    assert_eq!(rt; host.len("a"), Ok(Some(3)));
+    assert!(rt; host.len("a") == Ok(Some(3)));
     Ok(())
 }
 
@@ -117,8 +127,8 @@ fn calls_on_absent_names_change_nothing(rt: HostRuntime) -> Result<(), Fail> {
     let mut host = MemHost::new(rt.alloc());
     host.put("a", b"abc")?;
     expect_each(&rt, &mut host, &IDLE, Ok(()));
-    assert_eq!(rt; host.bytes("a"), Some(b"abc".as_slice()));
-    assert_eq!(rt; host.bytes("b"), None);
+    assert!(rt; host.bytes("a") == Some(b"abc".as_slice()));
+    assert!(rt; host.bytes("b") == None);
     Ok(())
 }
 
@@ -134,14 +144,14 @@ fn a_crash_leaves_the_old_file_or_the_new_one(rt: HostRuntime) -> Result<(), Fai
                 host.put("a", b"old")?;
                 host.stop_at(calls);
                 let outcome = write_by_side_file(&mut host, "a", "a.new", bytes);
-                assert_eq!(rt; outcome.is_ok(), calls >= all);
+                assert!(rt; outcome.is_ok() == (calls >= all));
                 let want = if calls >= all {
                     bytes
                 } else {
                     b"old".as_slice()
                 };
                 let host = host.after_crash(tear)?;
-                assert_eq!(rt; host.bytes("a"), Some(want), "{calls} calls, {tear:?}");
+                assert!(rt; host.bytes("a") == Some(want), "{calls} calls, {tear:?}");
             }
         }
     }

@@ -17,15 +17,15 @@ fn names_have_1_to_512_bytes_and_no_zero(rt: HostRuntime) -> Result<(), Fail> {
         ("\0", false),
         (".", true),
     ] {
-        assert_eq!(rt; is_name(name), want, "{name}");
+        assert!(rt; is_name(name) == want, "{name}");
     }
     let mut long = String::from_str(rt.alloc(), "x")?;
     for _ in 1..512 {
         long.push_str("x")?;
     }
-    assert_eq!(rt; is_name(long.as_str()), true);
+    assert!(rt; is_name(long.as_str()) == true);
     long.push_str("x")?;
-    assert_eq!(rt; is_name(long.as_str()), false);
+    assert!(rt; is_name(long.as_str()) == false);
     Ok(())
 }
 
@@ -54,7 +54,7 @@ fn a_protected_file_may_not_have_each_name(rt: HostRuntime) {
         (".recovery", false),
         ("dir/\0", false),
     ] {
-        assert_eq!(rt; is_target(name), want, "{name}");
+        assert!(rt; is_target(name) == want, "{name}");
     }
 }
 
@@ -77,9 +77,9 @@ fn numbers_have_no_sign_and_no_leading_zero(rt: HostRuntime) {
         ("0x7", None),
         ("\u{0667}", None),
     ] {
-        assert_eq!(rt; read_number(text.as_bytes()), want, "{text}");
+        assert!(rt; read_number(text.as_bytes()) == want, "{text}");
     }
-    assert_eq!(rt; read_number(&[0xff]), None);
+    assert!(rt; read_number(&[0xff]) == None);
 }
 
 #[test]
@@ -87,7 +87,7 @@ fn texts_are_owned(rt: HostRuntime) -> Result<(), Fail> {
     let text = Text::copy(rt.alloc(), "na\u{ef}ve")?;
     let joined = Text::joined(rt.alloc(), text.as_str(), ".new")?;
     let plain = String::from(joined);
-    assert_eq!(rt; Text::from(plain).as_str(), "na\u{ef}ve.new");
+    assert!(rt; Text::from(plain).as_str() == "na\u{ef}ve.new");
     Ok(())
 }
 
@@ -96,7 +96,7 @@ fn bytes_are_owned(rt: HostRuntime) -> Result<(), Fail> {
     let mut bytes = Bytes::zeroed(rt.alloc(), 3)?;
     bytes.as_mut_slice()[1] = 7;
     let list = Vec::from(bytes);
-    assert_eq!(rt; Bytes::from(list).as_slice(), [0, 7, 0].as_slice());
+    assert!(rt; Bytes::from(list).as_slice() == [0, 7, 0].as_slice());
     Ok(())
 }
 
@@ -113,7 +113,7 @@ fn a_host_in_memory_has_what_was_put(rt: HostRuntime) -> Result<(), Fail> {
         ("b", 0, (Some(5), 4, *b"othe")),
         ("c", 0, (None, 0, [9; 4])),
     ] {
-        assert_eq!(rt; opened(&mut host, name, at), Ok(want));
+        assert!(rt; opened(&mut host, name, at) == Ok(want));
     }
     Ok(())
 }
@@ -126,9 +126,9 @@ fn a_host_in_memory_fails_where_it_is_told_to(rt: HostRuntime) -> Result<(), Fai
     host.fail_at(3)?;
     host.fail_at(1)?;
     for want in [Err(HostFault), Err(HostFault), Ok((Some(3), 3, *b"abc\t"))] {
-        assert_eq!(rt; opened(&mut host, "a", 0), want);
+        assert!(rt; opened(&mut host, "a", 0) == want);
     }
-    assert_eq!(rt; host.starved(), 0);
+    assert!(rt; host.starved() == 0);
     Ok(())
 }
 
@@ -137,12 +137,12 @@ fn a_source_in_memory_gives_its_bytes_in_order(rt: HostRuntime) -> Result<(), Fa
     let mut source = MemSource::new(Bytes::copy(rt.alloc(), b"abcde")?);
     source.fail_at(1);
     let mut to = [b'-'; 3];
-    assert_eq!(rt; source.read(&mut to), Ok(3));
-    assert_eq!(rt; to, *b"abc");
-    assert_eq!(rt; source.read(&mut to), Err(StreamFault));
-    assert_eq!(rt; source.read(&mut to), Ok(2));
-    assert_eq!(rt; to, *b"dec");
-    assert_eq!(rt; source.read(&mut to), Ok(0));
+    assert!(rt; source.read(&mut to) == Ok(3));
+    assert!(rt; to == *b"abc");
+    assert!(rt; source.read(&mut to) == Err(StreamFault));
+    assert!(rt; source.read(&mut to) == Ok(2));
+    assert!(rt; to == *b"dec");
+    assert!(rt; source.read(&mut to) == Ok(0));
     Ok(())
 }
 
@@ -150,11 +150,11 @@ fn a_source_in_memory_gives_its_bytes_in_order(rt: HostRuntime) -> Result<(), Fa
 fn a_sink_in_memory_keeps_what_it_takes(rt: HostRuntime) {
     let mut sink = MemSink::new(rt.alloc());
     sink.fail_at(1);
-    assert_eq!(rt; sink.write(b"ab"), Ok(()));
-    assert_eq!(rt; sink.write(b"xx"), Err(StreamFault));
-    assert_eq!(rt; sink.write(b"c"), Ok(()));
-    assert_eq!(rt; sink.bytes(), b"abc".as_slice());
-    assert_eq!(rt; sink.starved(), 0);
+    assert!(rt; sink.write(b"ab") == Ok(()));
+    assert!(rt; sink.write(b"xx") == Err(StreamFault));
+    assert!(rt; sink.write(b"c") == Ok(()));
+    assert!(rt; sink.bytes() == b"abc".as_slice());
+    assert!(rt; sink.starved() == 0);
 }
 
 #[test]
@@ -167,10 +167,10 @@ fn a_scripted_host_takes_the_next_answer(rt: HostRuntime) -> Result<(), Fail> {
     for _ in 0..10 {
         host.answer(Answer::Done)?;
     }
-    assert_eq!(rt; opened(&mut host, "a", 1), Ok((Some(5), 4, *b"hell")));
-    assert_eq!(rt; opened(&mut host, "a", 1), Ok((Some(5), 2, *b"he\t\t")));
+    assert!(rt; opened(&mut host, "a", 1) == Ok((Some(5), 4, *b"hell")));
+    assert!(rt; opened(&mut host, "a", 1) == Ok((Some(5), 2, *b"he\t\t")));
     expect_each(&rt, &mut host, &SCRIPT, Ok(()));
-    assert_eq!(rt; host.starved(), 0);
+    assert!(rt; host.starved() == 0);
     Ok(())
 }
 
@@ -178,10 +178,10 @@ fn a_scripted_host_takes_the_next_answer(rt: HostRuntime) -> Result<(), Fail> {
 fn a_missing_answer_and_one_of_another_form_are_faults(rt: HostRuntime) -> Result<(), Fail> {
     let mut host = ScriptHost::new(rt.alloc());
     host.answer(Answer::Done)?;
-    assert_eq!(rt; opened(&mut host, "a", 0), Err(HostFault));
+    assert!(rt; opened(&mut host, "a", 0) == Err(HostFault));
     host.answer(Answer::Fail)?;
     host.answer(Answer::Len(None))?;
     expect_each(&rt, &mut host, &SCRIPT, Err(HostFault));
-    assert_eq!(rt; host.starved(), 0);
+    assert!(rt; host.starved() == 0);
     Ok(())
 }

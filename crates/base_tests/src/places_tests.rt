@@ -19,7 +19,7 @@ fn places_and_counts_are_as_listed(rt: HostRuntime) {
 
 #[test]
 fn a_node_has_its_entry_in_its_parent(rt: HostRuntime) {
-    assert_eq!(rt; mht_parent(33), 1);
+    assert!(rt; mht_parent(33) == 1);
     for (k, parent, slot) in [
         (2, 1, 0),
         (97, 1, 95),
@@ -35,6 +35,6 @@ fn a_node_has_its_entry_in_its_parent(rt: HostRuntime) {
 fn an_entry_is_put_beside_the_others(rt: HostRuntime) {
     let mut node = [9; 4096];
     set_entry(&mut node, 127, &[1; 16], &[2; 16]);
-    assert_eq!(rt; entry(&node, 127), ([1; 16], [2; 16]));
-    assert_eq!(rt; entry(&node, 126), ([9; 16], [9; 16]));
+    assert!(rt; entry(&node, 127) == ([1; 16], [2; 16]));
+    assert!(rt; entry(&node, 126) == ([9; 16], [9; 16]));
 }

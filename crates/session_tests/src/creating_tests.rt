@@ -54,9 +54,9 @@ fn stop_creation(rt: &impl Abort, alloc: Global, calls: u64, tear: Tear) -> Resu
     host.put("b.pf", b"other")?;
     host.stop_at(calls);
     let fault = created(alloc, &mut host, 2)?;
-    assert_eq!(rt; fault.is_none(), calls == 6, "{calls} calls");
+    assert!(rt; fault.is_none() == (calls == 6), "{calls} calls");
     let mut left = host.after_crash(tear)?;
-    assert_eq!(rt; left.bytes("b.pf"), Some(&b"other"[..]));
+    assert!(rt; left.bytes("b.pf") == Some(&b"other"[..]));
     if calls == 6 {
         expect_empty(rt, alloc, &mut left);
     } else {
@@ -82,9 +82,9 @@ fn stop_beginning(rt: &impl Abort, alloc: Global, calls: u64, tear: Tear) -> Res
     host.put("a.pf", b"before")?;
     host.stop_at(calls);
     let fault = begun(alloc, &mut host, 2)?;
-    assert_eq!(rt; fault.is_none(), calls == 3, "{calls} calls");
+    assert!(rt; fault.is_none() == (calls == 3), "{calls} calls");
     let mut left = host.after_crash(tear)?;
-    assert_eq!(rt; left.bytes("a.pf"), Some(&b"before"[..]));
+    assert!(rt; left.bytes("a.pf") == Some(&b"before"[..]));
     if calls == 3 {
         take_name(rt, &mut left);
         expect_empty(rt, alloc, &mut left);
@@ -93,7 +93,7 @@ fn stop_beginning(rt: &impl Abort, alloc: Global, calls: u64, tear: Tear) -> Res
 }
 
 fn take_name(rt: &impl Abort, host: &mut MemHost) {
-    assert_eq!(rt; host.swap_name("a.pf.new", "a.pf"), Ok(()));
+    assert!(rt; host.swap_name("a.pf.new", "a.pf") == Ok(()));
 }
 
 #[test]

@@ -49,7 +49,7 @@ pub(crate) fn write(
     from: &[u8],
 ) {
     assert!(rt; !session.broken());
-    assert_eq!(rt; session.write(host, random, at, from), Ok(AT_ONCE));
+    assert!(rt; session.write(host, random, at, from) == Ok(AT_ONCE));
 }
 
 pub(crate) fn flush(
@@ -59,5 +59,5 @@ pub(crate) fn flush(
     random: &mut ListWords,
 ) {
     assert!(rt; !session.broken());
-    assert_eq!(rt; session.flush(host, random), Ok(()));
+    assert!(rt; session.flush(host, random) == Ok(()));
 }

@@ -6,6 +6,8 @@ use std::alloc::Global;
 use std::process::Abort;
 use std::test::Fail;
 
+const FIVES: [u8; 5000] = [5; 5000];
+
 // A session on `a.pf` with a sealed content of 5000 bytes 5, which takes six words.
 fn sealed_file(
     rt: &impl Abort,
@@ -20,9 +22,7 @@ fn sealed_file(
 }
 
 fn fill(rt: &impl Abort, session: &mut Session, host: &mut MemHost, random: &mut ListWords) {
-    for piece in 0..50 {
-        write(rt, session, host, random, 100 * piece, &[5; 100]);
-    }
+    write(rt, session, host, random, 0, &FIVES);
 }
 
 // The last byte before the data node becomes 6, which makes no node dirty.
@@ -87,14 +87,13 @@ fn stop_move(
     host.stop_at(calls);
     let moved = move_to(rt, alloc, &mut session, &mut host, &mut random, "b.pf");
     let all = if changed { CALLS_WITH_FLUSH } else { CALLS };
-    assert_eq!(rt; moved.is_ok(), calls >= all, "{calls} calls");
-    assert_eq!(rt;
-        session.broken(),
-        1 <= calls && calls < all,
+    assert!(rt; moved.is_ok() == (calls >= all), "{calls} calls");
+    assert!(rt;
+        session.broken() == (1 <= calls && calls < all),
         "{calls} calls"
     );
     let mut left = host.after_crash(tear)?;
-    assert_eq!(rt; left.bytes("c.pf"), Some(&b"other"[..]));
+    assert!(rt; left.bytes("c.pf") == Some(&b"other"[..]));
     expect_moved(rt, alloc, &mut left, calls, all, changed);
     Ok(())
 }
@@ -116,8 +115,8 @@ fn expect_moved(
     let first = if flushed { 6 } else { 5 };
     let old = bytes_if(calls < all, first);
     let new = bytes_if(calls.saturating_add(1) >= all, first);
-    assert_eq!(rt; bytes_at(rt, alloc, left, "a.pf"), old, "{calls} calls");
-    assert_eq!(rt; bytes_at(rt, alloc, left, "b.pf"), new, "{calls} calls");
+    assert!(rt; bytes_at(rt, alloc, left, "a.pf") == old, "{calls} calls");
+    assert!(rt; bytes_at(rt, alloc, left, "b.pf") == new, "{calls} calls");
 }
 
 #[test]
