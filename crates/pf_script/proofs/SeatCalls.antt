@@ -1,7 +1,6 @@
 -- A line on a seat, from what was seen of a call on its session.
 use Rattle.std.proofs.Common.{◌≡◌, inl, Bool, true, false, List, [], ◌∷◌, ◌++◌, ℕ, refl, sym, ◌∙◌, ap, subst, Option, Some, None, Ok, Err}
 use Rattle.std.proofs.lemmas.List.{append-nil}
-use Rattle.std.proofs.lemmas.List.Elements.{Contains-push, Contains-append_left}
 use Rattle.std.specs.Prelude.{Contains}
 use Rattle.node_tree.specs.Sheet.{Sheet, IsLinked}
 use Rattle.pf_session.specs.Moving.{IsKeptOn}
@@ -31,7 +30,7 @@ seen_by these words of_host of_words = record { given = these; words = words; ho
 
 -- a name that was looked for first, and was absent
 pub told_absent : (name : Name) (rest : List Answer) → WasAbsent name (LengthWas name None ∷ rest)
-told_absent name rest = Contains-append_left (LengthWas name None ∷ []) rest (LengthWas name None) (Contains-push [] (LengthWas name None))
+told_absent name rest = (rest, refl)
 
 -- a seat by its fields
 abbrev pub own_with : List ℕ → Name → Sheet → List ℕ → List ℕ → Bool → Option (List ℕ) → Bool → OwnSeat

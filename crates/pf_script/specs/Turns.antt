@@ -44,9 +44,9 @@ Standing = Name → List Answer → Sheet → Type 0
 abbrev pub on_carried : List ℕ → List Sheet → Standing
 on_carried key sealed name given sheet = (block : List ℕ) × IsLast name given block × IsFirstSheet (Carries key block) sealed sheet
 
--- the host said that no file has the name
+-- the first answer was that no file has the name
 abbrev pub WasAbsent : Name → List Answer → Type 0
-WasAbsent name given = Contains given (LengthWas name None)
+WasAbsent name given = (rest : List Answer) × (given ≡ LengthWas name None ∷ rest)
 
 -- the seat of a file that was opened or created
 abbrev pub new_seat : List ℕ → Name → Sheet → OwnSeat
