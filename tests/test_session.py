@@ -1,8 +1,11 @@
 """Sessions: a script on standard input, each line of which is answered before the next is read."""
+import array
+import fcntl
 import os
 import random
 import signal
 import subprocess
+import termios
 import time
 
 from harness import KEY, PROGRAM, TOP, decrypt, encrypt, got, holds, put, run, same, traced
@@ -180,12 +183,23 @@ def test_session_lines_up_to_the_limit():
 
 
 def in_pieces(script, size):
-    """What a session answers to a script that it is given in pieces."""
+    """What a session answers to a script that comes in pieces, each once the one before it was read."""
     with subprocess.Popen(SESSION, stdin=subprocess.PIPE, stdout=subprocess.PIPE, bufsize=0) as session:
         for at in range(0, len(script), size):
             session.stdin.write(script[at : at + size])
+            until_read(session.stdin)
         session.stdin.close()
-        return session.stdout.read()
+        replies = session.stdout.read()
+        session.wait(60)
+        return replies
+
+
+def until_read(pipe):
+    """Waits until all that was written is read."""
+    unread, end = array.array("i", [1]), time.monotonic() + 60
+    while unread[0]:
+        same(time.monotonic() < end, True, "the session reads")
+        fcntl.ioctl(pipe, termios.FIONREAD, unread)
 
 
 def test_session_bad_lines():

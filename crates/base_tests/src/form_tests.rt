@@ -23,9 +23,9 @@ fn names_have_1_to_512_bytes_and_no_zero(rt: HostRuntime) -> Result<(), Fail> {
     for _ in 1..512 {
         long.push_str("x")?;
     }
-    assert!(rt; is_name(long.as_str()) == true);
+    assert!(rt; is_name(long.as_str()));
     long.push_str("x")?;
-    assert!(rt; is_name(long.as_str()) == false);
+    assert!(rt; !is_name(long.as_str()));
     Ok(())
 }
 

@@ -1,4 +1,4 @@
-//! Tests of the crates below pf_session and of those of plain files. They stand apart, so that each crate is proved once.
+//! Tests of the crates below pf_session, of those of plain files, and of the host of pf_fakes. They stand apart, so that each crate is proved once.
 #![tactic(auto)]
 
 #[cfg(test)]

@@ -282,7 +282,7 @@ module _ (key : List ℕ) (k : ℕ) (name : Name) (utf8 : IsUtf8 name) (before a
             replies.Created these words false false seen refl refl
             (empty_turns key line name refl (seen_by these words false false) replies.Created (Some made) these (act nonce these drawn true ∷ []) (Own (new_seat key name sheet)) (λ sealed. inr (may_seal nonce these drawn false true (told_absent name those) none is_fresh.linked sealed)) turn
             (λ sealed. whole_file sheet made refl (Contains-push sealed sheet) is_fresh.linked (record { backed = is_fresh.stands.backed; rests = λ calm. record { stands = is_fresh.stands; clean = refl } }) (ap Own same) refl))
-            (none, told_absent name those) (to_create k name made refl refl refl refl refl);
+            (none, (name, refl, told_absent name those)) (to_create k name made refl refl refl refl refl);
         booked = record {
           seen = seen_by these words false false;
           was_seen = seen_in these words false false before after random random' seen;

@@ -434,7 +434,7 @@ module _ (key : List ℕ) (k : ℕ) (to : Name) (old : SessionState) (seated : I
             shows_moved sealed base' acts each.3 on
                 (Contains-append_right sealed (sheets_of acts) on.next (subst (λ (l : List Sheet). Contains l on.next) (sym (sheets_then before_it (act ∷ []))) (Contains-push (sheets_of before_it) on.next))) same,
           )))
-          (λ seat like. (like_passes free.is_target (all_given more) (none_found (f.these ++ more)) seat like, told_absent to (f.these ++ more))) (to_move k to old new (ap (λ (s : SessionState). s.name) same) (ap (λ (s : SessionState). s.broken) same ∙ f.whole)
+          (λ seat like. (like_passes free.is_target (all_given more) (none_found (f.these ++ more)) seat like, (to, refl, told_absent to (f.these ++ more)))) (to_move k to old new (ap (λ (s : SessionState). s.name) same) (ap (λ (s : SessionState). s.broken) same ∙ f.whole)
           (ap (λ (s : SessionState). s.changed) same ∙ f.clean) (ap (λ (s : SessionState). s.tree.size) same ∙ f.size_is)) (ap (λ (s : SessionState). s.key) same ∙ f.key_is) (λ name is. inr (ap Some (sym (is ∙ ap (λ (s : SessionState). s.name) same)), refl))
           (λ also unchanged. ap (λ (s : SessionState). s.tree.dirty) same ∙ f.dirty)
 

@@ -226,9 +226,9 @@ abbrev pub TookItsName : Seat → List Answer → Type 0
 TookItsName Empty given = ⊥
 TookItsName (Own own) given = own.broken ≡ false → own.changed ≡ true → Contains given (Swapped (side_of own.name) own.name)
 
--- the name that a line gives was told to be absent
+-- the line gives a name, which was told to be absent
 abbrev pub FoundFree : ScriptLine → List Answer → Type 0
-FoundFree line given = IfSome (name_of_line line) (λ name. WasAbsent name given)
+FoundFree line given = (name : Name) × (name_of_line line ≡ Some name) × WasAbsent name given
 
 -- The cause of a reply by the seat, the line and the answers, also where something is forged: a refusal is that of the first rule that refuses, and behind any other reply none refuses.
 -- A damage comes of a node, a new name was told to be absent, and a closing is accepted once its version has the name.
