@@ -69,22 +69,85 @@ def test_random_layouts_are_measured():
         same((ran.status, ran.out, ran.log), (0, measurement(size, frame, pages).encode() + b"\n", ""), str(ran))
 
 
-def test_layouts_are_refused_by_their_first_bad_line():
-    cases = {
-        "": "1",
-        "# none\n": "2",
-        "page 0x0 r-- reg bare zero": "1",
-        "enclave 0x1800 1": "1 size",
-        "#\nenclave 0x3000 1": "2 size",
-        "enclave 0x1000 1\npage 0x0 -w- reg bare zero": "2",
-        "enclave 0x1000 1\n\npage 0x1000 r-- reg bare zero": "3 out of range",
-        "enclave 0x1000 1\npage 0x0 r-- reg bare zero\npage 0x0 r-- reg bare zero": "3 repeated",
-        "enclave 0x1000 1\npage 0x0 r-- reg measured file absent 0\npage": "3",
-    }
-    for text, said in cases.items():
+def test_two_layouts_have_the_measurements_of_another_program():
+    put("a", bytes((7 * i + i // 256) % 256 for i in range(5000)))
+    put("short", b"abc")
+    for text, said in (
+        (
+            "enclave 0x2000 1\npage 0x0 r-x reg measured zero\npage 0x1000 --- tcs bare zero",
+            b"fdd7687eb1f86ca6016dadadfcfb7f4c356da5edc0e1e14bb33eb3c3f9d0e007\n",
+        ),
+        (
+            "# pages\nenclave 0x10000 3\n\npage 0x3000 rw- reg measured file a 0\npage 0x0 r-- reg measured file a 4096\n"
+            "page 0x1000 r-x reg measured file a 5000\npage 0x4000 --- tcs measured file short 0\npage 0x5000 rwx reg bare file absent 1\n",
+            b"3d189b43667780e5bd4065cc5473a83dbc33be8087b282565824663464eab499\n",
+        ),
+    ):
         put("layout", text.encode())
         ran = tool("measure", "layout")
-        same((ran.status, ran.out, ran.log), (3, b"", f"refused layout line {said}\n"), f"{text!r}: {ran}")
+        same((ran.status, ran.out, ran.log), (0, said, ""), text)
+
+
+# Texts, by what is said of their first bad line; nothing where they are layouts.
+LINES = {
+    "": "1",
+    "# none\n": "2",
+    "\n# enclave 0x2000 1\n": "3",
+    "\n# enclave 0x2000 1": "3",
+    "page 0x0 r-x reg measured zero\n": "1",
+    "enclave  0x2000 1": "1",
+    "enclave 0x2000 1 ": "1",
+    "enclave 0x2000 01": "1",
+    "enclave 0x2000 4294967296": "1",
+    "enclave 0x02000 1": "1",
+    "enclave 0X2000 1": "1",
+    "enclave 0x0 0": "1 size",
+    "#\nenclave 0x3000 1\npage": "2 size",
+    "enclave 0x800 1": "1 size",
+    "enclave 0x1800 1": "1 size",
+    "enclave 0x20000000000 1": "1 size",
+    "enclave 0x10000000000 4294967295": "",
+    "enclave 0x1000 1\nenclave 0x1000 1": "2",
+    "enclave 0x1000 1\npage 0x0 r-- reg measured file absent 0\npage": "3",
+}
+# Third lines, behind those of an enclave of two pages and its first page.
+PAGES = {
+    "page 0x1000 --- tcs bare zero": "",
+    "page 0x2000 --- tcs bare zero": "3 out of range",
+    "page 0xfffffffffffff000 --- tcs bare zero": "3 out of range",
+    "page 0x10000000000000000 --- tcs bare zero": "3",
+    "page 0x0 --- tcs bare zero": "3 repeated",
+    "page 0x1800 --- reg bare zero": "3",
+    "page 0x1000 r-- tcs bare zero": "3",
+    "page 0x1000 -w- reg bare zero": "3",
+    "page 0x1000 xwr reg bare zero": "3",
+    "page 0x1000 rwx REG bare zero": "3",
+    "page 0x1000 rwx reg zero": "3",
+    "page 0x1000 rwx reg bare zero 0": "3",
+    "page 0x1000 rwx reg bare file  0": "3",
+    "page 0x1000 rwx reg bare file a -1": "3",
+    "page 0x1000 rwx reg bare file a 0 0": "3",
+    "page 0x1000 --x reg bare file a 4294967295": "",
+}
+
+
+def is_read(text, said):
+    put("layout", text.encode())
+    ran = tool("measure", "layout")
+    if said:
+        same((ran.status, ran.out, ran.log), (3, b"", f"refused layout line {said}\n"), f"{text[-60:]!r}: {ran}")
+    else:
+        same((ran.status, len(ran.out), ran.log), (0, 65, ""), f"{text[-60:]!r}: {ran}")
+
+
+def test_layouts_are_refused_by_their_first_bad_line():
+    for text, said in LINES.items():
+        is_read(text, said)
+    for page, said in PAGES.items():
+        is_read(f"enclave 0x2000 1\npage 0x0 r-x reg measured zero\n{page}", said)
+    many = "".join(f"page {PAGE * i:#x} --- reg bare zero\n" for i in range(1, 100_001))
+    is_read(f"enclave 0x10000000000 1\n{many}", "")
+    is_read(f"enclave 0x10000000000 1\n{many}page 0x1000 --- reg bare zero", "100002 repeated")
 
 
 def test_a_layout_has_a_limit_and_files():
@@ -92,7 +155,8 @@ def test_a_layout_has_a_limit_and_files():
     same(tool("measure", "layout").log, "refused layout line 2\n", "the longest layout")
     put("layout", b"#" * 4_194_305)
     same(tool("measure", "layout").log, "refused too large\n", "a long layout")
-    put("layout", b"enclave 0x1000 1\npage 0x0 r-- reg measured file absent 0")
+    put("a", b"abc")
+    put("layout", b"enclave 0x2000 1\npage 0x0 r-- reg measured file a 1\npage 0x1000 r-- reg measured file absent 0")
     same(tool("measure", "layout").log, "refused not found absent\n", "an absent file")
     put("layout", b"enclave 0x1000 1\npage 0x0 r-- reg bare file absent 0")
     same(tool("measure", "layout").status, 0, "an absent file of a page that is not measured")

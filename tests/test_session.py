@@ -155,8 +155,8 @@ def test_session_other_lines_are_bad():
     lines += [b"Create 0 a", b"create\t0 a", b"create 0 \xff", b"create 0 a\xc3", b"created 0 a", b"view 0", b"view 0 "]
     lines += [b"read 0 0", b"read 0 00 1", b"read 0 0 1 ", b"read 0  0 1", b"read 0 +1 1", b"size 0", b"size 0 18446744073709551616"]
     lines += [b"write 0 0 ", b"write 0 0 6", b"write 0 0 6g", b"write 0 0 61 ", b"write 0 4294967296 0aF", b"fill 0 0 1 0", b"fill 0 0 1 000", b"fill 0 0 00"]
-    lines += [b"flush", b"flush 8", b"flush 0 ", b"draw -1", b"close 0\r", b"end"]
-    answers(b"".join(line + b"\n" for line in lines), len(lines) * b"refused bad line\n" + b"end\n", 3)
+    lines += [b"flush", b"flush 8", b"flush 0 ", b" flush 0", b"draw -1", b"close 0\r", b"end"]
+    answers(b"\n".join(lines), len(lines) * b"refused bad line\n" + b"end\n", 3)
     same(sorted(os.listdir(".")), ["in", "key"], "no file is made")
 
 
@@ -200,11 +200,6 @@ def until_read(pipe):
     while unread[0]:
         same(time.monotonic() < end, True, "the session reads")
         fcntl.ioctl(pipe, termios.FIONREAD, unread)
-
-
-def test_session_bad_lines():
-    answers(b"write 0 0 0\nflush 8\ncreate 0 \n flush 0\nfoo", 5 * b"refused bad line\n" + b"end\n", 3)
-    answers(b"create 0 \xff\n", b"refused bad line\nend\n", 3)
 
 
 def test_session_the_first_failed_reply_gives_the_status():

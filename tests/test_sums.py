@@ -82,6 +82,21 @@ def test_sums_are_those_of_sha256sum():
     same(tool("sums", "m").out.replace(b"file:", b""), run(["sha256sum", "a", "b"]).out, "two files")
 
 
+def test_sums_are_those_of_the_standard():
+    """Published examples, and files of many equal bytes."""
+    for content, said in (
+        (b"abc", "ba7816bf8f01cfea414140de5dae2223b00361a396177a9cb410ff61f20015ad"),
+        (b"", "e3b0c44298fc1c149afbf4c8996fb92427ae41e4649b934ca495991b7852b855"),
+        (b"abcdbcdecdefdefgefghfghighijhijkijkljklmklmnlmnomnopnopq", "248d6a61d20638b8e5c026930c3e6039a33ce45964ff2167f6ecedd419db06c1"),
+        (b"a" * 1_000_000, "cdc76e5c9914fb9281a1c7e284d73e67f1809a48a497200e046d39ccc7112cd0"),
+        (b"a" * 16_384, "f3336bea752b5a28743033dd2c844a4a63fba08871aaee2586a2bf2d69be83a2"),
+        (bytes(32_768), "c35020473aed1b4642cd726cad727b63fff2824ad68cedd7ffb73c7cbd890479"),
+    ):
+        put("a", content)
+        put("m", b'sgx.trusted_files = ["file:a"]')
+        same(tool("sums", "m").out, said.encode() + b"  file:a\n", content[:60])
+
+
 def test_manifests_with_absent_files_are_refused():
     put("a", b"abc")
     put("m", b'sgx.trusted_files = ["file:a", "file:b", "file:c"]')
@@ -93,7 +108,7 @@ def test_manifests_with_absent_files_are_refused():
     same(tool("sums", "-o", "m.new", "m").log, "refused bad name\n", "OUT")
     put("m", b"#" * 4_194_305)
     same(tool("sums", "m").log, "refused too large\n", "a long manifest")
-    put("m", b'sgx.trusted_files = [ "file:b/../c" ]')
+    put("m", b'sgx.trusted_files = [ "file:b/../a", "file:d/../c", "file:d" ]')
     same(tool("sums", "m").log, "refused not found c\n", "a file by its normal name")
     put("m", b"a = 1.5")
     same(tool("sums", "m").log, "refused manifest field a\n", "no manifest")

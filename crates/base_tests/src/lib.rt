@@ -18,7 +18,7 @@ mod form_tests;
 #[cfg(test)]
 mod gcm_tests;
 #[cfg(test)]
-mod measure_tests;
+mod manifests;
 #[cfg(test)]
 mod metadata_tests;
 #[cfg(test)]
@@ -31,7 +31,5 @@ mod plain_tests;
 mod policy_tests;
 #[cfg(test)]
 mod sum_tests;
-#[cfg(test)]
-mod template_tests;
 #[cfg(test)]
 mod tree_tests;

@@ -1,27 +1,9 @@
+use crate::manifests::{ABC, REALISTIC, manifest};
 use check_policy::{Place, ResolveFault, Verdict, decide, normal, resolve};
 use manifest_model::Manifest;
 use std::alloc::Global;
 use std::process::Abort;
 use std::test::Fail;
-
-const REALISTIC: &str = "loader.entrypoint = \"file:/opt/gramine/libsysdb.so\"
-loader.log_level = \"error\"
-libos.entrypoint = \"/app/hello\"
-fs.mounts = [
-  { path = \"/lib\", uri = \"file:/opt/gramine\" },
-  { path = \"/app\", uri = \"file:app\" },
-  { type = \"encrypted\", path = \"/data\", uri = \"file:data\", key_name = \"disk\" },
-]
-fs.insecure__keys.disk = \"000102030405060708090a0b0c0d0e0f\"
-sgx.debug = true
-sgx.enclave_size = \"256M\"
-sgx.file_check_policy = \"strict\"
-sgx.trusted_files = [
-  \"file:/opt/gramine/libsysdb.so\",
-  { uri = \"file:app/hello\", sha256 = \"ba7816bf8f01cfea414140de5dae2223b00361a396177a9cb410ff61f20015ad\" },
-]
-sgx.allowed_files = [ \"file:app/notes\" ]
-";
 
 const MOUNTS: &str = "fs.root = { uri = \"file:base\" }
 fs.mounts = [
@@ -37,19 +19,7 @@ sgx.trusted_files = [ \"file:a\", { uri = \"file:b\", sha256 = \"ba7816bf8f01cfe
 sgx.allowed_files = [ \"file:./b\", \"file:a\" ]
 ";
 
-const ABC: [u8; 32] = [
-    0xba, 0x78, 0x16, 0xbf, 0x8f, 0x01, 0xcf, 0xea, 0x41, 0x41, 0x40, 0xde, 0x5d, 0xae, 0x22, 0x23,
-    0xb0, 0x03, 0x61, 0xa3, 0x96, 0x17, 0x7a, 0x9c, 0xb4, 0x10, 0xff, 0x61, 0xf2, 0x00, 0x15, 0xad,
-];
-
 const KEY: [u8; 16] = [0, 1, 2, 3, 4, 5, 6, 7, 8, 9, 10, 11, 12, 13, 14, 15];
-
-fn read(rt: &impl Abort, alloc: Global, text: &str) -> Manifest {
-    match Manifest::read(alloc, text.as_bytes()) {
-        Ok(manifest) => manifest,
-        Err(_) => panic!(rt; "no manifest"),
-    }
-}
 
 // Whether a path leads to a place of that kind, or is refused so, with that name.
 fn leads(alloc: Global, manifest: &Manifest, path: &str, kind: &str, wanted: &str) -> bool {
@@ -92,7 +62,7 @@ fn expect_verdicts(rt: &impl Abort, manifest: &Manifest, rows: &[(&str, Verdict)
 
 #[test]
 fn paths_of_the_realistic_manifest_lead_to_its_files(rt: HostRuntime) {
-    let manifest = read(&rt, rt.alloc(), REALISTIC);
+    let manifest = manifest(&rt, rt.alloc(), REALISTIC);
     let rows = [
         ("/app/hello", "file", "app/hello"),
         ("/app/../app//notes", "file", "app/notes"),
@@ -109,7 +79,7 @@ fn paths_of_the_realistic_manifest_lead_to_its_files(rt: HostRuntime) {
 
 #[test]
 fn the_realistic_manifest_decides_on_its_files(rt: HostRuntime) {
-    let manifest = read(&rt, rt.alloc(), REALISTIC);
+    let manifest = manifest(&rt, rt.alloc(), REALISTIC);
     let rows = [
         ("file:app/hello", Verdict::Trusted(ABC)),
         ("file:app/notes", Verdict::Allowed),
@@ -123,7 +93,7 @@ fn the_realistic_manifest_decides_on_its_files(rt: HostRuntime) {
 
 #[test]
 fn trusted_comes_before_allowed_and_the_policy_last(rt: HostRuntime) {
-    let manifest = read(&rt, rt.alloc(), MOUNTS);
+    let manifest = manifest(&rt, rt.alloc(), MOUNTS);
     let rows = [
         ("file:a", Verdict::NoSum),
         ("file:b", Verdict::Trusted(ABC)),
@@ -134,7 +104,7 @@ fn trusted_comes_before_allowed_and_the_policy_last(rt: HostRuntime) {
 
 #[test]
 fn the_last_mount_with_the_most_parts_serves(rt: HostRuntime) {
-    let manifest = read(&rt, rt.alloc(), MOUNTS);
+    let manifest = manifest(&rt, rt.alloc(), MOUNTS);
     let rows = [
         ("/a/b/c", "file", "second/c"),
         ("/a/b", "file", "second"),
@@ -151,7 +121,7 @@ fn the_last_mount_with_the_most_parts_serves(rt: HostRuntime) {
 #[test]
 fn names_have_at_most_512_bytes_before_a_key_is_sought(rt: HostRuntime) -> Result<(), Fail> {
     let alloc = rt.alloc();
-    let manifest = read(&rt, alloc, MOUNTS);
+    let manifest = manifest(&rt, alloc, MOUNTS);
     let path = joined(alloc, "/a", "/", 510)?;
     assert!(rt; leads(alloc, &manifest, path.as_str(), "file", "/above"));
     let path = joined(alloc, "/a", "/", 511)?;

@@ -144,61 +144,57 @@ fn three_words_are_too_few_for_a_new_file(rt: HostRuntime) -> Result<(), Fail> {
     Ok(())
 }
 
-// The changed byte makes nodes 1, 98 and 99 dirty. A flush that finds too few words has taken all that were
-// left, so each later one has only those that were added.
+// Three nodes are dirty then: the changed byte's, its table's and the metadata.
+const A_CHANGE_WITH_TOO_FEW_WORDS: &str = "create 0 a.pf\n\
+     size 0 396289\n\
+     close 0\n\
+     open 0 a.pf\n\
+     write 0 396288 7a\n\
+     flush 0";
+const ITS_REPLIES: &str = "ok create\n\
+     ok size 396289\n\
+     ok close\n\
+     ok open 396289\n\
+     ok write 1\n\
+     random fault\n";
+const A_FLUSH_AND_A_READ: &str = "flush 0\n\
+     read 0 396288 9";
+const A_FLUSH_AND_A_LATER_OPENING: &str = "flush 0\n\
+     close 0\n\
+     open 0 a.pf\n\
+     read 0 396288 9";
+const ALL_ARE_ACCEPTED: &str = "ok flush\n\
+     ok close\n\
+     ok open 396289\n\
+     ok read 1 7a\n";
+
+// A flush that finds too few words has taken all that were left, so each later one has only those that were added.
 #[test]
 fn a_flush_takes_two_words_and_one_for_each_dirty_node(rt: HostRuntime) -> Result<(), Fail> {
     let alloc = rt.alloc();
     let mut host = MemHost::new(alloc);
     let mut random = words_of(alloc, 111)?;
     let mut desk = Desk::new(alloc, KEY);
-    expect_script(
-        &rt,
-        alloc,
-        &mut desk,
-        &mut host,
-        &mut random,
-        "create 0 a.pf\n\
-         size 0 396289\n\
-         close 0\n\
-         open 0 a.pf\n\
-         write 0 396288 7a\n\
-         flush 0",
-        "ok create\n\
-         ok size 396289\n\
-         ok close\n\
-         ok open 396289\n\
-         ok write 1\n\
-         random fault\n",
-    );
-    add_words(&mut random, 4)?;
-    expect_script(
-        &rt,
-        alloc,
-        &mut desk,
-        &mut host,
-        &mut random,
-        "flush 0\n\
-         read 0 396288 9",
-        "random fault\n\
-         ok read 1 7a\n",
-    );
-    add_words(&mut random, 5)?;
-    expect_script(
-        &rt,
-        alloc,
-        &mut desk,
-        &mut host,
-        &mut random,
-        "flush 0\n\
-         close 0\n\
-         open 0 a.pf\n\
-         read 0 396288 9",
-        "ok flush\n\
-         ok close\n\
-         ok open 396289\n\
-         ok read 1 7a\n",
-    );
+    for (more, script, replies) in [
+        (0, A_CHANGE_WITH_TOO_FEW_WORDS, ITS_REPLIES),
+        (
+            4,
+            A_FLUSH_AND_A_READ,
+            "random fault\nok read 1 7a\n",
+        ),
+        (5, A_FLUSH_AND_A_LATER_OPENING, ALL_ARE_ACCEPTED),
+    ] {
+        add_words(&mut random, more)?;
+        expect_script(
+            &rt,
+            alloc,
+            &mut desk,
+            &mut host,
+            &mut random,
+            script,
+            replies,
+        );
+    }
     Ok(())
 }
 
@@ -254,53 +250,50 @@ fn a_write_that_would_make_too_many_nodes_dirty_flushes(rt: HostRuntime) -> Resu
     Ok(())
 }
 
+const SEATS_AND_NAMES: &str = "\n\
+     # a comment\n\
+     flush 3\n\
+     create 0 x.new\n\
+     create 0 a.pf\n\
+     create 0 b.pf\n\
+     create 1 a.pf\n\
+     open 1 a.pf\n\
+     open 1 b.pf\n\
+     create 1 b.pf\n\
+     view 0 /a\n\
+     view 2 /a\n\
+     close 0\n\
+     create 0 a.pf\n\
+     open 0 a.pf\n\
+     size 0 100000\n\
+     size 0 4294967297\n\
+     draw 0\n\
+     draw 0\n\
+     close 0\n\
+     close 0";
+const THEIR_REPLIES: &str = "refused seat empty\n\
+     refused bad name\n\
+     ok create\n\
+     refused seat busy\n\
+     refused name busy\n\
+     refused name busy\n\
+     refused not found b.pf\n\
+     ok create\n\
+     refused seat busy\n\
+     refused no manifest\n\
+     ok close\n\
+     refused exists a.pf\n\
+     ok open 0\n\
+     ok size 100000\n\
+     refused too large\n\
+     ok draw 0404040404040404040404040404040405050505050505050505050505050505\n\
+     ok draw 0404040404040404040404040404040405050505050505050505050505050505\n\
+     random fault\n\
+     refused seat empty\n";
+
 #[test]
 fn seats_and_names_are_told_apart(rt: HostRuntime) -> Result<(), Fail> {
-    expect_on_new(
-        &rt,
-        rt.alloc(),
-        20,
-        "\n\
-         # a comment\n\
-         flush 3\n\
-         create 0 x.new\n\
-         create 0 a.pf\n\
-         create 0 b.pf\n\
-         create 1 a.pf\n\
-         open 1 a.pf\n\
-         open 1 b.pf\n\
-         create 1 b.pf\n\
-         view 0 /a\n\
-         view 2 /a\n\
-         close 0\n\
-         create 0 a.pf\n\
-         open 0 a.pf\n\
-         size 0 100000\n\
-         size 0 4294967297\n\
-         draw 0\n\
-         draw 0\n\
-         close 0\n\
-         close 0",
-        "refused seat empty\n\
-         refused bad name\n\
-         ok create\n\
-         refused seat busy\n\
-         refused name busy\n\
-         refused name busy\n\
-         refused not found b.pf\n\
-         ok create\n\
-         refused seat busy\n\
-         refused no manifest\n\
-         ok close\n\
-         refused exists a.pf\n\
-         ok open 0\n\
-         ok size 100000\n\
-         refused too large\n\
-         ok draw 0404040404040404040404040404040405050505050505050505050505050505\n\
-         ok draw 0404040404040404040404040404040405050505050505050505050505050505\n\
-         random fault\n\
-         refused seat empty\n",
-    )?;
+    expect_on_new(&rt, rt.alloc(), 20, SEATS_AND_NAMES, THEIR_REPLIES)?;
     Ok(())
 }
 

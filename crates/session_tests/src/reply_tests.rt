@@ -69,6 +69,15 @@ fn replies_are_printed_as_lines(rt: HostRuntime) -> Result<(), Fail> {
         ),
         (Reply::Closed { lost: false }, "ok close\n"),
         (Reply::Closed { lost: true }, "ok close lost\n"),
+    ] {
+        assert!(rt; prints(rt.alloc(), reply, line), "{line}");
+    }
+    Ok(())
+}
+
+#[test]
+fn damages_and_faults_are_printed_as_lines(rt: HostRuntime) -> Result<(), Fail> {
+    for (reply, line) in [
         (
             Reply::DamagedNode {
                 damage: Damage {
@@ -144,6 +153,27 @@ fn text_of(alloc: Global, text: &str) -> Result<Text, AllocError> {
 }
 
 #[test]
+fn refusals_name_uris(rt: HostRuntime) -> Result<(), Fail> {
+    let uri = text_of(rt.alloc(), "file:app/other")?;
+    assert!(rt;
+        prints(
+            rt.alloc(),
+            refused(Why::Denied { uri }),
+            "refused denied file:app/other\n"
+        )
+    );
+    let uri = text_of(rt.alloc(), "file:y")?;
+    assert!(rt;
+        prints(
+            rt.alloc(),
+            refused(Why::NoSum { uri }),
+            "refused no sum file:y\n"
+        )
+    );
+    Ok(())
+}
+
+#[test]
 fn refusals_name_what_they_refuse(rt: HostRuntime) -> Result<(), Fail> {
     let name = text_of(rt.alloc(), "a b.pf")?;
     assert!(rt;
@@ -159,22 +189,6 @@ fn refusals_name_what_they_refuse(rt: HostRuntime) -> Result<(), Fail> {
             rt.alloc(),
             refused(Why::NotFound { name }),
             "refused not found x\n"
-        )
-    );
-    let uri = text_of(rt.alloc(), "file:app/other")?;
-    assert!(rt;
-        prints(
-            rt.alloc(),
-            refused(Why::Denied { uri }),
-            "refused denied file:app/other\n"
-        )
-    );
-    let uri = text_of(rt.alloc(), "file:y")?;
-    assert!(rt;
-        prints(
-            rt.alloc(),
-            refused(Why::NoSum { uri }),
-            "refused no sum file:y\n"
         )
     );
     let name = text_of(rt.alloc(), "disk")?;
