@@ -151,18 +151,22 @@ const A_CHANGE_WITH_TOO_FEW_WORDS: &str = "create 0 a.pf\n\
      open 0 a.pf\n\
      write 0 396288 7a\n\
      flush 0";
+
 const ITS_REPLIES: &str = "ok create\n\
      ok size 396289\n\
      ok close\n\
      ok open 396289\n\
      ok write 1\n\
      random fault\n";
+
 const A_FLUSH_AND_A_READ: &str = "flush 0\n\
      read 0 396288 9";
+
 const A_FLUSH_AND_A_LATER_OPENING: &str = "flush 0\n\
      close 0\n\
      open 0 a.pf\n\
      read 0 396288 9";
+
 const ALL_ARE_ACCEPTED: &str = "ok flush\n\
      ok close\n\
      ok open 396289\n\
@@ -177,11 +181,7 @@ fn a_flush_takes_two_words_and_one_for_each_dirty_node(rt: HostRuntime) -> Resul
     let mut desk = Desk::new(alloc, KEY);
     for (more, script, replies) in [
         (0, A_CHANGE_WITH_TOO_FEW_WORDS, ITS_REPLIES),
-        (
-            4,
-            A_FLUSH_AND_A_READ,
-            "random fault\nok read 1 7a\n",
-        ),
+        (4, A_FLUSH_AND_A_READ, "random fault\nok read 1 7a\n"),
         (5, A_FLUSH_AND_A_LATER_OPENING, ALL_ARE_ACCEPTED),
     ] {
         add_words(&mut random, more)?;
@@ -271,6 +271,7 @@ const SEATS_AND_NAMES: &str = "\n\
      draw 0\n\
      close 0\n\
      close 0";
+
 const THEIR_REPLIES: &str = "refused seat empty\n\
      refused bad name\n\
      ok create\n\

@@ -52,6 +52,21 @@ pub(crate) fn write(
     assert!(rt; session.write(host, random, at, from) == Ok(AT_ONCE));
 }
 
+// Writes so many bytes, all the same, from the start on, with no flush before.
+pub(crate) fn fill(
+    rt: &impl Abort,
+    alloc: Global,
+    session: &mut Session,
+    host: &mut MemHost,
+    random: &mut ListWords,
+    byte: u8,
+    count: usize,
+) -> Result<(), Fail> {
+    let bytes = vec![in alloc; byte; count]?;
+    write(rt, session, host, random, 0, &bytes);
+    Ok(())
+}
+
 pub(crate) fn flush(
     rt: &impl Abort,
     session: &mut Session,

@@ -1,25 +1,29 @@
 //! Sealings of a content, and what a crash leaves of them.
-use crate::fixtures::{EACH_TEAR, KEY, new_file, words_of, write};
+use crate::fixtures::{EACH_TEAR, KEY, fill, new_file, words_of, write};
 use pf_io::{ListWords, MemHost, Tear};
 use pf_session::Session;
 use std::alloc::Global;
 use std::process::Abort;
 use std::test::Fail;
 
-const ONES: [u8; 8000] = [1; 8000];
-
 // A host whose file has 8000 bytes 1 in three nodes beside node 0: the root and two data nodes. A closing seals them.
 fn sealed_host(rt: &impl Abort, alloc: Global) -> Result<MemHost, Fail> {
     let mut host = MemHost::new(alloc);
     let mut random = words_of(alloc, 7)?;
-    let mut session = new_file(rt, alloc, &mut host, &mut random);
-    fill(rt, &mut session, &mut host, &mut random);
-    close(rt, session, &mut host, &mut random);
+    seal(rt, alloc, &mut host, &mut random)?;
     Ok(host.after_crash(Tear::Kept)?)
 }
 
-fn fill(rt: &impl Abort, session: &mut Session, host: &mut MemHost, random: &mut ListWords) {
-    write(rt, session, host, random, 0, &ONES);
+fn seal(
+    rt: &impl Abort,
+    alloc: Global,
+    host: &mut MemHost,
+    random: &mut ListWords,
+) -> Result<(), Fail> {
+    let mut session = new_file(rt, alloc, host, random);
+    fill(rt, alloc, &mut session, host, random, 1, 8000)?;
+    close(rt, session, host, random);
+    Ok(())
 }
 
 fn close(rt: &impl Abort, session: Session, host: &mut MemHost, random: &mut ListWords) {
@@ -49,19 +53,39 @@ fn expect_byte(rt: &impl Abort, alloc: Global, host: &mut MemHost, byte: u8) {
     assert!(rt; session.holds(2) && !session.holds(3));
 }
 
-// Behind the four calls of the change the flush makes eight. A crash after fewer leaves the last version, and after all of
-// them the next one.
+// Behind the four calls of the change the flush makes eight.
+fn try_flush(
+    rt: &impl Abort,
+    alloc: Global,
+    host: &mut MemHost,
+    random: &mut ListWords,
+    calls: u64,
+) {
+    let mut session = changed(rt, alloc, host, random);
+    host.stop_at(calls);
+    assert!(rt; !session.broken());
+    let flushed = session.flush(host, random);
+    assert!(rt; flushed.is_ok() == (calls == 12), "{calls} calls");
+    assert!(rt; session.broken() == (calls < 12), "{calls} calls");
+}
+
+// A crash after fewer calls leaves the last version, and after all of them the next one.
 fn stop_flush(rt: &impl Abort, alloc: Global, calls: u64, tear: Tear) -> Result<(), Fail> {
     let mut host = sealed_host(rt, alloc)?;
     let mut random = words_of(alloc, 4)?;
-    let mut session = changed(rt, alloc, &mut host, &mut random);
-    host.stop_at(calls);
-    assert!(rt; !session.broken());
-    let flushed = session.flush(&mut host, &mut random);
-    assert!(rt; flushed.is_ok() == (calls == 12), "{calls} calls");
-    assert!(rt; session.broken() == (calls < 12), "{calls} calls");
+    try_flush(rt, alloc, &mut host, &mut random, calls);
+    expect_left(rt, alloc, host, tear, if calls == 12 { 2 } else { 1 })
+}
+
+fn expect_left(
+    rt: &impl Abort,
+    alloc: Global,
+    host: MemHost,
+    tear: Tear,
+    byte: u8,
+) -> Result<(), Fail> {
     let mut left = host.after_crash(tear)?;
-    expect_byte(rt, alloc, &mut left, if calls == 12 { 2 } else { 1 });
+    expect_byte(rt, alloc, &mut left, byte);
     Ok(())
 }
 
@@ -88,15 +112,25 @@ fn publish(rt: &impl Abort, session: Session, host: &mut MemHost, random: &mut L
     assert!(rt; session.publish(host, random) == Ok(()));
 }
 
+fn publish_on(
+    rt: &impl Abort,
+    alloc: Global,
+    host: &mut MemHost,
+    random: &mut ListWords,
+) -> Result<(), Fail> {
+    let mut session = begun(rt, alloc, host, random);
+    fill(rt, alloc, &mut session, host, random, 1, 8000)?;
+    assert!(rt; host.bytes("a.pf") == None);
+    publish(rt, session, host, random);
+    Ok(())
+}
+
 #[test]
 fn what_is_published_takes_the_name(rt: HostRuntime) -> Result<(), Fail> {
     let alloc = rt.alloc();
     let mut host = MemHost::new(alloc);
     let mut random = words_of(alloc, 7)?;
-    let mut session = begun(&rt, alloc, &mut host, &mut random);
-    fill(&rt, &mut session, &mut host, &mut random);
-    assert!(rt; host.bytes("a.pf") == None);
-    publish(&rt, session, &mut host, &mut random);
+    publish_on(&rt, alloc, &mut host, &mut random)?;
     expect_byte(&rt, alloc, &mut host, 1);
     Ok(())
 }

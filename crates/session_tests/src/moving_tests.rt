@@ -1,12 +1,10 @@
 //! Moves of protected files, and what a crash leaves of them.
-use crate::fixtures::{EACH_TEAR, KEY, flush, new_file, words_of, write};
+use crate::fixtures::{EACH_TEAR, KEY, fill, flush, new_file, words_of, write};
 use pf_io::{ListWords, MemHost, Tear};
 use pf_session::{MoveFault, OpenFault, Session};
 use std::alloc::Global;
 use std::process::Abort;
 use std::test::Fail;
-
-const FIVES: [u8; 5000] = [5; 5000];
 
 // A session on `a.pf` with a sealed content of 5000 bytes 5, which takes six words.
 fn sealed_file(
@@ -14,15 +12,11 @@ fn sealed_file(
     alloc: Global,
     host: &mut MemHost,
     random: &mut ListWords,
-) -> Session {
+) -> Result<Session, Fail> {
     let mut session = new_file(rt, alloc, host, random);
-    fill(rt, &mut session, host, random);
+    fill(rt, alloc, &mut session, host, random, 5, 5000)?;
     flush(rt, &mut session, host, random);
-    session
-}
-
-fn fill(rt: &impl Abort, session: &mut Session, host: &mut MemHost, random: &mut ListWords) {
-    write(rt, session, host, random, 0, &FIVES);
+    Ok(session)
 }
 
 // The last byte before the data node becomes 6, which makes no node dirty.
@@ -68,6 +62,47 @@ const CALLS: u64 = 11;
 
 const CALLS_WITH_FLUSH: u64 = 19;
 
+// The host after a crash that keeps all, with one more file.
+fn settled(host: MemHost) -> Result<MemHost, Fail> {
+    let mut host = host.after_crash(Tear::Kept)?;
+    host.put("c.pf", b"other")?;
+    Ok(host)
+}
+
+fn expect_end(rt: &impl Abort, moved: bool, broken: bool, calls: u64, all: u64) {
+    assert!(rt; moved == (calls >= all), "{calls} calls");
+    assert!(rt; broken == (1 <= calls && calls < all), "{calls} calls");
+}
+
+// A session on a file that was sealed, with a change behind it or none.
+fn maybe_changed(
+    rt: &impl Abort,
+    alloc: Global,
+    host: &mut MemHost,
+    random: &mut ListWords,
+    changed: bool,
+) -> Result<Session, Fail> {
+    let mut session = sealed_file(rt, alloc, host, random)?;
+    if changed {
+        change(rt, &mut session, host, random);
+    }
+    Ok(session)
+}
+
+fn try_move(
+    rt: &impl Abort,
+    alloc: Global,
+    session: &mut Session,
+    host: &mut MemHost,
+    random: &mut ListWords,
+    calls: u64,
+    all: u64,
+) {
+    host.stop_at(calls);
+    let moved = move_to(rt, alloc, session, host, random, "b.pf");
+    expect_end(rt, moved.is_ok(), session.broken(), calls, all);
+}
+
 // A move whose calls fail from one on, and what a crash leaves then.
 fn stop_move(
     rt: &impl Abort,
@@ -78,20 +113,22 @@ fn stop_move(
 ) -> Result<(), Fail> {
     let mut host = MemHost::new(alloc);
     let mut random = words_of(alloc, 10)?;
-    let mut session = sealed_file(rt, alloc, &mut host, &mut random);
-    if changed {
-        change(rt, &mut session, &mut host, &mut random);
-    }
-    let mut host = host.after_crash(Tear::Kept)?;
-    host.put("c.pf", b"other")?;
-    host.stop_at(calls);
-    let moved = move_to(rt, alloc, &mut session, &mut host, &mut random, "b.pf");
+    let mut session = maybe_changed(rt, alloc, &mut host, &mut random, changed)?;
+    let mut host = settled(host)?;
     let all = if changed { CALLS_WITH_FLUSH } else { CALLS };
-    assert!(rt; moved.is_ok() == (calls >= all), "{calls} calls");
-    assert!(rt;
-        session.broken() == (1 <= calls && calls < all),
-        "{calls} calls"
-    );
+    try_move(rt, alloc, &mut session, &mut host, &mut random, calls, all);
+    expect_left(rt, alloc, host, tear, calls, all, changed)
+}
+
+fn expect_left(
+    rt: &impl Abort,
+    alloc: Global,
+    host: MemHost,
+    tear: Tear,
+    calls: u64,
+    all: u64,
+    changed: bool,
+) -> Result<(), Fail> {
     let mut left = host.after_crash(tear)?;
     assert!(rt; left.bytes("c.pf") == Some(&b"other"[..]));
     expect_moved(rt, alloc, &mut left, calls, all, changed);
