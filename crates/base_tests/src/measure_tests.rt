@@ -24,6 +24,14 @@ fn said(alloc: Global, text: &str) -> (&'static str, u32) {
     }
 }
 
+// Whether the pages of a layout have this measure.
+fn has_measure(host: &mut MemHost, layout: &Layout, wanted: &[u8; 32]) -> bool {
+    match measure(host, layout) {
+        Ok(found) => found == *wanted,
+        Err(_fault) => false,
+    }
+}
+
 // The layout of a text that is one.
 fn layout(alloc: Global, text: &str) -> Result<Layout, Fail> {
     if text.len() <= LONGEST {
@@ -43,7 +51,7 @@ const OF_TWO_PAGES: [u8; 32] = [
 fn measures_two_pages_of_zeros(rt: HostRuntime) -> Result<(), Fail> {
     let layout = layout(rt.alloc(), TWO_PAGES)?;
     let mut host = MemHost::new(rt.alloc());
-    assert!(rt; measure(&mut host, &layout).is_ok_and(|sum| sum == OF_TWO_PAGES));
+    assert!(rt; has_measure(&mut host, &layout, &OF_TWO_PAGES));
     Ok(())
 }
 
@@ -78,7 +86,7 @@ fn host_of_two(alloc: Global) -> Result<MemHost, Fail> {
 fn measures_files_with_zeros_past_their_end(rt: HostRuntime) -> Result<(), Fail> {
     let mut host = host_of_two(rt.alloc())?;
     let layout = layout(rt.alloc(), WITH_FILES)?;
-    assert!(rt; measure(&mut host, &layout).is_ok_and(|sum| sum == OF_FILES));
+    assert!(rt; has_measure(&mut host, &layout, &OF_FILES));
     assert!(rt; layout.name(3) == Some("short") && layout.name(4) == Some("absent"));
     assert!(rt; layout.name(5).is_none());
     Ok(())
@@ -104,60 +112,64 @@ fn stops_at_an_absent_file_and_at_a_fault(rt: HostRuntime) -> Result<(), Fail> {
     Ok(())
 }
 
+const FIRST_LINES: [(&str, (&str, u32)); 16] = [
+    ("", ("line", 1)),
+    ("\n# enclave 0x2000 1\n", ("line", 3)),
+    ("\n# enclave 0x2000 1", ("line", 3)),
+    ("page 0x0 r-x reg measured zero\n", ("line", 1)),
+    ("enclave  0x2000 1", ("line", 1)),
+    ("enclave 0x2000 1 ", ("line", 1)),
+    ("enclave 0x2000 01", ("line", 1)),
+    ("enclave 0x2000 4294967296", ("line", 1)),
+    ("enclave 0x02000 1", ("line", 1)),
+    ("enclave 0X2000 1", ("line", 1)),
+    ("enclave 0x0 0", ("size", 1)),
+    ("#\nenclave 0x3000 1\npage", ("size", 2)),
+    ("enclave 0x800 1", ("size", 1)),
+    ("enclave 0x20000000000 1", ("size", 1)),
+    ("enclave 0x10000000000 4294967295", ("read", 0)),
+    ("enclave 0x1000 1\nenclave 0x1000 1", ("line", 2)),
+];
+
 #[test]
 fn refuses_the_first_line_that_is_none(rt: HostRuntime) {
-    for (text, says) in [
-        ("", ("line", 1)),
-        ("\n# enclave 0x2000 1\n", ("line", 3)),
-        ("\n# enclave 0x2000 1", ("line", 3)),
-        ("page 0x0 r-x reg measured zero\n", ("line", 1)),
-        ("enclave  0x2000 1", ("line", 1)),
-        ("enclave 0x2000 1 ", ("line", 1)),
-        ("enclave 0x2000 01", ("line", 1)),
-        ("enclave 0x2000 4294967296", ("line", 1)),
-        ("enclave 0x02000 1", ("line", 1)),
-        ("enclave 0X2000 1", ("line", 1)),
-        ("enclave 0x0 0", ("size", 1)),
-        ("#\nenclave 0x3000 1\npage", ("size", 2)),
-        ("enclave 0x800 1", ("size", 1)),
-        ("enclave 0x20000000000 1", ("size", 1)),
-        ("enclave 0x10000000000 4294967295", ("read", 0)),
-        ("enclave 0x1000 1\nenclave 0x1000 1", ("line", 2)),
-    ] {
-        assert!(rt; said(rt.alloc(), text) == says, "{text}");
+    for (text, says) in &FIRST_LINES {
+        assert!(rt; said(rt.alloc(), text) == *says, "{text}");
     }
 }
+
+const PAGES: [(&str, (&str, u32)); 16] = [
+    ("page 0x1000 --- tcs bare zero", ("read", 0)),
+    ("page 0x2000 --- tcs bare zero", ("out of range", 3)),
+    (
+        "page 0xfffffffffffff000 --- tcs bare zero",
+        ("out of range", 3),
+    ),
+    ("page 0x10000000000000000 --- tcs bare zero", ("line", 3)),
+    ("page 0x0 --- tcs bare zero", ("repeated", 3)),
+    ("page 0x1800 --- reg bare zero", ("line", 3)),
+    ("page 0x1000 r-- tcs bare zero", ("line", 3)),
+    ("page 0x1000 -w- reg bare zero", ("line", 3)),
+    ("page 0x1000 xwr reg bare zero", ("line", 3)),
+    ("page 0x1000 rwx REG bare zero", ("line", 3)),
+    ("page 0x1000 rwx reg zero", ("line", 3)),
+    ("page 0x1000 rwx reg bare zero 0", ("line", 3)),
+    ("page 0x1000 rwx reg bare file  0", ("line", 3)),
+    ("page 0x1000 rwx reg bare file a -1", ("line", 3)),
+    ("page 0x1000 rwx reg bare file a 0 0", ("line", 3)),
+    ("page 0x1000 --x reg bare file a 4294967295", ("read", 0)),
+];
 
 #[test]
 fn refuses_the_first_page_that_is_none(rt: HostRuntime) -> Result<(), Fail> {
     let alloc = rt.alloc();
-    for (page, says) in [
-        ("page 0x1000 --- tcs bare zero", ("read", 0)),
-        ("page 0x2000 --- tcs bare zero", ("out of range", 3)),
-        (
-            "page 0xfffffffffffff000 --- tcs bare zero",
-            ("out of range", 3),
-        ),
-        ("page 0x10000000000000000 --- tcs bare zero", ("line", 3)),
-        ("page 0x0 --- tcs bare zero", ("repeated", 3)),
-        ("page 0x1800 --- reg bare zero", ("line", 3)),
-        ("page 0x1000 r-- tcs bare zero", ("line", 3)),
-        ("page 0x1000 -w- reg bare zero", ("line", 3)),
-        ("page 0x1000 xwr reg bare zero", ("line", 3)),
-        ("page 0x1000 rwx REG bare zero", ("line", 3)),
-        ("page 0x1000 rwx reg zero", ("line", 3)),
-        ("page 0x1000 rwx reg bare zero 0", ("line", 3)),
-        ("page 0x1000 rwx reg bare file  0", ("line", 3)),
-        ("page 0x1000 rwx reg bare file a -1", ("line", 3)),
-        ("page 0x1000 rwx reg bare file a 0 0", ("line", 3)),
-        ("page 0x1000 --x reg bare file a 4294967295", ("read", 0)),
-    ] {
+    for (page, says) in &PAGES {
         let mut text = String::from_str(
             alloc,
             "enclave 0x2000 1\npage 0x0 r-x reg measured zero\n",
         )?;
         text.push_str(page)?;
-        assert!(rt; said(alloc, text.as_str()) == says, "{page}");
+        assert!(rt; said(alloc, text.as_str()) == *says, "{page}");
     }
     Ok(())
 }

@@ -285,19 +285,21 @@ fn refuses_mounts_and_keys_at_the_first_place(rt: HostRuntime) {
     expect_refusals(&rt, rt.alloc(), &rows);
 }
 
+const NORMAL_NAMES: [(&str, &str); 6] = [
+    ("", "."),
+    ("/", "/"),
+    ("a//b/./c", "a/b/c"),
+    ("/../a", "/a"),
+    ("../a/../..", "../.."),
+    ("a/..", "."),
+];
+
 #[test]
 fn names_have_normal_forms(rt: HostRuntime) -> Result<(), Fail> {
     let alloc = rt.alloc();
-    for (name, normal) in [
-        ("", "."),
-        ("/", "/"),
-        ("a//b/./c", "a/b/c"),
-        ("/../a", "/a"),
-        ("../a/../..", "../.."),
-        ("a/..", "."),
-    ] {
+    for (name, normal) in &NORMAL_NAMES {
         let found = normal_name(alloc, name)?;
-        assert!(rt; found.as_str() == normal, "{name}");
+        assert!(rt; found.as_str() == *normal, "{name}");
     }
     Ok(())
 }

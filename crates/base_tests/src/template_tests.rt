@@ -12,9 +12,12 @@ fn pairs(alloc: Global, values: &[(&str, &str)]) -> Result<Vec<(Text, Text)>, Fa
     Ok(pairs)
 }
 
-// What a template gives, as far as it is a text.
-fn rendered(alloc: Global, template: &str, values: &[(Text, Text)]) -> Option<Text> {
-    render(alloc, template, values).ok()
+// Whether a template gives this text.
+fn renders(alloc: Global, template: &str, values: &[(Text, Text)], text: &str) -> bool {
+    match render(alloc, template, values) {
+        Ok(found) => found.as_str() == text,
+        Err(_fault) => false,
+    }
 }
 
 // Whether a template is refused so, at this place.
@@ -44,6 +47,24 @@ fn repeated(alloc: Global, unit: &str, count: usize) -> Result<String, Fail> {
     Ok(text)
 }
 
+const RENDERED: [(&str, &str); 9] = [
+    (
+        "# {# note #}hello\nloader.entrypoint = \"file:{{ gramine.libos }}\"\n",
+        "# hello\nloader.entrypoint = \"file:/b/libsysdb.so\"\n",
+    ),
+    ("", ""),
+    ("é{{a}}é\n", "é1é\n"),
+    ("{{\t\r\na }}}", "1}"),
+    ("{{ f() }}", "{{ a }}"),
+    ("{ { a } } %} #} }}", "{ { a } } %} #} }}"),
+    ("{# {{ a }} {% raw %} #}", ""),
+    (
+        "{% raw %}{{ é }}{% endraw{%\tendraw\n%}{{ a }}",
+        "{{ é }}{% endraw1",
+    ),
+    ("{%raw%}{%endraw%}", ""),
+];
+
 #[test]
 fn renders_values_comments_and_raw_text(rt: HostRuntime) -> Result<(), Fail> {
     let alloc = rt.alloc();
@@ -54,50 +75,32 @@ fn renders_values_comments_and_raw_text(rt: HostRuntime) -> Result<(), Fail> {
         ("gramine.libos", "/b/libsysdb.so"),
     ];
     let values = pairs(alloc, &values)?;
-    for (template, text) in [
-        (
-            "# {# note #}hello\nloader.entrypoint = \"file:{{ gramine.libos }}\"\n",
-            "# hello\nloader.entrypoint = \"file:/b/libsysdb.so\"\n",
-        ),
-        ("", ""),
-        ("é{{a}}é\n", "é1é\n"),
-        ("{{\t\r\na }}}", "1}"),
-        ("{{ f() }}", "{{ a }}"),
-        ("{ { a } } %} #} }}", "{ { a } } %} #} }}"),
-        ("{# {{ a }} {% raw %} #}", ""),
-        (
-            "{% raw %}{{ é }}{% endraw{%\tendraw\n%}{{ a }}",
-            "{{ é }}{% endraw1",
-        ),
-        ("{%raw%}{%endraw%}", ""),
-    ] {
-        let found = rendered(alloc, template, &values);
-        assert!(rt;
-            found.is_some_and(|found| found.as_str() == text),
-            "{template}"
-        );
+    for (template, text) in &RENDERED {
+        assert!(rt; renders(alloc, template, &values, text), "{template}");
     }
     Ok(())
 }
+
+const REFUSED: [(&str, &str, usize); 11] = [
+    ("a {{ x }}", "x", 2),
+    ("{% for i in x %}", "statement", 0),
+    ("{{ a", "unclosed", 0),
+    ("{{ a + b }}", "name", 0),
+    ("é{{ b c }}", "name", 2),
+    ("{{ }}", "name", 0),
+    ("{{ a }}{#}", "unclosed", 7),
+    ("{% raw }", "unclosed", 0),
+    ("{% raw %}{% end raw %}{%endraw}", "unclosed", 0),
+    ("{% endraw %}{{ x }}", "statement", 0),
+    ("{{ a }}{{ f() }}{%", "f()", 7),
+];
 
 #[test]
 fn refuses_at_the_first_place(rt: HostRuntime) -> Result<(), Fail> {
     let alloc = rt.alloc();
     let values = pairs(alloc, &[("a", "1"), ("b c", "2")])?;
-    for (template, kind, at) in [
-        ("a {{ x }}", "x", 2),
-        ("{% for i in x %}", "statement", 0),
-        ("{{ a", "unclosed", 0),
-        ("{{ a + b }}", "name", 0),
-        ("é{{ b c }}", "name", 2),
-        ("{{ }}", "name", 0),
-        ("{{ a }}{#}", "unclosed", 7),
-        ("{% raw }", "unclosed", 0),
-        ("{% raw %}{% end raw %}{%endraw}", "unclosed", 0),
-        ("{% endraw %}{{ x }}", "statement", 0),
-        ("{{ a }}{{ f() }}{%", "f()", 7),
-    ] {
-        assert!(rt; refuses(alloc, template, &values, kind, at), "{template}");
+    for (template, kind, at) in &REFUSED {
+        assert!(rt; refuses(alloc, template, &values, kind, *at), "{template}");
     }
     Ok(())
 }
@@ -107,31 +110,32 @@ fn renders_a_megabyte_of_values(rt: HostRuntime) -> Result<(), Fail> {
     let alloc = rt.alloc();
     let values = pairs(alloc, &[("a", "1")])?;
     let template = repeated(alloc, "{{ a }}", 150_000)?;
-    let text = rendered(alloc, template.as_str(), &values);
-    let wanted = repeated(alloc, "1", 150_000)?;
-    assert!(rt; text.is_some_and(|text| text.as_str() == wanted.as_str()));
+    let text = repeated(alloc, "1", 150_000)?;
+    assert!(rt; renders(alloc, template.as_str(), &values, text.as_str()));
     let marks = repeated(alloc, "{%", 500_000)?;
     assert!(rt; refuses(alloc, marks.as_str(), &[], "unclosed", 0));
     Ok(())
 }
+
+const TOO_LONG: [(&str, &str, usize); 3] = [
+    ("{{q}}{{q}}{{q}}{{q}}x{{", "too long", 20),
+    ("x{{q}}{{q}}{{q}}{{q}}", "too long", 16),
+    (
+        "{{q}}{{q}}{{q}}{{q}}{{e}}{%raw%}é{%endraw%}",
+        "too long",
+        25,
+    ),
+];
 
 #[test]
 fn writes_16777216_bytes_and_no_more(rt: HostRuntime) -> Result<(), Fail> {
     let alloc = rt.alloc();
     let quarter = repeated(alloc, "0123456789abcdef", 262_144)?;
     let values = pairs(alloc, &[("q", quarter.as_str()), ("e", "")])?;
-    let whole = rendered(alloc, "{{q}}{{q}}{{q}}{{q}}{{e}}", &values);
-    assert!(rt; whole.is_some_and(|whole| whole.as_str().len() == 16_777_216));
-    for (template, kind, at) in [
-        ("{{q}}{{q}}{{q}}{{q}}x{{", "too long", 20),
-        ("x{{q}}{{q}}{{q}}{{q}}", "too long", 16),
-        (
-            "{{q}}{{q}}{{q}}{{q}}{{e}}{%raw%}é{%endraw%}",
-            "too long",
-            25,
-        ),
-    ] {
-        assert!(rt; refuses(alloc, template, &values, kind, at), "{template}");
+    let whole = repeated(alloc, quarter.as_str(), 4)?;
+    assert!(rt; renders(alloc, "{{q}}{{q}}{{q}}{{q}}{{e}}", &values, whole.as_str()));
+    for (template, kind, at) in &TOO_LONG {
+        assert!(rt; refuses(alloc, template, &values, kind, *at), "{template}");
     }
     Ok(())
 }
