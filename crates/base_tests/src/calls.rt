@@ -55,12 +55,11 @@ pub(crate) fn expect_each<H: Host>(
     }
 }
 
+// The length of a file, and how many bytes a read gave, which stand at the front.
+pub(crate) type Opened = (Option<u64>, usize, [u8; 4]);
+
 // What a host has of a name.
-pub(crate) fn opened<H: Host>(
-    host: &mut H,
-    name: &str,
-    at: u64,
-) -> Result<(Option<u64>, usize, [u8; 4]), HostFault> {
+pub(crate) fn opened<H: Host>(host: &mut H, name: &str, at: u64) -> Result<Opened, HostFault> {
     let len = host.len(name)?;
     let mut read = [9; 4];
     let n = host.read_at(name, at, &mut read)?;

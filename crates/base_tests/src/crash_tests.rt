@@ -2,6 +2,7 @@
 use crate::calls::{Call, SCRIPT, expect_each, make_each};
 use pf_io::{Host, HostFault, MemHost, Tear, write_by_side_file};
 use std::alloc::Global;
+use std::process::Abort;
 use std::test::Fail;
 
 const EACH_TEAR: [Tear; 3] = [Tear::Kept, Tear::Lost, Tear::Fill(b'-')];
@@ -132,27 +133,48 @@ fn calls_on_absent_names_change_nothing(rt: HostRuntime) -> Result<(), Fail> {
     Ok(())
 }
 
+const OLD: &[u8] = b"old";
+
+const LONG: [u8; 40_000] = [b'x'; 40_000];
+
+// What is written, and how many calls write it.
+const WRITINGS: [(&[u8], u64); 3] = [(b"", 3), (b"newer", 4), (&LONG, 5)];
+
+// Writes `a` anew, where only the first calls change the host, and says whether it succeeds.
+fn is_written(host: &mut MemHost, bytes: &[u8], calls: u64) -> bool {
+    host.stop_at(calls);
+    write_by_side_file(host, "a", "a.new", bytes).is_ok()
+}
+
+// Whether a crash leaves these bytes of `a`.
+fn leaves(host: MemHost, tear: Tear, bytes: &[u8]) -> Result<bool, Fail> {
+    let left = host.after_crash(tear)?;
+    Ok(left.bytes("a") == Some(bytes))
+}
+
+fn expect_old_or_new(
+    rt: &impl Abort,
+    alloc: Global,
+    bytes: &[u8],
+    calls: u64,
+    written: bool,
+) -> Result<(), Fail> {
+    for tear in EACH_TEAR {
+        let mut host = MemHost::new(alloc);
+        host.put("a", OLD)?;
+        assert!(rt; is_written(&mut host, bytes, calls) == written);
+        let want = if written { bytes } else { OLD };
+        let same = leaves(host, tear, want)?;
+        assert!(rt; same, "{calls} calls");
+    }
+    Ok(())
+}
+
 #[test]
 fn a_crash_leaves_the_old_file_or_the_new_one(rt: HostRuntime) -> Result<(), Fail> {
-    let long = [b'x'; 40_000];
-    // The bytes, and how many calls write them.
-    let cases: [(&[u8], u64); 3] = [(b"", 3), (b"newer", 4), (&long, 5)];
-    for (bytes, all) in cases {
+    for (bytes, all) in &WRITINGS {
         for calls in 0..6 {
-            for tear in EACH_TEAR {
-                let mut host = MemHost::new(rt.alloc());
-                host.put("a", b"old")?;
-                host.stop_at(calls);
-                let outcome = write_by_side_file(&mut host, "a", "a.new", bytes);
-                assert!(rt; outcome.is_ok() == (calls >= all));
-                let want = if calls >= all {
-                    bytes
-                } else {
-                    b"old".as_slice()
-                };
-                let host = host.after_crash(tear)?;
-                assert!(rt; host.bytes("a") == Some(want), "{calls} calls, {tear:?}");
-            }
+            expect_old_or_new(&rt, rt.alloc(), bytes, calls, calls >= *all)?;
         }
     }
     Ok(())

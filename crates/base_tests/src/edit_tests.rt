@@ -143,7 +143,13 @@ fn count_plainly(tree: &Tree, at: u64, end: u64) -> usize {
             *mark = true;
         }
     }
-    changed.iter().filter(|mark| **mark).count()
+    let mut count: usize = 0;
+    for mark in &changed {
+        if *mark {
+            count = count.saturating_add(1);
+        }
+    }
+    count
 }
 
 // Marks a node and those above it.

@@ -121,19 +121,21 @@ fn entries_are_one_for_each_normal_uri(rt: HostRuntime) {
     assert!(rt; has_allowed(&manifest, 0, "file:x") && has_allowed(&manifest, 1, "file:x"));
 }
 
+const NORMAL_NAMES: [(&str, &str); 6] = [
+    ("", "."),
+    ("/", "/"),
+    ("a//b/./c", "a/b/c"),
+    ("/../a", "/a"),
+    ("../a/../..", "../.."),
+    ("a/..", "."),
+];
+
 #[test]
 fn names_have_normal_forms(rt: HostRuntime) -> Result<(), Fail> {
     let alloc = rt.alloc();
-    for (name, normal) in [
-        ("", "."),
-        ("/", "/"),
-        ("a//b/./c", "a/b/c"),
-        ("/../a", "/a"),
-        ("../a/../..", "../.."),
-        ("a/..", "."),
-    ] {
+    for (name, normal) in &NORMAL_NAMES {
         let found = normal_name(alloc, name)?;
-        assert!(rt; found.as_str() == normal, "{name}");
+        assert!(rt; found.as_str() == *normal, "{name}");
     }
     Ok(())
 }
