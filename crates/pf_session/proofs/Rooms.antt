@@ -1,5 +1,5 @@
 -- Room for a change of a session, and what a change comes to.
-use Rattle.std.proofs.Common.{◌≡◌, ℕ, ◌+◌, ◌<◌, ◌≤◌, Bool, true, false, List, [], ◌∷◌, length, refl, ap, ◌∙◌, subst, arith, Result, Ok, Err}
+use Rattle.std.proofs.Common.{◌≡◌, ℕ, ◌+◌, ◌<◌, ◌≤◌, Bool, true, false, List, [], length, ap, ◌∙◌, subst, arith, Result, Ok, Err}
 use Rattle.std.specs.Prelude.{◌^◌}
 use Rattle.pf_io.specs.Disk.{Name, Disk, IsImage, IsImageAt}
 use Rattle.pf_io.specs.Host.{HostState}
@@ -52,10 +52,6 @@ size_allowed n size small near sizes.Words refused = refused
 size_allowed n size small near (sizes.Damaged damage) refused = refused
 size_allowed n size small near sizes.Host refused = refused
 size_allowed n size small near sizes.Memory refused = refused
-
-pub is_empty : (bytes : List ℕ) → length bytes ≡ 0 → bytes ≡ []
-is_empty [] none = refl
-is_empty (byte ∷ bytes) none = absurd (omega (arith, none))
 
 pub not_empty : (bytes : List ℕ) → 0 < length bytes → ¬ (bytes ≡ [])
 not_empty bytes some none = let zero : length bytes ≡ 0 = ap (λ (l : List ℕ). length l) none in omega arith

@@ -1,4 +1,5 @@
 use Rattle.std.proofs.Common.{◌≡◌, ℕ, ◌≤◌, [], length, ◌∙◌, ap, refl, subst, arith, Result, Ok, Err}
+use Rattle.std.proofs.lemmas.List.{nil_from_length}
 use Rattle.std.proofs.lemmas.Result.{err_from_is_err_and}
 use Rattle.node_tree.specs.Applying.{Write}
 use Rattle.node_tree.specs.declared.fault.TreeFault.{TreeFault}
@@ -10,7 +11,7 @@ use Rattle.pf_session.specs.declared.fault.WriteFault.{WriteFault}
 use Rattle.pf_session.specs.declared.fault.Written.{Written}
 use Rattle.pf_session.proofs.Created.{aside_none}
 use Rattle.pf_session.proofs.Published.{beside_none}
-use Rattle.pf_session.proofs.Rooms.{write_allowed, is_empty, not_empty, not_changed, is_changed, aside_then, beside_then}
+use Rattle.pf_session.proofs.Rooms.{write_allowed, not_empty, not_changed, is_changed, aside_then, beside_then}
 use Rattle.pf_session.proofs.session.Session.write.Goals as goal
 
 -- a rule refuses the write
@@ -35,7 +36,7 @@ returns-then-count-eq0-clause-goes g c =
     let bytes = c.args.from.now in
     let size : c.size.result ≡ c.args.self.now.tree.size = c.size.ensures.same ∙ ap (λ (s : SessionState). s.tree.size) c.self.view_is in
     let within : c.args.at ≤ c.args.self.now.tree.size = subst (λ (n : ℕ). c.args.at ≤ n) size c.in_ok-check_write.ensures.within in
-    unchanged (write_allowed c.args.at (length bytes) c.args.self.now.tree.size c.in_ok-check_write.ensures.few c.in_ok-check_write.ensures.small within) (is_empty bytes (omega arith)) refl refl refl refl
+    unchanged (write_allowed c.args.at (length bytes) c.args.self.now.tree.size c.in_ok-check_write.ensures.few c.in_ok-check_write.ensures.small within) (nil_from_length bytes (omega arith)) refl refl refl refl
 
 pub returns-then-count-eq0-clause-aside : goal.returns-then-count-eq0-clause-aside
 returns-then-count-eq0-clause-aside g c = aside_none c.args.self.now.name (g.H.Host.state c.args.host.now)
