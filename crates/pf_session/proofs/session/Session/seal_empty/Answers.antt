@@ -1,4 +1,4 @@
-use Rattle.std.proofs.Common.{◌≡◌, length, rules, ap, ◌∙◌}
+use Rattle.std.proofs.Common.{ap, ◌∙◌}
 use Rattle.node_tree.specs.State.{TreeState}
 use Rattle.pf_session.specs.State.{SessionState}
 use Rattle.pf_session.specs.Steps.{node_of}
@@ -12,9 +12,3 @@ returns-clause-node c =
 
 pub returns-clause-state : goal.returns-clause-state
 returns-clause-state c = ap (λ (x : SessionState). let y : SessionState = record x { nonce = c.args.nonce } in y) c.self.view_is
-
-pub invariant_of-self : goal.invariant_of-self
-invariant_of-self c =
-    let well = c.self.invariant in
-    let long : length c.args.nonce ≡ 32 = search rules in
-    record { side_is = well.side_is; is_target = well.is_target; path_is = well.path_is; key_length = well.key_length; nonce_length = long; drawn_length = well.drawn_length }
