@@ -121,8 +121,8 @@ module _ (to : Name) (old : SessionState) (before start : HostState) (free : IsF
       (subst (λ (o : Option Files). IfSome o (λ files. (sheet : Sheet) → IsKeptOn sheet old → Stands (contents (files old.name)) old.key sheet → files to ≡ None → IsUndamaged (Err fault))) free.looks.asked.answered.files carry)
       free.looks.asked.answered.honest (λ files each was sheet kept stands. undamaged_move fault (each sheet kept stands (not_there (files to) was.0)))
 
-pub none_damaged : (old : SessionState) (before : HostState) → UndamagedMove (Ok tt) old before
-none_damaged old before = for_all _ (files_of before) (λ files sheet kept stands. tt)
+pub none_damaged : (result : Result (Unit {0}) MoveFault) (old : SessionState) (before : HostState) → IsUndamagedMove result → UndamagedMove result old before
+none_damaged result old before is = for_all _ (files_of before) (λ files sheet kept stands. is)
 
 -- the causes
 

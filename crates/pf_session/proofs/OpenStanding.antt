@@ -1,5 +1,5 @@
 -- An opening of a file that stands for a sheet.
-use Rattle.std.proofs.Common.{◌≡◌, ◌⊎◌, inl, inr, ℕ, List, [], length, refl, ap, ◌∙◌, sym, arith, subst, Option, Some, None, IfSome, Result, Err}
+use Rattle.std.proofs.Common.{◌≡◌, ◌⊎◌, inl, inr, ℕ, List, [], length, refl, ap, ◌∙◌, sym, arith, subst, Option, Some, None, IfSome, Result, Err, IfOk}
 use Rattle.std.specs.List.{AllByRecursion}
 use Rattle.std.proofs.lemmas.Option.{same_Some, none-some, IfSome_then}
 use Rattle.node_layout.specs.Metadata.{meta_opens, nonce_at, flag_at, IsPlain}
@@ -160,3 +160,7 @@ opens_standing key name path before after result key_length (by_answers these as
 opens_standing key name path before after result key_length (length_failed good asked same) = not_standing key name path faults.Host result (files_of before) same (inl refl)
 opens_standing key name path before after result key_length (read_failed size good asked same) = not_standing key name path faults.Host result (files_of before) same (inl refl)
 opens_standing key name path before after result key_length (no_names good still same) = not_standing key name path faults.Memory result (files_of before) same (inr refl)
+
+-- a fault opens no session
+pub opens_none : (result : Result SessionState OpenFault) (fault : OpenFault) → result ≡ failed fault → (P : SessionState → Type 0) → IfOk result P
+opens_none result fault is P = subst (λ (r : Result SessionState OpenFault). IfOk r P) (sym is) tt

@@ -111,6 +111,13 @@ kept_by_flush result session mid before after random random' beside (had_words n
 kept_by_flush result session mid before after random random' beside (had_words nonce keys came (call_failed stopped keeps seals shape new is)) = keeps beside
 kept_by_flush result session mid before after random random' beside (had_words nonce keys came (flushed tree done keeps settled seals new is)) = keeps beside
 
+-- one that was done keeps the size
+pub flush_size : (session mid : SessionState) (before after : HostState) (random random' : WordsState) → FlushGoes (Ok tt) session mid before after random random' → mid.tree.size ≡ session.tree.size
+flush_size session mid before after random random' (no_words lacked same still is) = absurd (cc)
+flush_size session mid before after random random' (had_words nonce keys came (node_short damage not_beside short seals new is)) = absurd (cc)
+flush_size session mid before after random random' (had_words nonce keys came (call_failed stopped keeps seals shape new is)) = absurd (cc)
+flush_size session mid before after random random' (had_words nonce keys came (flushed tree done keeps settled seals new is)) = settled.size ∙ done.shape.size
+
 -- one that was done had its words
 pub record Sealed (session mid : SessionState) (before after : HostState) (random random' : WordsState) : Type 0 where
   pub name_is : mid.name ≡ session.name

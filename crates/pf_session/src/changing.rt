@@ -1,10 +1,10 @@
 //! Changes of a session's content.
-ghost use Rattle.std.specs.Prelude.{◌≡◌, ◌+◌, ◌^◌, ◌≤◌, List, ℕ, length, false, OnOk};
+ghost use Rattle.std.specs.Prelude.{◌≡◌, ◌+◌, ◌^◌, ◌≤◌, List, ℕ, length, false, OnOk, IfErr};
 ghost use Rattle.node_tree.specs.Applying.{Step, Write, Size, from_of, to_of};
 ghost use Rattle.node_tree.specs.Marks.{MayChange};
 ghost use Rattle.pf_session.specs.Aside.{Aside};
 ghost use Rattle.pf_session.specs.Flushing.{KeepsName};
-ghost use Rattle.pf_session.specs.Changing.{IsRoomy, RoomGoes, Marked, StepGoes, WriteGoes, SizeGoes};
+ghost use Rattle.pf_session.specs.Changing.{IsRoomy, RoomGoes, Marked, StepGoes, WriteRefused, WriteGoes, SizeGoes};
 
 use crate::fault::{FlushFault, SizeFault, WriteFault, Written};
 use crate::file_name::file_name;
@@ -18,6 +18,26 @@ const LONGEST: u64 = 32_768;
 const LARGEST: u64 = 1 << 32;
 
 const MOST_DIRTY: usize = 48;
+
+// Refuses a write into a content of this size by the first rule against it.
+fn check_write(at: u64, from: &[u8], size: u64) -> Result<(), WriteFault>
+    ensures refused { IfErr result (WriteRefused at (length from.now) size) }
+    ensures few { OnOk result (length from.now ≤ 32768) }
+    ensures small { OnOk result (at + length from.now ≤ 2 ^ 32) }
+    ensures within { OnOk result (at ≤ size) }
+{
+    let count = from.len() as u64;
+    if count > LONGEST {
+        return Err(WriteFault::TooLong);
+    }
+    if at > LARGEST || count > LARGEST - at {
+        return Err(WriteFault::TooLarge);
+    }
+    if at > size {
+        return Err(WriteFault::PastEnd { size });
+    }
+    Ok(())
+}
 
 impl Session {
     // Flushes where a change of the bytes from `at` up to `end` would leave too many nodes dirty, and says whether it did.
@@ -107,17 +127,8 @@ impl Session {
         ensures aside { Aside self.old.name (H.state host.old) (H.state host.new) }
         ensures beside { KeepsName self.old (H.state host.old) (H.state host.new) }
     {
+        check_write(at, from, self.tree.size())?;
         let count = from.len() as u64;
-        if count > LONGEST {
-            return Err(WriteFault::TooLong);
-        }
-        if at > LARGEST || count > LARGEST - at {
-            return Err(WriteFault::TooLarge);
-        }
-        let size = self.tree.size();
-        if at > size {
-            return Err(WriteFault::PastEnd { size });
-        }
         if count == 0 {
             return Ok(Written {
                 flushed_before: false,

@@ -7,7 +7,7 @@ use Rattle.pf_session.specs.State.{SessionState}
 use Rattle.pf_session.specs.Aside.{AsideBoth}
 use Rattle.pf_session.specs.Creating.{LooksUp}
 use Rattle.pf_session.specs.Flushing.{host_part}
-use Rattle.pf_session.specs.Moving.{look_up_failed, was_there, CarryEnds, UndamagedCarry}
+use Rattle.pf_session.specs.Moving.{no_memory, look_up_failed, was_there, CarryEnds, UndamagedCarry}
 use Rattle.pf_session.specs.declared.fault.FlushFault.{FlushFault}
 use Rattle.pf_session.specs.declared.fault.MoveFault.{MoveFault}
 use Rattle.pf_session.specs.declared.fault.MoveFault.TheVariants as faults
@@ -16,6 +16,48 @@ use Rattle.pf_session.proofs.Created.{err_is, some_there, none_there}
 use Rattle.pf_session.proofs.Moved.{both_none, both_kept, both_on}
 use Rattle.pf_session.proofs.MovedTo.{is_free, fails, succeeds, gone, undamaged, none_damaged, host_same, words_same}
 use Rattle.pf_session.proofs.session.Session.move_to.Goals as goal
+
+pub returns-in_err-name-clause-goes : goal.returns-in_err-name-clause-goes
+returns-in_err-name-clause-goes g c =
+    let p = err_from_is_err_and c.from_residual.result c.from_residual.ensures.1 in
+    no_memory (c.in-Some.ensures.named.0 refl) refl refl refl (err_is _ p.0 faults.Memory p.1 p.2)
+
+pub returns-in_err-name-clause-undamaged : goal.returns-in_err-name-clause-undamaged
+returns-in_err-name-clause-undamaged g c =
+    let p = err_from_is_err_and c.from_residual.result c.from_residual.ensures.1 in
+    rw (err_is _ p.0 faults.Memory p.1 p.2) (none_damaged (Err faults.Memory) c.args.self.now (g.H.Host.state c.args.host.now) tt)
+
+pub returns-in_err-side-clause-goes : goal.returns-in_err-side-clause-goes
+returns-in_err-side-clause-goes g c =
+    let p = err_from_is_err_and c.from_residual-in_err-side.result c.from_residual-in_err-side.ensures.1 in
+    no_memory (c.in-Some.ensures.named.0 refl) refl refl refl (err_is _ p.0 faults.Memory p.1 p.2)
+
+pub returns-in_err-side-clause-undamaged : goal.returns-in_err-side-clause-undamaged
+returns-in_err-side-clause-undamaged g c =
+    let p = err_from_is_err_and c.from_residual-in_err-side.result c.from_residual-in_err-side.ensures.1 in
+    rw (err_is _ p.0 faults.Memory p.1 p.2) (none_damaged (Err faults.Memory) c.args.self.now (g.H.Host.state c.args.host.now) tt)
+
+pub returns-in_err-recovery-clause-goes : goal.returns-in_err-recovery-clause-goes
+returns-in_err-recovery-clause-goes g c =
+    let p = err_from_is_err_and c.from_residual-in_err-recovery.result c.from_residual-in_err-recovery.ensures.1 in
+    no_memory (c.in-Some.ensures.named.0 refl) refl refl refl (err_is _ p.0 faults.Memory p.1 p.2)
+
+pub returns-in_err-recovery-clause-undamaged : goal.returns-in_err-recovery-clause-undamaged
+returns-in_err-recovery-clause-undamaged g c =
+    let p = err_from_is_err_and c.from_residual-in_err-recovery.result c.from_residual-in_err-recovery.ensures.1 in
+    rw (err_is _ p.0 faults.Memory p.1 p.2) (none_damaged (Err faults.Memory) c.args.self.now (g.H.Host.state c.args.host.now) tt)
+
+pub returns-in_err-name-clause-aside : goal.returns-in_err-name-clause-aside
+returns-in_err-name-clause-aside g c =
+    both_none c.args.self.now.name c.args.new.now (g.H.Host.state c.args.host.now)
+
+pub returns-in_err-len-clause-undamaged : goal.returns-in_err-len-clause-undamaged
+returns-in_err-len-clause-undamaged g c =
+    let p = err_from_is_err_and c.from_residual-in_err-len.result c.from_residual-in_err-len.ensures.1 in
+    rw (err_is _ p.0 faults.Host p.1 p.2) (none_damaged (Err faults.Host) c.args.self.now (g.H.Host.state c.args.host.now) tt)
+
+pub returns-then-is_some-clause-undamaged : goal.returns-then-is_some-clause-undamaged
+returns-then-is_some-clause-undamaged g c = none_damaged (Err faults.TargetExists) c.args.self.now (g.H.Host.state c.args.host.now) tt
 
 pub returns-in_err-side-clause-aside : goal.returns-in_err-side-clause-aside
 returns-in_err-side-clause-aside g c =
@@ -182,4 +224,4 @@ returns-clause-aside g c =
 
 pub returns-clause-undamaged : goal.returns-clause-undamaged
 returns-clause-undamaged g c =
-    none_damaged c.args.self.now (g.H.Host.state c.args.host.now)
+    none_damaged (Ok tt) c.args.self.now (g.H.Host.state c.args.host.now) tt
