@@ -20,17 +20,17 @@ fn reply_status(reply: &Reply) -> u8
         Reply::DamagedNode { .. } | Reply::DamagedChunk { .. } => 1,
         Reply::HostFault => 4,
         Reply::WordsFault => 6,
-        Reply::None => 0,
-        Reply::Created => 0,
-        Reply::Opened { .. } => 0,
-        Reply::Viewed { .. } => 0,
-        Reply::Given { .. } => 0,
-        Reply::Written { .. } => 0,
-        Reply::Sized { .. } => 0,
-        Reply::Flushed => 0,
-        Reply::Moved => 0,
-        Reply::Drawn { .. } => 0,
-        Reply::Closed { .. } => 0,
+        Reply::None
+        | Reply::Created
+        | Reply::Opened { .. }
+        | Reply::Viewed { .. }
+        | Reply::Given { .. }
+        | Reply::Written { .. }
+        | Reply::Sized { .. }
+        | Reply::Flushed
+        | Reply::Moved
+        | Reply::Drawn { .. }
+        | Reply::Closed { .. } => 0,
     }
 }
 
