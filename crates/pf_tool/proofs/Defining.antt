@@ -151,6 +151,17 @@ none_first : DefinesNone []
 none_first name value rest (in_two_words named is) = absurd (cc)
 none_first name value rest (in_one_word named is) = absurd (cc)
 
+-- behind `-D` the pair is the next word
+none_in_next : (words behind : List (List ℕ)) → words ≡ codes "-D" ∷ behind → ((n v : List ℕ) (r : List (List ℕ)) → IsValueName n → behind ≡ spelled n v ∷ r → ⊥) → DefinesNone words
+none_in_next words behind is none n v r (in_two_words named two) = none n v r named (the_rest (codes "-D") behind (codes "-D") (spelled n v ∷ r) (sym is ∙ two))
+none_in_next words behind is none n v r (in_one_word named one) = one_word_apart n v (the_word (codes "-D") behind (codes "-D" ++ spelled n v) r (sym is ∙ one))
+
+pub in_next_word : {A : Type 0} (words behind : List (List ℕ)) (found : Option A) (name value : A → List ℕ) (rest : A → List (List ℕ)) → words ≡ codes "-D" ∷ behind
+    → MatchOption found ((n v : List ℕ) (r : List (List ℕ)) → IsValueName n → behind ≡ spelled n v ∷ r → ⊥) (λ x. IsValueName (name x) × (behind ≡ spelled (name x) (value x) ∷ rest x))
+    → MatchOption found (DefinesNone words) (λ x. DefinesFirst words (name x) (value x) (rest x))
+in_next_word words behind None name value rest is none = none_in_next words behind is none
+in_next_word words behind (Some x) name value rest is found = in_two_words found.0 (is ∙ ap (λ (l : List (List ℕ)). codes "-D" ∷ l) found.1)
+
 -- one pair more
 pub define_more : (words : List (List ℕ)) (values : Values) (rest : List (List ℕ)) (name value : List ℕ) (behind : List (List ℕ)) → Define words values rest → DefinesFirst rest name value behind → Define words (values ++ (name, value) ∷ []) behind
 define_more words [] rest name value behind first more = (behind, subst (λ (l : List (List ℕ)). DefinesFirst l name value behind) (sym first) more, refl)

@@ -1,20 +1,8 @@
 -- Lists of a known length, and names with an ending.
-use Rattle.std.proofs.Common.{◌≡◌, ◌≢◌, ◌↔◌, ◌∙◌, ◌<◌, ◌≤◌, ℕ, List, [], ◌∷◌, ◌++◌, length, take, drop, ◌-◌, slice_index_or, Bool, true, false, IsTrue, MatchBool, not, nat_eq, eqb-true, eq-eqb, ap, ap₂, sym, refl, subst, inl, inr, arith}
+use Rattle.std.proofs.Common.{◌≡◌, ◌≢◌, ◌↔◌, ◌∙◌, ◌<◌, ◌≤◌, ℕ, List, [], ◌∷◌, ◌++◌, length, take, drop, ◌-◌, slice_index_or, Bool, true, false, IsTrue, MatchBool, not, nat_eq, eqb-true, eq-eqb, ap, sym, refl, subst, inl, inr, arith}
 use Rattle.std.proofs.lemmas.Bool.{cases_Bool}
 use Rattle.pf_tool.specs.Requests.{IsOperand}
 use Rattle.std.proofs.lemmas.List.{append_cancel_left, take_all}
-
--- the items of a list of five, as reads give them
-pub five : {A : Type 0} → (xs : List A) (a b c d e : A) → 5 ≤ length xs → length xs < 6
-    → a ≡ slice_index_or xs 0 a → b ≡ slice_index_or xs 1 b → c ≡ slice_index_or xs 2 c → d ≡ slice_index_or xs 3 d → e ≡ slice_index_or xs 4 e
-    → xs ≡ a ∷ b ∷ c ∷ d ∷ e ∷ []
-five [] a b c d e least most p q r s t = absurd (omega arith)
-five (v ∷ []) a b c d e least most p q r s t = absurd (omega arith)
-five (v ∷ w ∷ []) a b c d e least most p q r s t = absurd (omega arith)
-five (v ∷ w ∷ x ∷ []) a b c d e least most p q r s t = absurd (omega arith)
-five (v ∷ w ∷ x ∷ y ∷ []) a b c d e least most p q r s t = absurd (omega arith)
-five (v ∷ w ∷ x ∷ y ∷ z ∷ []) a b c d e least most p q r s t = cc
-five (v ∷ w ∷ x ∷ y ∷ z ∷ u ∷ more) a b c d e least most p q r s t = absurd (omega arith)
 
 -- a list of at least one
 pub one_more : {A : Type 0} → (xs : List A) (a : A) → 1 ≤ length xs → a ≡ slice_index_or xs 0 a → xs ≡ a ∷ take (length xs - 1) (drop 1 xs)
@@ -38,14 +26,6 @@ four (v ∷ w ∷ []) a b c d least most p q r s = absurd (omega arith)
 four (v ∷ w ∷ x ∷ []) a b c d least most p q r s = absurd (omega arith)
 four (v ∷ w ∷ x ∷ y ∷ []) a b c d least most p q r s = cc
 four (v ∷ w ∷ x ∷ y ∷ z ∷ more) a b c d least most p q r s = absurd (omega arith)
-
--- a list of at least two
-pub two_more : {A : Type 0} → (xs : List A) (a b : A) → 2 ≤ length xs → a ≡ slice_index_or xs 0 a → b ≡ slice_index_or xs 1 b → xs ≡ a ∷ b ∷ take (length xs - 2) (drop 2 xs)
-two_more [] a b least p q = absurd (omega arith)
-two_more (v ∷ []) a b least p q = absurd (omega arith)
-two_more (v ∷ w ∷ xs) a b least p q =
-    let n : length xs ≤ length (v ∷ w ∷ xs) - 2 = omega arith in
-    ap₂ (λ c d. c ∷ d ∷ xs) (sym p) (sym q) ∙ ap (λ l. a ∷ b ∷ l) (sym (take_all (length (v ∷ w ∷ xs) - 2) xs n))
 
 pub never_true : ¬ (IsTrue false)
 never_true is = absurd (cc)
@@ -76,11 +56,3 @@ operand_told bytes (a ∷ b ∷ rest) same least =
   where
     the_first : (a b : ℕ) (rest : List ℕ) (c : ℕ) (more : List ℕ) → a ∷ b ∷ rest ≡ 45 ∷ c ∷ more → a ≡ 45
     the_first a b rest c more is = cc
-
--- the items of a list of three
-pub three : {A : Type 0} → (xs : List A) (a b c : A) → 3 ≤ length xs → length xs < 4 → a ≡ slice_index_or xs 0 a → b ≡ slice_index_or xs 1 b → c ≡ slice_index_or xs 2 c → xs ≡ a ∷ b ∷ c ∷ []
-three [] a b c least most p q r = absurd (omega arith)
-three (v ∷ []) a b c least most p q r = absurd (omega arith)
-three (v ∷ w ∷ []) a b c least most p q r = absurd (omega arith)
-three (v ∷ w ∷ x ∷ []) a b c least most p q r = cc
-three (v ∷ w ∷ x ∷ y ∷ more) a b c least most p q r = absurd (omega arith)

@@ -1,5 +1,5 @@
 // Values of names, as words of the command line give them.
-ghost use Rattle.std.specs.Prelude.{◌≡◌, ◌++◌, ℕ, List, IfOk, MatchOption, [], length};
+ghost use Rattle.std.specs.Prelude.{◌≡◌, ◌++◌, ℕ, List, IfOk, MatchOption, [], ◌∷◌, length, codes};
 ghost use Rattle.template_text.specs.Names.{IsValueName};
 ghost use Rattle.template_text.specs.Rendering.{Values};
 ghost use Rattle.pf_tool.specs.Texts.{texts};
@@ -41,21 +41,36 @@ fn pair_of(text: &str) -> Option<(&str, &str)>
     }
 }
 
+// The pair of the word `-DNAME=VALUE`.
+fn pair_in_word(word: &str) -> Option<(&str, &str)>
+    ensures { MatchOption result ((name value : List ℕ) → IsValueName name → word.now ≡ codes "-D" ++ spelled name value → ⊥) (λ pair. IsValueName pair.0.now × (word.now ≡ codes "-D" ++ spelled pair.0.now pair.1.now)) }
+{
+    pair_of(word.strip_prefix("-D")?)
+}
+
+// The pair that the first word is, and the words behind it.
+fn pair_first(words: &[String]) -> Option<(&str, &str, &[String])>
+    ensures { MatchOption result ((name value : List ℕ) (rest : List (List ℕ)) → IsValueName name → texts words.now ≡ spelled name value ∷ rest → ⊥) (λ found. IsValueName found.0.now × (texts words.now ≡ spelled found.0.now found.1.now ∷ texts found.2.now)) }
+{
+    let [pair, rest @ ..] = words else {
+        return None;
+    };
+    let (name, value) = pair_of(pair.as_str())?;
+    Some((name, value, rest))
+}
+
 // The pair that stands first, and the words behind it.
 fn first_define(words: &[String]) -> Option<(&str, &str, &[String])>
     ensures { MatchOption result (DefinesNone (texts words.now)) (λ found. DefinesFirst (texts words.now) found.0.now found.1.now (texts found.2.now)) }
 {
-    match words {
-        [option, pair, rest @ ..] if option.as_str() == "-D" => {
-            let (name, value) = pair_of(pair.as_str())?;
-            Some((name, value, rest))
-        }
-        [word, rest @ ..] => {
-            let (name, value) = pair_of(word.as_str().strip_prefix("-D")?)?;
-            Some((name, value, rest))
-        }
-        [] => None,
+    let [first, behind @ ..] = words else {
+        return None;
+    };
+    if first.as_str() == "-D" {
+        return pair_first(behind);
     }
+    let (name, value) = pair_in_word(first.as_str())?;
+    Some((name, value, behind))
 }
 
 /// The pairs that stand first in words, and the words behind them.

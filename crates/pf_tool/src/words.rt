@@ -1,5 +1,5 @@
 // The words of the command line.
-ghost use Rattle.std.specs.Prelude.{◌≡◌, ◌↔◌, IsTrue, IfSome, IfNone, Option, Some, None, List, ℕ, codes, option_map};
+ghost use Rattle.std.specs.Prelude.{◌≡◌, ◌↔◌, ◌∷◌, [], IsTrue, IfSome, IfNone, Option, Some, None, List, ℕ, codes, option_map};
 ghost use Rattle.pf_tool.specs.Requests.{texts, decrypt_words, encrypt_words, session_words, IsOperand, Sums as SumsOf, Measure as MeasureOf, AskFor, AskForNothing, request_of};
 
 use crate::manifest_words::{Manifest, manifest_of};
@@ -64,10 +64,18 @@ pub enum Command<'a> {
     Measure(Measure<'a>),
 }
 
-fn is_decrypt(command: &str, key_option: &str, input_option: &str) -> bool
-    ensures { IsTrue result ↔ (command.now ≡ codes "decrypt") × (key_option.now ≡ codes "-w") × (input_option.now ≡ codes "-i") }
+// Whether the words are the command of this name, with a key.
+fn is_with_key(command: &str, name: &str, key_option: &str) -> bool
+    ensures { IsTrue result ↔ (command.now ≡ name.now) × (key_option.now ≡ codes "-w") }
 {
-    command == "decrypt" && key_option == "-w" && input_option == "-i"
+    command == name && key_option == "-w"
+}
+
+// Whether the words are the command of this name, with a key and an input.
+fn is_with_input(command: &str, name: &str, key_option: &str, input_option: &str) -> bool
+    ensures { IsTrue result ↔ (command.now ≡ name.now) × (key_option.now ≡ codes "-w") × (input_option.now ≡ codes "-i") }
+{
+    is_with_key(command, name, key_option) && input_option == "-i"
 }
 
 fn decrypt_of(words: &[String]) -> Option<Decrypt<'_>>
@@ -77,7 +85,12 @@ fn decrypt_of(words: &[String]) -> Option<Decrypt<'_>>
     let [command, key_option, key, input_option, input] = words else {
         return None;
     };
-    if !is_decrypt(command.as_str(), key_option.as_str(), input_option.as_str()) {
+    if !is_with_input(
+        command.as_str(),
+        "decrypt",
+        key_option.as_str(),
+        input_option.as_str(),
+    ) {
         return None;
     }
     Some(Decrypt {
@@ -89,7 +102,7 @@ fn decrypt_of(words: &[String]) -> Option<Decrypt<'_>>
 fn is_encrypt(command: &str, key_option: &str, input_option: &str, output_option: &str) -> bool
     ensures { IsTrue result ↔ (command.now ≡ codes "encrypt") × (key_option.now ≡ codes "-w") × (input_option.now ≡ codes "-i") × (output_option.now ≡ codes "-o") }
 {
-    command == "encrypt" && key_option == "-w" && input_option == "-i" && output_option == "-o"
+    is_with_input(command, "encrypt", key_option, input_option) && output_option == "-o"
 }
 
 fn encrypt_of(words: &[String]) -> Option<Encrypt<'_>>
@@ -130,11 +143,10 @@ fn session_of(words: &[String]) -> Option<Session<'_>>
     let [command, key_option, key] = words else {
         return None;
     };
-    if command.as_str() == "session" && key_option.as_str() == "-w" {
-        Some(Session { key: key.as_str() })
-    } else {
-        None
+    if !is_with_key(command.as_str(), "session", key_option.as_str()) {
+        return None;
     }
+    Some(Session { key: key.as_str() })
 }
 
 /// Whether a word is no option: it does not begin with `-`, or is `-` alone.
@@ -144,27 +156,44 @@ pub(crate) fn is_operand(word: &str) -> bool
     word.len() < 2 || word.as_bytes()[0] != b'-'
 }
 
+// Whether a word is the name of a command, and another is an operand.
+fn is_operand_of(command: &str, name: &str, operand: &str) -> bool
+    ensures { IsTrue result ↔ (command.now ≡ name.now) × IsOperand operand.now }
+{
+    command == name && is_operand(operand)
+}
+
+// The operand that alone follows the name of a command.
+fn one_operand<'a>(words: &'a [String], name: &str) -> Option<&'a str>
+    ensures found { IfSome result (λ operand. (texts words.now ≡ name.now ∷ operand.now ∷ []) × IsOperand operand.now) }
+    ensures none { IfNone result ((operand : List ℕ) → texts words.now ≡ name.now ∷ operand ∷ [] → IsOperand operand → ⊥) }
+{
+    let [command, operand] = words else {
+        return None;
+    };
+    if !is_operand_of(command.as_str(), name, operand.as_str()) {
+        return None;
+    }
+    Some(operand.as_str())
+}
+
 fn sums_alone(words: &[String]) -> Option<Sums<'_>>
     ensures found { IfSome result (λ command. AskFor (texts words.now) (SumsOf command.manifest.now (option_map (λ name. name.now) command.output))) }
     ensures none { IfNone result ((manifest : List ℕ) → AskFor (texts words.now) (SumsOf manifest None) → ⊥) }
 {
-    let [command, manifest] = words else {
-        return None;
-    };
-    if command.as_str() == "sums" && is_operand(manifest.as_str()) {
-        Some(Sums {
-            manifest: manifest.as_str(),
+    match one_operand(words, "sums") {
+        Some(manifest) => Some(Sums {
+            manifest,
             output: None,
-        })
-    } else {
-        None
+        }),
+        None => None,
     }
 }
 
 fn is_sums_to_file(command: &str, option: &str, manifest: &str) -> bool
     ensures { IsTrue result ↔ (command.now ≡ codes "sums") × (option.now ≡ codes "-o") × IsOperand manifest.now }
 {
-    command == "sums" && option == "-o" && is_operand(manifest)
+    is_operand_of(command, "sums", manifest) && option == "-o"
 }
 
 fn sums_to_file(words: &[String]) -> Option<Sums<'_>>
@@ -197,15 +226,9 @@ fn measure_of(words: &[String]) -> Option<Measure<'_>>
     ensures found { IfSome result (λ command. AskFor (texts words.now) (MeasureOf command.layout.now)) }
     ensures none { IfNone result ((layout : List ℕ) → AskFor (texts words.now) (MeasureOf layout) → ⊥) }
 {
-    let [command, layout] = words else {
-        return None;
-    };
-    if command.as_str() == "measure" && is_operand(layout.as_str()) {
-        Some(Measure {
-            layout: layout.as_str(),
-        })
-    } else {
-        None
+    match one_operand(words, "measure") {
+        Some(layout) => Some(Measure { layout }),
+        None => None,
     }
 }
 

@@ -1,15 +1,15 @@
-use Rattle.std.proofs.Common.{◌≡◌, ap, ◌∙◌, rules}
+use Rattle.std.proofs.Common.{◌≡◌, ◌∷◌, ◌-◌, length, take, drop, ap, ◌∙◌, rules}
 use Rattle.std.specs.Prelude.{codes}
-use Rattle.pf_tool.specs.Defines.{in_two_words}
 use Rattle.pf_tool.specs.Texts.{texts}
-use Rattle.pf_tool.proofs.Lists.{two_more}
+use Rattle.pf_tool.proofs.Defining.{in_next_word}
+use Rattle.pf_tool.proofs.Lists.{one_more}
 use Rattle.pf_tool.proofs.defines.first_define.Goals as goal
 
-pub returns-in_ok-name-in-len2-up : goal.returns-in_ok-name-in-len2-up
-returns-in_ok-name-in-len2-up c =
-    let words = two_more c.args.words.now c.option-item.result c.pair-item.result c.in-len2-up.len_at_least c.option-item.is c.pair-item.is in
+pub returns-then-eq : goal.returns-then-eq
+returns-then-eq c =
+    let words = one_more c.args.words.now c.first-item.result c.in-len1-up.len_at_least c.first-item.is in
+    let behind = texts (take (length c.args.words.now - 1) (drop 1 c.args.words.now)) in
     let option : c.as_str.result.now ≡ codes "-D" = search rules in
     let e0 = c.as_str.ensures.value in
-    let e1 = c.as_str-in-len2-up.ensures.value in
-    let pair = c.in_ok-name-in-len2-up.ensures in
-    in_two_words pair.0 (ap texts words ∙ (cc))
+    let begins : texts c.args.words.now ≡ codes "-D" ∷ behind = ap texts words ∙ (cc) in
+    in_next_word (texts c.args.words.now) behind c.pair_first.result (λ x. x.0.now) (λ x. x.1.now) (λ x. texts x.2.now) begins c.pair_first.ensures
