@@ -1,5 +1,6 @@
 """Measurements of listed layouts, against the records hashed here."""
 import hashlib
+import os
 import random
 import struct
 
@@ -69,7 +70,7 @@ def test_random_layouts_are_measured():
         same((ran.status, ran.out, ran.log), (0, measurement(size, frame, pages).encode() + b"\n", ""), str(ran))
 
 
-def test_two_layouts_have_the_measurements_of_another_program():
+def test_two_layouts_have_these_measurements():
     put("a", bytes((7 * i + i // 256) % 256 for i in range(5000)))
     put("short", b"abc")
     for text, said in (
@@ -88,7 +89,7 @@ def test_two_layouts_have_the_measurements_of_another_program():
         same((ran.status, ran.out, ran.log), (0, said, ""), text)
 
 
-# Texts, by what is said of their first bad line; nothing where they are layouts.
+# Texts, and what is said of their first bad line; nothing where they are layouts.
 LINES = {
     "": "1",
     "# none\n": "2",
@@ -108,6 +109,7 @@ LINES = {
     "enclave 0x20000000000 1": "1 size",
     "enclave 0x10000000000 4294967295": "",
     "enclave 0x1000 1\nenclave 0x1000 1": "2",
+    "enclave 0x1000 1\n\npage 0x1000 r-- reg bare zero": "3 out of range",
     "enclave 0x1000 1\npage 0x0 r-- reg measured file absent 0\npage": "3",
 }
 # Third lines, behind those of an enclave of two pages and its first page.
@@ -131,7 +133,7 @@ PAGES = {
 }
 
 
-def is_read(text, said):
+def says(text, said):
     put("layout", text.encode())
     ran = tool("measure", "layout")
     if said:
@@ -140,14 +142,14 @@ def is_read(text, said):
         same((ran.status, len(ran.out), ran.log), (0, 65, ""), f"{text[-60:]!r}: {ran}")
 
 
-def test_layouts_are_refused_by_their_first_bad_line():
+def test_layouts_are_read_or_refused_by_their_first_bad_line():
     for text, said in LINES.items():
-        is_read(text, said)
+        says(text, said)
     for page, said in PAGES.items():
-        is_read(f"enclave 0x2000 1\npage 0x0 r-x reg measured zero\n{page}", said)
+        says(f"enclave 0x2000 1\npage 0x0 r-x reg measured zero\n{page}", said)
     many = "".join(f"page {PAGE * i:#x} --- reg bare zero\n" for i in range(1, 100_001))
-    is_read(f"enclave 0x10000000000 1\n{many}", "")
-    is_read(f"enclave 0x10000000000 1\n{many}page 0x1000 --- reg bare zero", "100002 repeated")
+    says(f"enclave 0x10000000000 1\n{many}", "")
+    says(f"enclave 0x10000000000 1\n{many}page 0x1000 --- reg bare zero", "100002 repeated")
 
 
 def test_a_layout_has_a_limit_and_files():
@@ -156,8 +158,13 @@ def test_a_layout_has_a_limit_and_files():
     put("layout", b"#" * 4_194_305)
     same(tool("measure", "layout").log, "refused too large\n", "a long layout")
     put("a", b"abc")
-    put("layout", b"enclave 0x2000 1\npage 0x0 r-- reg measured file a 1\npage 0x1000 r-- reg measured file absent 0")
-    same(tool("measure", "layout").log, "refused not found absent\n", "an absent file")
+    os.mkdir("folder")
+    pages = [f"page {PAGE * k:#x} r-- reg measured file {name} 0" for k, name in enumerate(("a", "absent", "later", "folder", "absent"))]
+    put("layout", "\n".join(["enclave 0x8000 1", *pages]).encode())
+    same(tool("measure", "layout").log, "refused not found absent\n", "two absent files")
+    put("layout", "\n".join(["enclave 0x8000 1", pages[0], *pages[3:]]).encode())
+    ran = tool("measure", "layout")
+    same((ran.status, ran.out, ran.log), (4, b"", "host fault\n"), "a folder before an absent file")
     put("layout", b"enclave 0x1000 1\npage 0x0 r-- reg bare file absent 0")
     same(tool("measure", "layout").status, 0, "an absent file of a page that is not measured")
     same(tool("measure", "absent").log, "refused not found absent\n", "an absent layout")

@@ -48,6 +48,7 @@ def read(text):
 
 def test_random_trees_are_summed():
     source = random.Random(11)
+    tables = []
     for round_ in range(15):
         files = random_tree(source, f"tree{round_}")
         listed = {name for name in files if source.random() < 0.3}
@@ -62,15 +63,17 @@ def test_random_trees_are_summed():
         same((ran.status, ran.out, ran.log), (0, lines, ""), str(ran))
         ran = tool("sums", "-o", "m2", "m")
         same((ran.status, ran.out, ran.log), (0, lines, ""), str(ran))
-        before, after = read(got("m")), read(got("m2"))
-        same(after["sgx"].pop("trusted_files"), [{"uri": uri, "sha256": digits(files[name])} for name, uri, _ in items], "the list")
-        before["sgx"].pop("trusted_files")
-        same(after, before, "the rest of the table")
         for name in files:
             if os.path.exists(name):
                 os.remove(name)
         ran = tool("sums", "m2")
         same((ran.status, ran.out, ran.log), (0, lines, ""), str(ran))
+        tables.append((got("m"), got("m2"), [{"uri": uri, "sha256": digits(files[name])} for name, uri, _ in items]))
+    for text, text_with_sums, files in tables:
+        before, after = read(text), read(text_with_sums)
+        same(after["sgx"].pop("trusted_files"), files, "the list")
+        before["sgx"].pop("trusted_files")
+        same(after, before, "the rest of the table")
 
 
 def test_sums_are_those_of_sha256sum():
@@ -94,7 +97,8 @@ def test_sums_are_those_of_the_standard():
     ):
         put("a", content)
         put("m", b'sgx.trusted_files = ["file:a"]')
-        same(tool("sums", "m").out, said.encode() + b"  file:a\n", content[:60])
+        ran = tool("sums", "m")
+        same((ran.status, ran.out, ran.log), (0, said.encode() + b"  file:a\n", ""), content[:60])
 
 
 def test_manifests_with_absent_files_are_refused():
@@ -103,6 +107,11 @@ def test_manifests_with_absent_files_are_refused():
     put("m2", b"old")
     ran = tool("sums", "-o", "m2", "m")
     same((ran.status, ran.out, ran.log), (3, b"", "refused not found b\n"), str(ran))
+    same(got("m2"), b"old", "OUT")
+    os.mkdir("folder")
+    put("m", b'sgx.trusted_files = ["file:a", "file:folder", "file:b"]')
+    ran = tool("sums", "-o", "m2", "m")
+    same((ran.status, ran.out, ran.log), (4, b"", "host fault\n"), "a folder before an absent file")
     same(got("m2"), b"old", "OUT")
     same(tool("sums", "absent").log, "refused not found absent\n", "an absent manifest")
     same(tool("sums", "-o", "m.new", "m").log, "refused bad name\n", "OUT")

@@ -118,6 +118,9 @@ def test_templates_are_refused_at_their_first_place():
         refused(text.encode(), f"template {said}", "-Da=1")
     refused(b"\xff", "template not utf-8")
     same(tool("manifest", "none", "m").log, "refused not found none\n", "an absent template")
+    put("t", b"{{ a }}" * 150_000)
+    ran = tool("manifest", "-Da=#", "t")
+    same((ran.status, ran.out, ran.log), (0, b"#" * 150_000, ""), "many values")
     put("-", b"{{c}}")
     ran = tool("manifest", "-D", "a=b", "-Dc=", "-")
     same((ran.status, ran.out, ran.log), (0, b"", ""), "a template by the name -, and a value of no text")
@@ -126,14 +129,17 @@ def test_templates_are_refused_at_their_first_place():
 def test_names_of_values_are_parts_joined_by_points():
     put("t", b"")
     for name in ["a", "_", "a9.b_c", "gramine.runtimedir()", "A.Z()"]:
-        same(tool("manifest", f"-D{name}=x", "t").status, 0, name)
+        ran = tool("manifest", f"-D{name}=x", "t")
+        same((ran.status, ran.out, ran.log), (0, b"", ""), name)
     for name in ["", "()", "9", "a.", ".a", "a..b", "a b", "a()()", "a().b", "a(", "é", "a-b"]:
         same(tool("manifest", f"-D{name}=x", "t").status, 2, name)
 
 
-def sums_of(*uris):
-    items = ", ".join('{ uri = "%s", sha256 = "%s" }' % (uri, f"{k}7" * 32) for k, uri in enumerate(uris))
-    return f'[ "file:a", {items} ]'
+TWO_SUMS = f"""sgx.trusted_files = [
+  "file:a",
+  {{ uri = "file:./a", sha256 = "{"07" * 32}" }},
+  {{ uri = "file:b/../a", sha256 = "{"17" * 32}" }},
+]"""
 
 
 # Texts that are no manifest, by what is said of each.
@@ -159,8 +165,10 @@ OF_TRUSTED_FILES = {
     "field sgx.trusted_files[0].sha256": ['sgx.trusted_files = [ { uri = "file:a", sha256 = 1 } ]'],
     "sum file:a": ['sgx.trusted_files = [ { uri = "file:a", sha256 = "00" } ]'],
     "uri file:a/": ['sgx.trusted_files = [ "file:a/" ]'],
+    "uri http:x": ['sgx.trusted_files = [ "http:x" ]'],
+    "sum file:x": ['sgx.trusted_files = [ { uri = "file:x", sha256 = "0" } ]'],
     "uri file:": ['sgx.trusted_files = [ "file:" ]'],
-    "two sums file:b/../a": [f"sgx.trusted_files = {sums_of('file:./a', 'file:b/../a')}"],
+    "two sums file:b/../a": [TWO_SUMS],
 }
 OF_MOUNTS_AND_KEYS = {
     "field fs.root": ["fs.root = 1"],
@@ -184,23 +192,26 @@ def test_texts_without_a_manifest_are_refused():
         for said, texts in rows.items():
             for text in texts:
                 refused(text.encode(), f"manifest {said}")
+    put("t", b"\xef\xbb\xbfa = " + b"[" * 32 + b"]" * 32)
+    same((tool("manifest", "t").status, tool("manifest", "t").out), (0, got("t")), "a byte order mark, and 32 lists in each other")
 
 
 def test_bytes_are_a_manifest_or_none():
     for text in (b'a = "\xff"', b"\xef\xbb\xbfa", b"a\0"):
         put("m", text)
-        same(tool("sums", "m").log, "refused manifest not toml\n", text)
+        ran = tool("sums", "m")
+        same((ran.status, ran.out, ran.log), (3, b"", "refused manifest not toml\n"), text)
     long = b'a = "' + b"0123456789abcdef" * 262_143 + b'"'
     many = ",\n".join(f'{{ uri = "file:d/{k}", sha256 = "{k:064}" }}' for k in range(30_000))
     for text, lines in (
-        (b"\xef\xbb\xbfa = 1", 0),
-        (b"\xef\xbb\xbfa = " + b"[" * 32 + b"]" * 32, 0),
-        (long, 0),
-        (f"sgx.trusted_files = [\n{many}\n]".encode(), 30_000),
+        (b"\xef\xbb\xbfa = 1", ""),
+        (b"\xef\xbb\xbfa = " + b"[" * 32 + b"]" * 32, ""),
+        (long, ""),
+        (f"sgx.trusted_files = [\n{many}\n]".encode(), "".join(f"{k:064}  file:d/{k}\n" for k in range(30_000))),
     ):
         put("m", text)
         ran = tool("sums", "m")
-        same((ran.status, ran.out.count(b"\n"), ran.log), (0, lines, ""), text[:60])
+        same((ran.status, ran.out, ran.log), (0, lines.encode(), ""), text[:60])
 
 
 def test_a_template_and_its_text_have_a_limit():
@@ -215,5 +226,3 @@ def test_a_template_and_its_text_have_a_limit():
     for behind, at in (("{{q}}", end), ("##", end), ("x{{", end), ("{{e}}{%raw%}é{%endraw%}", end + 5)):
         refused(b"{{q}}" * places + behind.encode(), f"template too long at {at}", *words)
     refused(b"#" + b"{{q}}" * places, f"template too long at {end - 4}", *words)
-    put("t", b"{{ a }}" * 150_000)
-    same(tool("manifest", "-Da=#", "t").out, b"#" * 150_000, "many values")

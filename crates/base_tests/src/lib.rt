@@ -1,4 +1,5 @@
-//! Tests of the crates below pf_session, of those of plain files, and of the host of pf_fakes. They stand apart, so that each crate is proved once.
+//! Tests of the crates below pf_session, of those of plain files, and of the host of pf_fakes, but for what the built program is tried with.
+//! They stand apart, so that each crate is proved once.
 #![tactic(auto)]
 
 #[cfg(test)]

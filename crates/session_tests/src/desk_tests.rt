@@ -144,7 +144,7 @@ fn three_words_are_too_few_for_a_new_file(rt: HostRuntime) -> Result<(), Fail> {
     Ok(())
 }
 
-// Three nodes are dirty then: the changed byte's, its table's and the metadata.
+// Three nodes are dirty then: the changed byte's, its table's and the root.
 const A_CHANGE_WITH_TOO_FEW_WORDS: &str = "create 0 a.pf\n\
      size 0 396289\n\
      close 0\n\
